@@ -1,0 +1,101 @@
+-- The abstract timetable: stations, trips and their stops. All later work speaks of this, never of words or bytes.
+-- Document 01: "Station: `S,station,change minutes,change penalty`", "Stop: `T,trip,stop,station,arrive,depart,ride
+-- penalty`". Stations, trips and the stops of a trip are numbered from 1, by their places in the lists. Penalties are
+-- counted in points. A field that is empty in the text is 0 here: arrive at a trip's first stop, depart and points at
+-- its last.
+use mathlib.Core.Bool.{Bool, true, false, not, _&&_}
+use mathlib.Core.List.{List, [], _∷_, _++_}
+use Prim.Native.Nat.{ℕ, zero, suc, _+_, _-_}
+use lib.Dec.{leb, ltb, eqb}
+use lib.ListN.{length}
+
+pub record Station : Type 0 where
+  -- change minutes
+  pub minutes : ℕ
+  -- change penalty
+  pub points : ℕ
+
+pub record Stop : Type 0 where
+  pub station : ℕ
+  pub arrive : ℕ
+  pub depart : ℕ
+  -- ride penalty of the ride to the next stop
+  pub points : ℕ
+
+abbrev pub Trip : Type 0
+Trip = List Stop
+
+pub record Timetable : Type 0 where
+  pub stations : List Station
+  pub trips : List Trip
+
+-- "At most 64 stations, 256 trips, 2,048 stops in all"
+abbrev pub stationsMost : ℕ
+stationsMost = 64
+
+abbrev pub tripsMost : ℕ
+tripsMost = 256
+
+abbrev pub stopsMost : ℕ
+stopsMost = 2048
+
+-- "times 0 to 2,879 (minutes from midnight, two days)"
+abbrev pub lastMinute : ℕ
+lastMinute = 2879
+
+-- all stops, trip by trip
+abbrev pub stopsOf : List Trip → List Stop
+stopsOf [] = []
+stopsOf (t ∷ l) = t ++ stopsOf l
+
+-- "change minutes 0 to 240, change penalty 1 to 1,000"
+unfoldable pub validStation : Station → Bool
+validStation s = leb (s .minutes) 240 && leb 1 (s .points) && leb (s .points) 1000
+
+-- the stop's station is listed, of n stations
+unfoldable pub listed : ℕ → Stop → Bool
+listed n s = leb 1 (s .station) && leb (s .station) n
+
+-- a stop that the trip leaves again: "times 0 to 2,879", "ride penalty 0 to 100"
+unfoldable pub leaves : Stop → Bool
+leaves s = leb (s .depart) lastMinute && leb (s .points) 100
+
+-- a stop that ends its trip: depart and ride penalty are empty
+unfoldable pub ends : Stop → Bool
+ends s = eqb (s .depart) 0 && eqb (s .points) 0
+
+-- stop s comes after stop b: "station listed, unlike the stop before, arrival after the previous departure"
+unfoldable pub follows : ℕ → Stop → Stop → Bool
+follows n b s =
+    listed n s && not (eqb (s .station) (b .station)) && ltb (b .depart) (s .arrive) && leb (s .arrive) lastMinute
+
+-- the stops after stop b, to the trip's end: "departure not before arrival"
+unfoldable pub runs : ℕ → Stop → List Stop → Bool
+runs n b [] = false
+runs n b (s ∷ []) = follows n b s && ends s
+runs n b (s ∷ u ∷ l) = follows n b s && leb (s .arrive) (s .depart) && leaves s && runs n s (u ∷ l)
+
+-- a trip of a timetable of n stations: "Arrive is empty exactly at stop 1", depart "never at stop 1"
+unfoldable pub validTrip : ℕ → Trip → Bool
+validTrip n [] = false
+validTrip n (b ∷ l) = listed n b && eqb (b .arrive) 0 && leaves b && runs n b l
+
+unfoldable pub validStations : List Station → Bool
+validStations [] = true
+validStations (s ∷ l) = validStation s && validStations l
+
+unfoldable pub validTrips : ℕ → List Trip → Bool
+validTrips n [] = true
+validTrips n (t ∷ l) = validTrip n t && validTrips n l
+
+-- within the three counts, and at least one station
+unfoldable pub counted : Timetable → Bool
+counted t =
+    leb 1 (length (t .stations))
+    && leb (length (t .stations)) stationsMost
+    && leb (length (t .trips)) tripsMost
+    && leb (length (stopsOf (t .trips))) stopsMost
+
+-- A timetable that some accepted text leads to.
+unfoldable pub valid : Timetable → Bool
+valid t = counted t && validStations (t .stations) && validTrips (length (t .stations)) (t .trips)

@@ -1,0 +1,1 @@
+// The abstract timetable, its words and question 9.
