@@ -1,0 +1,17 @@
+-- Two ways out: stop 1, and the others.
+use borrow.Author.Tests.{le-leb, lt-leb, eq-eqb, ne-eqb}
+use borrow.Author.Needs.{needs}
+use Rattle.text.specs.Shape.{arriveFits}
+use Rattle.text.proofs.arrive_fits.Statement.{statement}
+use Rattle.text.proofs.arrive_fits.Tie as tie
+
+first : tie.Need-returns
+unfolding arriveFits
+first c = simp (c .if1 .taken)
+
+later : tie.Need-returns-2
+unfolding arriveFits
+later c = simp (ne-eqb _ _ (c .if1 .left))
+
+pub arrive-fits-spec : {M : Type 1} → statement M
+arrive-fits-spec = tie.close (tie.spec first later)

@@ -1,0 +1,4 @@
+pub mod Piece
+pub mod Number
+pub mod Shape
+pub mod Range

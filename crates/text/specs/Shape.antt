@@ -1,0 +1,120 @@
+-- The two shapes of a line.
+use mathlib.Core.Path.{_≡_, refl, sym, ap, _∙_}
+use mathlib.Core.Bool.{Bool, true, false, not, cond, _&&_, _||_}
+use mathlib.Core.List.{List, [], _∷_}
+use Prim.Native.Nat.{ℕ, suc, _+_, _-_, _*_, _≤_, _<_}
+use lib.Dec.{leb, ltb, eqb}
+use native.Mathlib.Omega.{arith}
+use borrow.Author.Tests.{le-leb, lt-leb, eq-eqb, ne-eqb, not-true, not-false}
+use lib.ListN.{length, getD, drop}
+use Rattle.text.specs.Number.{emptyField, isNumber, fieldValues}
+use Rattle.text.specs.declared.Line.{Line}
+use Rattle.text.specs.declared.Line.the-variants.{Station, Stop, Shapeless}
+
+-- "Station: `S,station,change minutes,change penalty`", from the values behind the S
+unfoldable pub stationOf : (number minutes points : ℕ) → Line
+stationOf number minutes points =
+    cond (isNumber number && isNumber minutes && isNumber points)
+    (Station (record { number = number; minutes = minutes; points = points }))
+    Shapeless
+
+unfoldable pub stationShape : List ℕ → Line
+stationShape v = cond (eqb (length v) 3) (stationOf (getD v 0 0) (getD v 1 0) (getD v 2 0)) Shapeless
+
+-- "Arrive is empty exactly at stop 1."
+unfoldable pub arriveFits : (stop arrive : ℕ) → Bool
+arriveFits stop arrive = cond (eqb stop 1) (eqb arrive emptyField) (isNumber arrive)
+
+-- "Depart and ride penalty are empty together, only at a trip's last stop and never at stop 1."
+unfoldable pub departFits : (stop depart points : ℕ) → Bool
+departFits stop depart points =
+    cond (eqb depart emptyField) (not (eqb stop 1) && eqb points emptyField) (isNumber depart && isNumber points)
+
+-- an empty field is 0
+unfoldable pub filled : ℕ → ℕ
+filled v = cond (eqb v emptyField) 0 v
+
+-- "Stop: `T,trip,stop,station,arrive,depart,ride penalty`", from the values behind the T
+unfoldable pub stopOf : (trip stop station arrive depart points : ℕ) → Line
+stopOf trip stop station arrive depart points =
+    cond (isNumber trip
+        && isNumber stop
+        && isNumber station
+        && arriveFits stop arrive
+        && departFits stop depart points)
+    (Stop (record {
+        trip = trip;
+        stop = stop;
+        station = station;
+        arrive = filled arrive;
+        depart = filled depart;
+        points = filled points;
+        last = eqb depart emptyField
+    }))
+    Shapeless
+
+unfoldable pub stopShape : List ℕ → Line
+stopShape v =
+    cond (eqb (length v) 6)
+    (stopOf (getD v 0 0) (getD v 1 0) (getD v 2 0) (getD v 3 0) (getD v 4 0) (getD v 5 0))
+    Shapeless
+
+-- "Is it of a shape above?" A line begins with S (byte 83) or T (byte 84) and a comma (byte 44).
+unfoldable pub shapeOf : List ℕ → Line
+shapeOf line =
+    cond (eqb (getD line 1 0) 44)
+    (cond (eqb (getD line 0 0) 83) (stationShape (fieldValues (drop 2 line)))
+    (cond (eqb (getD line 0 0) 84) (stopShape (fieldValues (drop 2 line))) Shapeless))
+    Shapeless
+
+-- ---- the ways in which six values make no stop line, and the one in which they do
+module _ (trip stop station arrive depart points : ℕ) where
+  pub trip-shapeless : 9999 < trip → Shapeless ≡ stopOf trip stop station arrive depart points
+  unfolding stopOf
+  trip-shapeless h = simp (lt-leb trip 9999 h)
+
+  pub stop-shapeless : trip ≤ 9999 → 9999 < stop → Shapeless ≡ stopOf trip stop station arrive depart points
+  unfolding stopOf
+  stop-shapeless t h = simp (le-leb trip 9999 t, lt-leb stop 9999 h)
+
+  module _ (t : trip ≤ 9999) (k : stop ≤ 9999) where
+    pub station-shapeless : 9999 < station → Shapeless ≡ stopOf trip stop station arrive depart points
+    unfolding stopOf
+    station-shapeless h = simp (le-leb trip 9999 t, le-leb stop 9999 k, lt-leb station 9999 h)
+
+    module _ (s : station ≤ 9999) (fits : Bool) (f : fits ≡ arriveFits stop arrive) where
+      pub arrive-shapeless : not fits ≡ true → Shapeless ≡ stopOf trip stop station arrive depart points
+      unfolding stopOf
+      arrive-shapeless h =
+          simp (le-leb trip 9999 t, le-leb stop 9999 k, le-leb station 9999 s, ← f, not-true fits h)
+
+      module _ (a : not fits ≡ false) (goes : Bool) (g : goes ≡ departFits stop depart points) where
+        pub depart-shapeless : not goes ≡ true → Shapeless ≡ stopOf trip stop station arrive depart points
+        unfolding stopOf
+        depart-shapeless h =
+            simp (le-leb trip 9999 t, le-leb stop 9999 k, le-leb station 9999 s, ← f, not-false fits a, ← g, not-true goes h)
+
+        pub stop-shaped : not goes ≡ false → (x y z : ℕ) → x ≡ filled arrive → y ≡ filled depart → z ≡ filled points
+            → Stop (record {
+                trip = trip;
+                stop = stop;
+                station = station;
+                arrive = x;
+                depart = y;
+                points = z;
+                last = eqb depart 10000
+            }) ≡ stopOf trip stop station arrive depart points
+        unfolding stopOf
+        stop-shaped h x y z p q r =
+            simp (
+                le-leb trip 9999 t,
+                le-leb stop 9999 k,
+                le-leb station 9999 s,
+                ← f,
+                not-false fits a,
+                ← g,
+                not-false goes h,
+                p,
+                q,
+                r
+            )

@@ -1,0 +1,289 @@
+// What a timetable text says, line by line: pieces, numbers, the two shapes of a line, and the value ranges.
+ghost use mathlib.Core.Path.{_≡_};
+ghost use Prim.Native.Nat.{ℕ, _+_, _≤_, _<_, min};
+ghost use mathlib.Core.List.{map};
+ghost use lib.ListN.{length, take, drop};
+ghost use Rattle.words.specs.Put.{put};
+ghost use Rattle.text.specs.Piece.{pieceLength};
+ghost use Rattle.text.specs.Number.{digitValue, fieldValue, fieldValues};
+ghost use Rattle.text.specs.Shape.{stationOf, stopOf, arriveFits, departFits, filled, shapeOf};
+ghost use Rattle.text.specs.Range.{rangeNumber};
+
+const COMMA: u8 = 44;
+
+const ZERO: u8 = 48;
+
+const NINE: u8 = 57;
+
+const STATION: u8 = 83;
+
+const STOP: u8 = 84;
+
+// The value of an empty field and of a field that is no number: both above every number.
+pub const EMPTY: u32 = 10000;
+
+pub const NO_NUMBER: u32 = 10001;
+
+const NUMBER_MOST: u32 = 9999;
+
+// The fields of the longest line and one more, which shows a line that is too long.
+const FIELDS_MOST: usize = 7;
+
+// The kinds of fields that have a value range.
+pub const CHANGE_MINUTES: u8 = 1;
+
+pub const CHANGE_PENALTY: u8 = 2;
+
+pub const TIME: u8 = 3;
+
+pub const RIDE_PENALTY: u8 = 4;
+
+// A line `S,station,change minutes,change penalty`.
+pub struct StationLine {
+    pub number: u32,
+    pub minutes: u32,
+    pub points: u32,
+}
+
+// A line `T,trip,stop,station,arrive,depart,ride penalty`; an empty field is 0, and last says that depart is empty.
+pub struct StopLine {
+    pub trip: u32,
+    pub stop: u32,
+    pub station: u32,
+    pub arrive: u32,
+    pub depart: u32,
+    pub points: u32,
+    pub last: bool,
+}
+
+pub enum Line {
+    Station(StationLine),
+    Stop(StopLine),
+    Shapeless,
+}
+
+// The index of the first byte mark at or after index from, or the length where there is none.
+pub fn piece_end(s: &[u8], mark: u8, from: usize) -> usize
+    requires { ⌜ from ≤ length (now s) ⌝ }
+    ensures {
+        λ r. ⌜ (r ≡ from + pieceLength mark (drop from (now (s .entry)))) × (from ≤ r) × (r ≤ length (now (s .entry))) ⌝
+    }
+{
+    let mut i = from;
+    loop {
+        if i == s.len() {
+            break i;
+        }
+        if s[i] == mark {
+            break i;
+        }
+        i += 1;
+    }
+}
+
+// The value of a decimal digit, and 10 for any other byte.
+fn digit_value(b: u8) -> u32
+    ensures { λ r. ⌜ r ≡ digitValue b ⌝ }
+{
+    if b < ZERO {
+        return 10;
+    }
+    if NINE < b {
+        return 10;
+    }
+    (b - ZERO) as u32
+}
+
+// The number that a field holds, or EMPTY, or NO_NUMBER.
+pub fn field_value(field: &[u8]) -> u32
+    ensures { λ r. ⌜ r ≡ fieldValue (now (field .entry)) ⌝ }
+{
+    let n = field.len();
+    if n == 0 {
+        return EMPTY;
+    }
+    if 4 < n {
+        return NO_NUMBER;
+    }
+    if field[0] == ZERO {
+        if n == 1 {
+            return 0;
+        }
+        return NO_NUMBER;
+    }
+    let mut value = 0;
+    let mut i = 0;
+    while i < n {
+        let d = digit_value(field[i]);
+        if 10 <= d {
+            return NO_NUMBER;
+        }
+        value = value * 10 + d;
+        i += 1;
+    }
+    value
+}
+
+// Writes the values of the first seven fields of s, and answers how many it wrote.
+fn field_values(s: &[u8], values: &mut [u32]) -> usize
+    requires { ⌜ length (now values) ≡ 7 ⌝ }
+    ensures {
+        λ r. ⌜ (r ≡ min 7 (length (fieldValues (now (s .entry)))))
+            × (now (values .exit) ≡ put 0 (take 7 (fieldValues (now (s .entry)))) (now (values .entry))) ⌝
+    }
+{
+    let n = s.len();
+    let mut from = 0;
+    let mut k = 0;
+    loop {
+        let end = piece_end(s, COMMA, from);
+        values[k] = field_value(&s[from..end]);
+        k += 1;
+        if k == FIELDS_MOST {
+            return k;
+        }
+        if end == n {
+            return k;
+        }
+        from = end + 1;
+    }
+}
+
+// The station line of three values.
+fn station_line(number: u32, minutes: u32, points: u32) -> Line
+    ensures { λ r. ⌜ r ≡ stationOf number minutes points ⌝ }
+{
+    if NUMBER_MOST < number {
+        return Line::Shapeless;
+    }
+    if NUMBER_MOST < minutes {
+        return Line::Shapeless;
+    }
+    if NUMBER_MOST < points {
+        return Line::Shapeless;
+    }
+    Line::Station(StationLine {
+        number,
+        minutes,
+        points,
+    })
+}
+
+// Arrive is empty exactly at stop 1.
+fn arrive_fits(stop: u32, arrive: u32) -> bool
+    ensures { λ r. ⌜ r ≡ arriveFits stop arrive ⌝ }
+{
+    if stop == 1 {
+        return arrive == EMPTY;
+    }
+    arrive <= NUMBER_MOST
+}
+
+// Depart and ride penalty are empty together, and never at stop 1.
+fn depart_fits(stop: u32, depart: u32, points: u32) -> bool
+    ensures { λ r. ⌜ r ≡ departFits stop depart points ⌝ }
+{
+    if depart == EMPTY {
+        if stop == 1 {
+            return false;
+        }
+        return points == EMPTY;
+    }
+    if NUMBER_MOST < depart {
+        return false;
+    }
+    points <= NUMBER_MOST
+}
+
+// A field's number, 0 where the field is empty.
+fn fill(value: u32) -> u32
+    ensures { λ r. ⌜ r ≡ filled value ⌝ }
+{
+    if value == EMPTY {
+        return 0;
+    }
+    value
+}
+
+// The stop line of six values.
+fn stop_line(trip: u32, stop: u32, station: u32, arrive: u32, depart: u32, points: u32) -> Line
+    ensures { λ r. ⌜ r ≡ stopOf trip stop station arrive depart points ⌝ }
+{
+    if NUMBER_MOST < trip {
+        return Line::Shapeless;
+    }
+    if NUMBER_MOST < stop {
+        return Line::Shapeless;
+    }
+    if NUMBER_MOST < station {
+        return Line::Shapeless;
+    }
+    if !arrive_fits(stop, arrive) {
+        return Line::Shapeless;
+    }
+    if !depart_fits(stop, depart, points) {
+        return Line::Shapeless;
+    }
+    Line::Stop(StopLine {
+        trip,
+        stop,
+        station,
+        arrive: fill(arrive),
+        depart: fill(depart),
+        points: fill(points),
+        last: depart == EMPTY,
+    })
+}
+
+// The shape of a line, without its line end.
+pub fn shape(line: &[u8]) -> Line
+    ensures { λ r. ⌜ r ≡ shapeOf (now (line .entry)) ⌝ }
+{
+    let n = line.len();
+    if n < 2 {
+        return Line::Shapeless;
+    }
+    if line[1] != COMMA {
+        return Line::Shapeless;
+    }
+    let mut values = [0u32; 7];
+    let count = field_values(&line[2..n], &mut values);
+    if line[0] == STATION {
+        if count != 3 {
+            return Line::Shapeless;
+        }
+        return station_line(values[0], values[1], values[2]);
+    }
+    if line[0] == STOP {
+        if count != 6 {
+            return Line::Shapeless;
+        }
+        return stop_line(values[0], values[1], values[2], values[3], values[4], values[5]);
+    }
+    Line::Shapeless
+}
+
+// 0 where a value is in the range of its kind of field, else the refusal's number.
+pub fn range_number(kind: u8, value: u32) -> u32
+    ensures { λ r. ⌜ r ≡ rangeNumber kind value ⌝ }
+{
+    match kind {
+        CHANGE_MINUTES => match value {
+            0..=240 => 0,
+            _ => 3,
+        },
+        CHANGE_PENALTY => match value {
+            1..=1000 => 0,
+            _ => 3,
+        },
+        TIME => match value {
+            0..=2879 => 0,
+            _ => 3,
+        },
+        RIDE_PENALTY => match value {
+            0..=100 => 0,
+            _ => 3,
+        },
+        _ => 0,
+    }
+}

@@ -1,0 +1,81 @@
+-- Words put into a lent slice. "Words past a result keep their values": so do the words before it.
+-- All of this speaks of lists of numbers, and so of words of any width.
+use mathlib.Core.Path.{_≡_, refl, sym, ap, _∙_}
+use mathlib.Core.List.{List, [], _∷_, _++_, append-assoc, append-nil}
+use Prim.Native.Nat.{ℕ, zero, suc, _+_, _≤_, _<_}
+use native.Mathlib.Nat.{add-zero, zero-add}
+use native.Mathlib.Numerals.{add-one}
+use native.Mathlib.Omega.{arith}
+use lib.ListN.{length, take, drop, set, getD, length-append, length-take, length-drop, take-append-drop, List·getD-append}
+use lib.Seq.{drop-cons, set-at, take-suc, take-length, take-at, drop-at, drop-drop, length-take-le}
+
+-- `old` with `ws` in the place of the words from `at` on
+unfoldable pub put : ℕ → List ℕ → List ℕ → List ℕ
+put at ws old = take at old ++ ws ++ drop (at + length ws) old
+
+pub length-put : (at : ℕ) (ws old : List ℕ) → at + length ws ≤ length old → length (put at ws old) ≡ length old
+unfolding put
+length-put at ws old h = simp (length-append, length-take, length-drop) (omega arith)
+
+pub put-none : (at : ℕ) (old : List ℕ) → put at [] old ≡ old
+unfolding put
+put-none at old = simp (add-zero, append-nil, take-append-drop)
+
+-- one store more, just past what was put
+pub put-more : (at n : ℕ) (ws old : List ℕ) (w : ℕ) → length ws ≡ n → at + n < length old
+    → set (put at ws old) (at + n) w ≡ put at (ws ++ (w ∷ [])) old
+unfolding put
+put-more at n ws old w e h =
+    let long : length (take at old ++ ws) ≡ at + n = simp (length-append, length-take) (omega arith) in
+    let past : at + length (ws ++ (w ∷ [])) ≡ suc (at + n) = simp length-append (omega arith) in
+    rw (
+        e,
+        drop-cons old (at + n) 0 h,
+        set-at _ _ _ w (at + n) long,
+        past,
+        ← append-assoc,
+        append-assoc _ (w ∷ []) _
+    )
+
+pub put-next : (n : ℕ) (ws old : List ℕ) (w : ℕ) → length ws ≡ n → n < length old
+    → set (put 0 ws old) n w ≡ put 0 (ws ++ (w ∷ [])) old
+put-next n ws old w e h = rw zero-add at (put-more 0 n ws old w e (omega arith))
+
+-- more words, just past what was put
+pub put-append : (at n : ℕ) (a b old : List ℕ) → length a ≡ n → at + n ≤ length old
+    → put (at + n) b (put at a old) ≡ put at (a ++ b) old
+unfolding put
+put-append at n a b old e h =
+    let long : length (take at old ++ a) ≡ at + n = simp (length-append, length-take) (omega arith) in
+    let past : at + length (a ++ b) ≡ at + n + length b = simp length-append (omega arith) in
+    rw (
+        e,
+        take-at (take at old ++ a) (drop (at + n) old) (at + n) long,
+        ← drop-drop (length b) (at + n) (take at old ++ a ++ drop (at + n) old),
+        drop-at (take at old ++ a) (drop (at + n) old) (at + n) long,
+        drop-drop (length b) (at + n) old,
+        past,
+        append-assoc (take at old) a b
+    )
+
+-- a turn of a loop that copies src
+pub copy-more : (at j : ℕ) (src old dst : List ℕ) → dst ≡ put at (take j src) old → j < length src
+    → at + length src ≤ length old → set dst (at + j) (getD src j 0) ≡ put at (take (j + 1) src) old
+copy-more at j src old dst e h g =
+    rw (e, add-one j, take-suc src j 0 h)
+    (put-more at j (take j src) old (getD src j 0) (length-take-le j src (omega arith)) (omega arith))
+
+pub copied : (at j : ℕ) (src old dst : List ℕ) → dst ≡ put at (take j src) old → j ≤ length src → length src ≤ j
+    → dst ≡ put at src old
+copied at j src old dst e h g =
+    let whole : j ≡ length src = omega arith in
+    rw (e, whole, take-length)
+
+-- what was put can be read again
+pub take-put : (ws old : List ℕ) → take (length ws) (put 0 ws old) ≡ ws
+unfolding put
+take-put ws old = take-at ws (drop (0 + length ws) old) (length ws) refl
+
+pub getD-put : (ws old : List ℕ) (i : ℕ) → i < length ws → getD (put 0 ws old) i 0 ≡ getD ws i 0
+unfolding put
+getD-put ws old i h = List·getD-append ws (drop (0 + length ws) old) 0 i h
