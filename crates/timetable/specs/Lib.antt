@@ -1,1 +1,2 @@
 pub mod Timetable
+pub mod Words

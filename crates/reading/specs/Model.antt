@@ -1,0 +1,94 @@
+-- How the code reads: it keeps the progress, and the words of stations and stops in one array, where trips begin in
+-- another. No reader of the promise needs this file; proofs/ shows that it comes to the same as Reading.
+use mathlib.Core.Path.{_≡_}
+use mathlib.Core.Bool.{Bool, true, false, cond}
+use mathlib.Core.List.{List, [], _∷_, _++_}
+use Prim.Native.Nat.{ℕ, zero, suc, _+_, _*_, _≤_}
+use lib.Dec.{eqb}
+use lib.ListN.{length, set}
+use Rattle.words.specs.Put.{put}
+use Rattle.text.specs.declared.Line.{Line}
+use Rattle.text.specs.declared.Line.the-variants.{Station as StationIn, Stop as StopIn, Shapeless}
+use Rattle.timetable.specs.Timetable.{Timetable, stopsOf}
+use Rattle.timetable.specs.Words.{stationWords, stopWords, startWords}
+use Rattle.reading.specs.Draft.{Draft, progress, lineNumber}
+use Rattle.reading.specs.Reading.{Outcome, Accepted, Refused}
+use Rattle.reading.specs.declared.Progress.{Progress}
+use Rattle.reading.specs.declared.Next.{Next}
+use Rattle.reading.specs.declared.Next.the-variants.{On, Refused as NextRefused}
+use Rattle.reading.specs.declared.Lines.{Lines}
+use Rattle.reading.specs.declared.Lines.the-variants.{Accepted as LinesAccepted, Refused as LinesRefused}
+
+-- within the limits, so that no sum wraps and every index is in range
+pub record Within (p : Progress) : Type 0 where
+  pub stations : p .stations ≤ 64
+  pub trips : p .trips ≤ 256
+  pub stops : p .stops ≤ 2048
+  pub begun : p .begun ≤ p .stops
+
+-- the progress after a line that has its yes
+abbrev pub advance : Progress → Line → Progress
+advance p (StationIn l) =
+    record {
+        stations = p .stations + 1;
+        trips = p .trips;
+        stops = p .stops;
+        begun = p .begun;
+        station = p .station;
+        depart = p .depart
+    }
+advance p (StopIn l) =
+    cond (l .last)
+    (record {
+        stations = p .stations;
+        trips = p .trips + 1;
+        stops = p .stops + 1;
+        begun = 0;
+        station = 0;
+        depart = 0
+    })
+    (record {
+        stations = p .stations;
+        trips = p .trips;
+        stops = p .stops + 1;
+        begun = p .begun + 1;
+        station = l .station;
+        depart = l .depart
+    })
+advance p Shapeless = p
+
+unfoldable pub nextOf : Progress → Line → Next
+nextOf p line = cond (eqb (lineNumber p line) 0) (On (advance p line)) (NextRefused (lineNumber p line))
+
+-- the words that a line adds to those of stations and stops
+abbrev pub lineWords : Line → List ℕ
+lineWords (StationIn l) = l .minutes ∷ l .points ∷ []
+lineWords (StopIn l) = l .station ∷ l .arrive ∷ l .depart ∷ l .points ∷ []
+lineWords Shapeless = []
+
+-- the array of stations' and stops' words after a line
+unfoldable pub bodyAfter : Progress → Line → List ℕ → List ℕ
+bodyAfter p line old =
+    cond (eqb (lineNumber p line) 0) (put (2 * p .stations + 4 * p .stops) (lineWords line) old) old
+
+-- the array of starts after an accepted line: a trip's last stop says where the next trip begins
+abbrev pub startsWith : Progress → Line → List ℕ → List ℕ
+startsWith p (StationIn l) old = old
+startsWith p (StopIn l) old = cond (l .last) (set old (p .trips + 1) (p .stops + 1)) old
+startsWith p Shapeless old = old
+
+unfoldable pub startsAfter : Progress → Line → List ℕ → List ℕ
+startsAfter p line old = cond (eqb (lineNumber p line) 0) (startsWith p line old) old
+
+-- the words of stations and stops of a timetable
+abbrev pub bodyWords : Timetable → List ℕ
+bodyWords t = stationWords (t .stations) ++ stopWords (stopsOf (t .trips))
+
+abbrev pub progressOf : Timetable → Progress
+progressOf t = progress (record { stations = t .stations; trips = t .trips; begun = [] })
+
+-- what reading all lines has to answer and to leave in the two arrays
+abbrev pub LinesRead : Outcome → Lines → (body starts body₀ starts₀ : List ℕ) → Type 0
+LinesRead (Accepted t n) r body starts body₀ starts₀ =
+    (r ≡ LinesAccepted (progressOf t) n) × (body ≡ put 0 (bodyWords t) body₀) × (starts ≡ put 0 (startWords 0 (t .trips)) starts₀)
+LinesRead (Refused k l) r body starts body₀ starts₀ = r ≡ LinesRefused k l

@@ -1,0 +1,81 @@
+-- What a timetable text means: a timetable and its count of lines, or the refusal's number and line.
+use mathlib.Core.Bool.{Bool, true, false, cond, _&&_}
+use mathlib.Core.List.{List, [], _∷_}
+use Prim.Native.Nat.{ℕ, zero, suc, _+_, _-_}
+use lib.Dec.{leb, ltb, eqb}
+use lib.ListN.{length}
+use Rattle.words.specs.Put.{put}
+use Rattle.text.specs.Piece.{pieces}
+use Rattle.text.specs.Shape.{shapeOf}
+use Rattle.timetable.specs.Timetable.{Timetable}
+use Rattle.timetable.specs.Words.{words}
+use Rattle.reading.specs.Draft.{Draft, blank, progress, lineNumber, withLine}
+use Rattle.reading.specs.declared.Reply.{Reply}
+use Rattle.reading.specs.declared.Reply.the-variants.{Done as ReplyDone, Refused as ReplyRefused}
+
+pub data Outcome : Type 0 where
+  Accepted : Timetable → (lines : ℕ) → Outcome
+  Refused : (number line : ℕ) → Outcome
+
+-- "After all: a station listed, and the last trip, if there is one, ended? 7", at lines plus one
+unfoldable pub ended : Draft → (line : ℕ) → Outcome
+ended d line =
+    cond (leb 1 (length (d .stations)) && eqb (length (d .begun)) 0)
+    (Accepted (record { stations = d .stations; trips = d .trips }) (line - 1))
+    (Refused 7 line)
+
+-- the lines given, the first of which has this number; what stands last ends with no byte 10: "bytes after the last 10
+-- are a line of no shape"
+unfoldable pub readFrom : Draft → (line : ℕ) → List (List ℕ) → Outcome
+readFrom d line [] = ended d line
+readFrom d line (s ∷ []) = cond (eqb (length s) 0) (ended d line) (Refused 2 line)
+readFrom d line (s ∷ u ∷ l) =
+    let rest = readFrom (withLine d (shapeOf s)) (line + 1) (u ∷ l) in
+    cond (eqb (lineNumber (progress d) (shapeOf s)) 0) rest (Refused (lineNumber (progress d) (shapeOf s)) line)
+
+-- "at most .. 65,536 bytes"
+abbrev pub textMost : ℕ
+textMost = 65536
+
+unfoldable pub readLines : List ℕ → Outcome
+readLines text = readFrom blank 1 (pieces 10 text)
+
+-- "Reading: at most 65,536 bytes? 1. Then for each line: .."; "for 1 to 7 also the line (0 for 1, ..)"
+unfoldable pub reading : List ℕ → Outcome
+reading text = cond (leb (length text) textMost) (readLines text) (Refused 1 0)
+
+-- ---- the public call
+-- "timetable and line tables 16,384 16-bit words each"
+abbrev pub slicesLeast : ℕ
+slicesLeast = 16384
+
+abbrev pub replyTo : Outcome → Reply
+replyTo (Accepted t lines) = ReplyDone lines
+replyTo (Refused number line) = ReplyRefused number line
+
+-- the reply, with a slice of n words: "Are the slices long enough ..? 8", which has no line
+unfoldable pub readReply : List ℕ → ℕ → Reply
+readReply text n = cond (leb slicesLeast n) (replyTo (reading text)) (ReplyRefused 8 0)
+
+-- "A refusal .. writes no word of any result slice. Words past a result keep their values"
+abbrev pub written : Outcome → List ℕ → List ℕ
+written (Accepted t lines) old = put 0 (words t) old
+written (Refused number line) old = old
+
+-- the words of the slice after the call
+unfoldable pub readWords : List ℕ → List ℕ → List ℕ
+readWords text old = cond (leb slicesLeast (length old)) (written (reading text) old) old
+
+-- each case of the reply has its number, line and count: "A refusal returns its number, for 1 to 7 also the line ..,
+-- count 0"; "reading returns the text's lines"
+abbrev pub numberOf : Reply → ℕ
+numberOf (ReplyDone lines) = 0
+numberOf (ReplyRefused number line) = number
+
+abbrev pub lineOf : Reply → ℕ
+lineOf (ReplyDone lines) = 0
+lineOf (ReplyRefused number line) = line
+
+abbrev pub countOf : Reply → ℕ
+countOf (ReplyDone lines) = lines
+countOf (ReplyRefused number line) = 0

@@ -1,0 +1,88 @@
+-- The words of a timetable (docs/LAYOUT.md): S, T, N; change minutes and penalty of each station; station, arrive,
+-- depart and ride penalty of each stop, trip by trip; the place of each trip's first stop among all stops, and N.
+use mathlib.Core.Bool.{Bool, true, false, cond, _&&_}
+use mathlib.Core.List.{List, [], _∷_, _++_, map}
+use Prim.Native.Nat.{ℕ, zero, suc, _+_, _-_, _*_}
+use lib.Dec.{leb, ltb, eqb}
+use lib.ListN.{length, getD}
+use Rattle.timetable.specs.Timetable.{Station, Stop, Trip, Timetable, stopsOf, valid}
+
+unfoldable pub stationWords : List Station → List ℕ
+stationWords [] = []
+stationWords (s ∷ l) = s .minutes ∷ s .points ∷ stationWords l
+
+unfoldable pub stopWords : List Stop → List ℕ
+stopWords [] = []
+stopWords (s ∷ l) = s .station ∷ s .arrive ∷ s .depart ∷ s .points ∷ stopWords l
+
+-- where each trip begins, k stops standing before the first, and where the last ends
+unfoldable pub startWords : ℕ → List Trip → List ℕ
+startWords k [] = k ∷ []
+startWords k (t ∷ l) = k ∷ startWords (k + length t) l
+
+unfoldable pub words : Timetable → List ℕ
+words t =
+    length (t .stations)
+    ∷ length (t .trips)
+    ∷ length (stopsOf (t .trips))
+    ∷ (stationWords (t .stations) ++ stopWords (stopsOf (t .trips)) ++ startWords 0 (t .trips))
+
+-- ---- the timetable that words spell
+-- the numbers from k on, n of them
+abbrev pub numbersFrom : ℕ → ℕ → List ℕ
+numbersFrom k zero = []
+numbersFrom k (suc n) = k ∷ numbersFrom (suc k) n
+
+abbrev pub stationCount : List ℕ → ℕ
+stationCount w = getD w 0 0
+
+abbrev pub tripCount : List ℕ → ℕ
+tripCount w = getD w 1 0
+
+abbrev pub stopCount : List ℕ → ℕ
+stopCount w = getD w 2 0
+
+-- station i, counted from 0
+unfoldable pub stationAt : List ℕ → ℕ → Station
+stationAt w i = record { minutes = getD w (3 + 2 * i) 0; points = getD w (3 + 2 * i + 1) 0 }
+
+-- where stop i's words begin, counted from 0 over all trips
+abbrev pub stopPlace : List ℕ → ℕ → ℕ
+stopPlace w i = 3 + 2 * stationCount w + 4 * i
+
+unfoldable pub stopAt : List ℕ → ℕ → Stop
+stopAt w i =
+    record {
+        station = getD w (stopPlace w i) 0;
+        arrive = getD w (stopPlace w i + 1) 0;
+        depart = getD w (stopPlace w i + 2) 0;
+        points = getD w (stopPlace w i + 3) 0
+    }
+
+-- the place of trip k's first stop, trips counted from 0
+unfoldable pub startAt : List ℕ → ℕ → ℕ
+startAt w k = getD w (stopPlace w (stopCount w) + k) 0
+
+unfoldable pub tripAt : List ℕ → ℕ → Trip
+tripAt w k = map (stopAt w) (numbersFrom (startAt w k) (startAt w (k + 1) - startAt w k))
+
+unfoldable pub timetableOf : List ℕ → Timetable
+timetableOf w =
+    record {
+        stations = map (stationAt w) (numbersFrom 0 (stationCount w));
+        trips = map (tripAt w) (numbersFrom 0 (tripCount w))
+    }
+
+-- ---- question 9, as it is decided on words
+-- the starts given never fall, behind start a, and end with n
+unfoldable pub rise : ℕ → List ℕ → ℕ → Bool
+rise a [] n = eqb a n
+rise a (b ∷ l) n = leb a b && rise b l n
+
+-- the trips begin at stop 0, each where the one before ends, and the last ends with the last stop
+unfoldable pub chained : List ℕ → Bool
+chained w = eqb (startAt w 0) 0 && rise 0 (map (startAt w) (numbersFrom 1 (tripCount w))) (stopCount w)
+
+-- "Could the timetable words come from an accepted text?" The crate accepted proves that this is so.
+unfoldable pub isTimetable : List ℕ → Bool
+isTimetable w = chained w && valid (timetableOf w)
