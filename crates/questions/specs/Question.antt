@@ -1,9 +1,10 @@
 -- "Questions put to each call, and the number for no: only those that concern the call, in this order; the first no
 -- ends it." "Success has number 0."
 use mathlib.Core.Path.{_≡_, refl}
-use mathlib.Core.Bool.{Bool, true, false, cond}
+use mathlib.Core.Bool.{Bool, true, false, cond, _&&_}
 use mathlib.Core.List.{List, [], _∷_}
-use Prim.Native.Nat.{ℕ}
+use Prim.Native.Nat.{ℕ, suc}
+use native.Mathlib.Omega.{arith}
 
 pub record Question : Type 0 where
   pub number : ℕ
@@ -16,3 +17,22 @@ ask number answer = record { number = number; answer = answer }
 abbrev pub firstNo : List Question → ℕ
 firstNo [] = 0
 firstNo (q ∷ l) = cond (q .answer) (firstNo l) (q .number)
+
+-- ---- where no question has a no, each has its yes
+pub yes-here : (n : ℕ) (t : Bool) (l : List Question) → firstNo (ask (suc n) t ∷ l) ≡ 0 → t ≡ true
+yes-here n true l e = refl
+yes-here n false l e = absurd (omega arith)
+
+pub yes-later : (n : ℕ) (t : Bool) (l : List Question) → firstNo (ask (suc n) t ∷ l) ≡ 0 → firstNo l ≡ 0
+yes-later n true l e = e
+yes-later n false l e = absurd (omega arith)
+
+-- ---- two tests in one question
+pub and-left : (a b : Bool) → (a && b) ≡ true → a ≡ true
+and-left true b e = refl
+and-left false b e = e
+
+pub and-right : (a b : Bool) → (a && b) ≡ true → b ≡ true
+and-right true b e = e
+and-right false true e = refl
+and-right false false e = e

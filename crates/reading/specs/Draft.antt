@@ -41,17 +41,38 @@ progress d =
         depart = (final (d .begun)) .depart
     }
 
--- the questions to a station line: "In range? 3. In place: stations 1, 2, 3.. first .. ? 4. Within the three counts? 5"
+-- ---- the questions to a station line
+-- "In range? 3"
+abbrev pub stationInRange : StationLine → Bool
+stationInRange l = inRange 1 (l .minutes) && inRange 2 (l .points)
+
+-- "In place: stations 1, 2, 3.. first, then trips ..? 4"
+abbrev pub stationInPlace : Progress → StationLine → Bool
+stationInPlace p l = eqb (p .stops) 0 && eqb (l .number) (p .stations + 1)
+
+-- "Within the three counts? 5"
+abbrev pub stationCounted : Progress → Bool
+stationCounted p = ltb (p .stations) stationsMost
+
 unfoldable pub stationNumber : Progress → StationLine → ℕ
 stationNumber p l =
-    firstNo
-    (ask 3 (inRange 1 (l .minutes) && inRange 2 (l .points))
-    ∷ ask 4 (eqb (p .stops) 0 && eqb (l .number) (p .stations + 1))
-    ∷ ask 5 (ltb (p .stations) stationsMost)
-    ∷ [])
+    firstNo (ask 3 (stationInRange l) ∷ ask 4 (stationInPlace p l) ∷ ask 5 (stationCounted p) ∷ [])
+
+-- ---- the questions to a stop line
+-- "In range? 3"
+abbrev pub stopInRange : StopLine → Bool
+stopInRange l = inRange 3 (l .arrive) && inRange 3 (l .depart) && inRange 4 (l .points)
+
+-- "In place: .. then trips 1, 2, 3.., each with stops 1, 2, 3.. and begun only after the last trip's end? 4"
+abbrev pub stopInPlace : Progress → StopLine → Bool
+stopInPlace p l = eqb (l .trip) (p .trips + 1) && eqb (l .stop) (p .begun + 1)
+
+-- "Within the three counts? 5"
+abbrev pub stopCounted : Progress → Bool
+stopCounted p = ltb (p .trips) tripsMost && ltb (p .stops) stopsMost
 
 -- "For stops: station listed, unlike the stop before, arrival after the previous departure, departure not before
--- arrival?" A trip's first stop has no stop before and no arrival; its last stop has no departure.
+-- arrival? 6" A trip's first stop has no stop before and no arrival; its last stop has no departure.
 unfoldable pub stopFits : Progress → StopLine → Bool
 stopFits p l =
     leb 1 (l .station)
@@ -61,17 +82,12 @@ stopFits p l =
         && ltb (p .depart) (l .arrive)
         && (l .last || leb (l .arrive) (l .depart)))
 
--- the questions to a stop line: "In range? 3. In place: .. then trips 1, 2, 3.., each with stops 1, 2, 3.. and begun
--- only after the last trip's end? 4. Within the three counts? 5. For stops: ..? 6"
 unfoldable pub stopNumber : Progress → StopLine → ℕ
 stopNumber p l =
     firstNo
-    (ask 3 (inRange 3 (l .arrive) && inRange 3 (l .depart) && inRange 4 (l .points))
-    ∷ ask 4 (eqb (l .trip) (p .trips + 1) && eqb (l .stop) (p .begun + 1))
-    ∷ ask 5 (ltb (p .trips) tripsMost && ltb (p .stops) stopsMost)
-    ∷ ask 6 (stopFits p l)
-    ∷ [])
+    (ask 3 (stopInRange l) ∷ ask 4 (stopInPlace p l) ∷ ask 5 (stopCounted p) ∷ ask 6 (stopFits p l) ∷ [])
 
+-- ---- the questions to a line
 -- "Then for each line: is it of a shape above? 2", and the questions to its shape; 0 where all have a yes
 abbrev pub lineNumber : Progress → Line → ℕ
 lineNumber p (StationIn l) = stationNumber p l

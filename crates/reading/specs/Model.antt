@@ -1,10 +1,10 @@
 -- How the code reads: it keeps the progress, and the words of stations and stops in one array, where trips begin in
 -- another. No reader of the promise needs this file; proofs/ shows that it comes to the same as Reading.
 use mathlib.Core.Path.{_≡_}
-use mathlib.Core.Bool.{Bool, true, false, cond}
+use mathlib.Core.Bool.{Bool, true, false, cond, _&&_}
 use mathlib.Core.List.{List, [], _∷_, _++_}
-use Prim.Native.Nat.{ℕ, zero, suc, _+_, _*_, _≤_}
-use lib.Dec.{eqb}
+use Prim.Native.Nat.{ℕ, zero, suc, _+_, _-_, _*_, _≤_}
+use lib.Dec.{leb, eqb}
 use lib.ListN.{length, set}
 use Rattle.words.specs.Put.{put}
 use Rattle.text.specs.declared.Line.{Line}
@@ -86,6 +86,11 @@ bodyWords t = stationWords (t .stations) ++ stopWords (stopsOf (t .trips))
 
 abbrev pub progressOf : Timetable → Progress
 progressOf t = progress (record { stations = t .stations; trips = t .trips; begun = [] })
+
+-- question 7
+unfoldable pub endOf : Progress → ℕ → Lines
+endOf p line =
+    cond (leb 1 (p .stations) && eqb (p .begun) 0) (LinesAccepted p (line - 1)) (LinesRefused 7 line)
 
 -- what reading all lines has to answer and to leave in the two arrays
 abbrev pub LinesRead : Outcome → Lines → (body starts body₀ starts₀ : List ℕ) → Type 0

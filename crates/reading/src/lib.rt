@@ -1,4 +1,20 @@
 // Reading a timetable text into the lent words of a timetable: questions 8 and 1 to 7.
+ghost use mathlib.Core.Path.{_≡_};
+ghost use Prim.Native.Nat.{_+_, _*_, _≤_, _<_};
+ghost use mathlib.Core.Bool.{cond};
+ghost use lib.ListN.{length, set};
+ghost use Rattle.words.specs.Put.{put};
+ghost use Rattle.text.specs.Shape.{shapeOf};
+ghost use Rattle.text.specs.declared.Line.the-variants.{Station, Stop};
+ghost use Rattle.reading.specs.Draft.{stationNumber, stopNumber, stopFits};
+ghost use Rattle.reading.specs.Reading.{readLines, readReply, readWords};
+ghost use Rattle.reading.specs.Model.{Within, advance, nextOf, bodyAfter, startsAfter, endOf, LinesRead};
+
+use text::Line;
+use text::StationLine;
+use text::StopLine;
+
+const LINE_END: u8 = 10;
 
 // How far the lines of a text have come: stations, ended trips, stops in all, stops of the begun trip, and the station
 // and departure of the stop before, where a trip has begun.
@@ -25,4 +41,242 @@ pub enum Lines {
 pub enum Reply {
     Done { lines: u32 },
     Refused { number: u32, line: u32 },
+}
+
+// Questions 3 to 5 to a station line: 0, or the number of the first no.
+fn station_number(p: Progress, l: StationLine) -> u32
+    requires { ⌜ Within p ⌝ }
+    ensures { λ r. ⌜ r ≡ stationNumber p l ⌝ }
+{
+    if text::range_number(text::CHANGE_MINUTES, l.minutes) != 0 {
+        return 3;
+    }
+    if text::range_number(text::CHANGE_PENALTY, l.points) != 0 {
+        return 3;
+    }
+    if p.stops != 0 {
+        return 4;
+    }
+    if l.number as usize != p.stations + 1 {
+        return 4;
+    }
+    if 64 <= p.stations {
+        return 5;
+    }
+    0
+}
+
+// Question 6 to a stop line.
+fn stop_fits(p: Progress, l: StopLine) -> bool
+    requires { ⌜ Within p ⌝ }
+    ensures { λ r. ⌜ r ≡ stopFits p l ⌝ }
+{
+    if l.station < 1 {
+        return false;
+    }
+    if p.stations < l.station as usize {
+        return false;
+    }
+    if p.begun == 0 {
+        return true;
+    }
+    if l.station == p.station {
+        return false;
+    }
+    if l.arrive <= p.depart {
+        return false;
+    }
+    if l.last {
+        return true;
+    }
+    l.arrive <= l.depart
+}
+
+// Questions 3 to 6 to a stop line: 0, or the number of the first no.
+fn stop_number(p: Progress, l: StopLine) -> u32
+    requires { ⌜ Within p ⌝ }
+    ensures { λ r. ⌜ r ≡ stopNumber p l ⌝ }
+{
+    if text::range_number(text::TIME, l.arrive) != 0 {
+        return 3;
+    }
+    if text::range_number(text::TIME, l.depart) != 0 {
+        return 3;
+    }
+    if text::range_number(text::RIDE_PENALTY, l.points) != 0 {
+        return 3;
+    }
+    if l.trip as usize != p.trips + 1 {
+        return 4;
+    }
+    if l.stop as usize != p.begun + 1 {
+        return 4;
+    }
+    if 256 <= p.trips {
+        return 5;
+    }
+    if 2048 <= p.stops {
+        return 5;
+    }
+    if stop_fits(p, l) {
+        return 0;
+    }
+    6
+}
+
+// Puts the questions to a station line, and where all have a yes takes its words.
+fn take_station(p: Progress, l: StationLine, body: &mut [u16]) -> Next
+    requires { ⌜ Within p × (length (now body) ≡ 8320) ⌝ }
+    ensures {
+        λ r. ⌜ (r ≡ nextOf p (Station l)) × (now (body .exit) ≡ bodyAfter p (Station l) (now (body .entry))) ⌝
+    }
+{
+    let number = station_number(p, l);
+    if number != 0 {
+        return Next::Refused(number);
+    }
+    words::put_two(body, 2 * p.stations + 4 * p.stops, l.minutes, l.points);
+    Next::On(Progress {
+        stations: p.stations + 1,
+        trips: p.trips,
+        stops: p.stops,
+        begun: p.begun,
+        station: p.station,
+        depart: p.depart,
+    })
+}
+
+// The progress after a stop line.
+fn after_stop(p: Progress, l: StopLine) -> Progress
+    requires { ⌜ Within p ⌝ }
+    ensures { λ r. ⌜ r ≡ advance p (Stop l) ⌝ }
+{
+    if l.last {
+        return Progress {
+            stations: p.stations,
+            trips: p.trips + 1,
+            stops: p.stops + 1,
+            begun: 0,
+            station: 0,
+            depart: 0,
+        };
+    }
+    Progress {
+        stations: p.stations,
+        trips: p.trips,
+        stops: p.stops + 1,
+        begun: p.begun + 1,
+        station: l.station,
+        depart: l.depart,
+    }
+}
+
+// A trip's last stop says where the next trip begins.
+fn mark_start(p: Progress, last: bool, starts: &mut [u16])
+    requires { ⌜ (p .trips < 256) × (p .stops < 2048) × (length (now starts) ≡ 257) ⌝ }
+    ensures {
+        λ _. ⌜ now (starts .exit) ≡ cond last (set (now (starts .entry)) (p .trips + 1) (p .stops + 1)) (now (starts .entry)) ⌝
+    }
+{
+    if last {
+        let next = p.trips + 1;
+        starts[next] = (p.stops + 1) as u16;
+    }
+}
+
+// Puts the questions to a stop line, and where all have a yes takes its words.
+fn take_stop(p: Progress, l: StopLine, body: &mut [u16], starts: &mut [u16]) -> Next
+    requires { ⌜ Within p × (length (now body) ≡ 8320) × (length (now starts) ≡ 257) ⌝ }
+    ensures {
+        λ r. ⌜ (r ≡ nextOf p (Stop l))
+            × (now (body .exit) ≡ bodyAfter p (Stop l) (now (body .entry)))
+            × (now (starts .exit) ≡ startsAfter p (Stop l) (now (starts .entry))) ⌝
+    }
+{
+    let number = stop_number(p, l);
+    if number != 0 {
+        return Next::Refused(number);
+    }
+    words::put_four(body, 2 * p.stations + 4 * p.stops, l.station, l.arrive, l.depart, l.points);
+    mark_start(p, l.last, starts);
+    Next::On(after_stop(p, l))
+}
+
+// Takes a line, without its line end: the progress after it, or the number of the first no.
+fn take_line(p: Progress, line: &[u8], body: &mut [u16], starts: &mut [u16]) -> Next
+    requires { ⌜ Within p × (length (now body) ≡ 8320) × (length (now starts) ≡ 257) ⌝ }
+    ensures {
+        λ r. ⌜ (r ≡ nextOf p (shapeOf (now (line .entry))))
+            × (now (body .exit) ≡ bodyAfter p (shapeOf (now (line .entry))) (now (body .entry)))
+            × (now (starts .exit) ≡ startsAfter p (shapeOf (now (line .entry))) (now (starts .entry))) ⌝
+    }
+{
+    match text::shape(line) {
+        Line::Station(l) => {
+            return take_station(p, l, body);
+        }
+        Line::Stop(l) => {
+            return take_stop(p, l, body, starts);
+        }
+        Line::Shapeless => {
+            return Next::Refused(2);
+        }
+    }
+}
+
+// Question 7, when all lines are read: line is their number plus one.
+fn end_lines(p: Progress, line: u32) -> Lines
+    requires { ⌜ 1 ≤ line ⌝ }
+    ensures { λ r. ⌜ r ≡ endOf p line ⌝ }
+{
+    if p.stations == 0 {
+        return Lines::Refused { number: 7, line };
+    }
+    if p.begun != 0 {
+        return Lines::Refused { number: 7, line };
+    }
+    Lines::Accepted(p, line - 1)
+}
+
+// Reads all lines of a text, into the words of stations and stops and the places where trips begin.
+fn read_lines(text: &[u8], body: &mut [u16], starts: &mut [u16]) -> Lines
+    requires {
+        ⌜ (length (now text) ≤ 65536) × (length (now body) ≡ 8320) × (length (now starts) ≡ 257) ⌝
+    }
+    ensures {
+        λ r. ⌜ LinesRead (readLines (now (text .entry))) r (now (body .exit)) (now (starts .exit)) (now (body .entry))
+            (now (starts .entry)) ⌝
+    }
+{
+    starts[0] = 0;
+    let n = text.len();
+    let mut p = Progress {
+        stations: 0,
+        trips: 0,
+        stops: 0,
+        begun: 0,
+        station: 0,
+        depart: 0,
+    };
+    let mut line = 1;
+    let mut from = 0;
+    loop {
+        let end = text::piece_end(text, LINE_END, from);
+        if end == n {
+            if from == n {
+                return end_lines(p, line);
+            }
+            return Lines::Refused { number: 2, line };
+        }
+        match take_line(p, &text[from..end], body, starts) {
+            Next::On(q) => {
+                p = q;
+            }
+            Next::Refused(number) => {
+                return Lines::Refused { number, line };
+            }
+        }
+        line += 1;
+        from = end + 1;
+    }
 }

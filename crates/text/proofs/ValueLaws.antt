@@ -10,7 +10,7 @@ use lib.ListN.{length, take, drop, getD, set, length-drop}
 use lib.Seq.{drop-drop, take-all, length-take-le}
 use native.Mathlib.Decide.{ℕ-discrete}
 use Rattle.words.specs.Put.{put, put-next}
-use Rattle.text.specs.Piece.{pieces, pieceLength, piece-within, last-piece, first-piece}
+use Rattle.text.specs.Piece.{pieceLength, last-from, first-from}
 use Rattle.text.specs.Number.{fieldValue, fieldValues}
 
 -- ---- lists that are taken from the front, one element at a time
@@ -35,34 +35,14 @@ module _ (s : List ℕ) (from end : ℕ) (ends : end ≡ from + pieceLength 44 (
   abbrev pub value : ℕ
   value = fieldValue (take (end - from) (drop from s))
 
-  length-left : length (drop from s) ≡ length s - from
-  length-left = length-drop from s
-
-  this-field : end - from ≡ pieceLength 44 (drop from s)
-  this-field = omega arith
-
-  pub end-within : end ≤ length s
-  end-within = omega (arith, piece-within 44 (drop from s), length-left)
-
   pub last-value : end ≡ length s → fieldValues (drop from s) ≡ value ∷ []
   unfolding fieldValues
-  last-value e =
-      let whole : pieceLength 44 (drop from s) ≡ length (drop from s) = omega (arith, length-left) in
-      let all : take (end - from) (drop from s) ≡ drop from s =
-          take-all (end - from) (drop from s) (omega (arith, length-left)) in
-      rw (last-piece 44 (drop from s) whole, all)
+  last-value e = rw (last-from 44 s from end ends in-s e)
 
-  pub first-value : (end ≡ length s → ⊥) → fieldValues (drop from s) ≡ value ∷ fieldValues (drop (end + 1) s)
+  pub first-value : end ≤ length s → (end ≡ length s → ⊥)
+      → fieldValues (drop from s) ≡ value ∷ fieldValues (drop (end + 1) s)
   unfolding fieldValues
-  first-value n =
-      let short : pieceLength 44 (drop from s) < length (drop from s) = omega (arith, length-left, end-within) in
-      let next : from + suc (pieceLength 44 (drop from s)) ≡ end + 1 = omega arith in
-      rw (
-          first-piece 44 (drop from s) short,
-          drop-drop (suc (pieceLength 44 (drop from s))) from s,
-          next,
-          this-field
-      )
+  first-value h n = rw (first-from 44 s from end ends in-s h n)
 
 -- ---- after the value x of that field is stored at index k
 module _
@@ -72,6 +52,7 @@ module _
     (held : values ≡ put 0 (take k (fieldValues s)) old)
     (ends : end ≡ from + pieceLength 44 (drop from s))
     (in-s : from ≤ length s)
+    (within : end ≤ length s)
     (is-value : x ≡ fieldValue (take (end - from) (drop from s)))
     (room : length old ≡ 7)
     (few : k < 7)
@@ -90,7 +71,7 @@ module _
   seven-counted r e h = omega (arith, length-next (fieldValues s) k x r e)
 
   more : (end ≡ length s → ⊥) → drop k (fieldValues s) ≡ x ∷ fieldValues (drop (end + 1) s)
-  more n = next (fieldValues (drop (end + 1) s)) (first-value s from end ends in-s n)
+  more n = next (fieldValues (drop (end + 1) s)) (first-value s from end ends in-s within n)
 
   last : end ≡ length s → drop k (fieldValues s) ≡ x ∷ []
   last e = next [] (last-value s from end ends in-s e)

@@ -8,8 +8,8 @@ use native.Mathlib.Numerals.{add-one}
 use native.Mathlib.Omega.{arith}
 use borrow.Author.Tests.{eq-eqb, ne-eqb, eqb-true}
 use lib.Dec.{eqb}
-use lib.ListN.{length, getD, take, drop, drop-of-length-le}
-use lib.Seq.{drop-cons}
+use lib.ListN.{length, getD, take, drop, length-drop, drop-of-length-le}
+use lib.Seq.{drop-cons, drop-drop, take-all}
 
 abbrev pub joined : ℕ → List (List ℕ) → List (List ℕ)
 joined b [] = (b ∷ []) ∷ []
@@ -89,3 +89,48 @@ first-piece mark (b ∷ s) h = by-test (eqb b mark) (first-piece mark s) h
         ∷ pieces mark (drop (suc (cond t 0 (suc (pieceLength mark s)))) (b ∷ s))
     by-test true rest h = refl
     by-test false rest h = ap (joined b) (rest (omega arith))
+
+-- ---- the pieces from index `from` on, where the first of them ends at index `end`
+module _
+    (mark : ℕ)
+    (s : List ℕ)
+    (from end : ℕ)
+    (ends : end ≡ from + pieceLength mark (drop from s))
+    (in-s : from ≤ length s)
+    where
+  length-left : length (drop from s) ≡ length s - from
+  length-left = length-drop from s
+
+  this-piece : end - from ≡ pieceLength mark (drop from s)
+  this-piece = omega arith
+
+  pub last-from : end ≡ length s → pieces mark (drop from s) ≡ take (end - from) (drop from s) ∷ []
+  last-from e =
+      let whole : pieceLength mark (drop from s) ≡ length (drop from s) = omega (arith, length-left) in
+      let all : take (end - from) (drop from s) ≡ drop from s =
+          take-all (end - from) (drop from s) (omega (arith, length-left)) in
+      rw all (last-piece mark (drop from s) whole)
+
+  pub first-from : end ≤ length s → (end ≡ length s → ⊥)
+      → pieces mark (drop from s) ≡ take (end - from) (drop from s) ∷ pieces mark (drop (end + 1) s)
+  first-from h n =
+      let short : pieceLength mark (drop from s) < length (drop from s) = omega (arith, length-left) in
+      let next : from + suc (pieceLength mark (drop from s)) ≡ end + 1 = omega arith in
+      rw (
+          first-piece mark (drop from s) short,
+          drop-drop (suc (pieceLength mark (drop from s))) from s,
+          next,
+          this-piece
+      )
+
+-- there is always a piece
+pub pieces-some : (mark : ℕ) (s : List ℕ) → (p : List ℕ) × (l : List (List ℕ)) × (pieces mark s ≡ p ∷ l)
+unfolding pieces
+pieces-some mark [] = ([], [], refl)
+pieces-some mark (b ∷ s) = by-test (eqb b mark) (pieces mark s)
+  where
+    by-test : (t : Bool) (r : List (List ℕ))
+        → (p : List ℕ) × (l : List (List ℕ)) × (cond t ([] ∷ r) (joined b r) ≡ p ∷ l)
+    by-test true r = ([], r, refl)
+    by-test false [] = (b ∷ [], [], refl)
+    by-test false (p ∷ r) = (b ∷ p, r, refl)

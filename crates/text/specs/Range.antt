@@ -1,9 +1,13 @@
 -- "Value ranges: change minutes 0 to 240, change penalty 1 to 1,000, times 0 to 2,879 (minutes from midnight, two
 -- days), ride penalty 0 to 100." By the field's kind number: 1 change minutes, 2 change penalty, 3 time, 4 ride penalty.
 -- "An empty field has no range": as a 0 it passes, for times and ride penalties may be 0.
+use mathlib.Core.Path.{_≡_, refl, sym, _∙_}
 use mathlib.Core.Bool.{Bool, true, false, cond, _&&_}
-use Prim.Native.Nat.{ℕ, zero, suc}
+use Prim.Native.Nat.{ℕ, zero, suc, _≤_, _<_}
+use native.Mathlib.Omega.{arith}
+use borrow.Author.Tests.{leb-true}
 use lib.Dec.{leb, eqb}
+use Rattle.questions.specs.Question.{and-left, and-right}
 
 abbrev pub within : ℕ → ℕ → ℕ → Bool
 within low high v = leb low v && leb v high
@@ -18,3 +22,42 @@ inRange kind v =
 -- 0, or the refusal's number
 unfoldable pub rangeNumber : ℕ → ℕ → ℕ
 rangeNumber kind v = cond (inRange kind v) 0 3
+
+-- ---- what the number says
+module _ (kind v n : ℕ) (is : n ≡ rangeNumber kind v) where
+  pub range-in : n ≡ 0 → inRange kind v ≡ true
+  unfolding rangeNumber
+  range-in e = by-test (inRange kind v) is
+    where
+      by-test : (t : Bool) → n ≡ cond t 0 3 → t ≡ true
+      by-test true h = refl
+      by-test false h = absurd (omega arith)
+
+  pub range-out : (n ≡ 0 → ⊥) → inRange kind v ≡ false
+  unfolding rangeNumber
+  range-out e = by-test (inRange kind v) is
+    where
+      by-test : (t : Bool) → n ≡ cond t 0 3 → t ≡ false
+      by-test true h = absurd (e h)
+      by-test false h = refl
+
+-- ---- the bounds that a kind of field has
+within-bounds : (low high v : ℕ) → within low high v ≡ true → (low ≤ v) × (v ≤ high)
+within-bounds low high v e =
+    (leb-true low v (and-left (leb low v) (leb v high) e), leb-true v high (and-right (leb low v) (leb v high) e))
+
+pub minutes-bound : (v : ℕ) → inRange 1 v ≡ true → v ≤ 240
+unfolding inRange
+minutes-bound v e = (within-bounds 0 240 v e) .1
+
+pub points-bound : (v : ℕ) → inRange 2 v ≡ true → (1 ≤ v) × (v ≤ 1000)
+unfolding inRange
+points-bound v e = within-bounds 1 1000 v e
+
+pub time-bound : (v : ℕ) → inRange 3 v ≡ true → v ≤ 2879
+unfolding inRange
+time-bound v e = (within-bounds 0 2879 v e) .1
+
+pub ride-bound : (v : ℕ) → inRange 4 v ≡ true → v ≤ 100
+unfolding inRange
+ride-bound v e = (within-bounds 0 100 v e) .1

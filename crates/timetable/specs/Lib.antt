@@ -1,2 +1,3 @@
 pub mod Timetable
 pub mod Words
+pub mod WordLaws

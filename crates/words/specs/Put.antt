@@ -7,7 +7,7 @@ use native.Mathlib.Nat.{add-zero, zero-add}
 use native.Mathlib.Numerals.{add-one}
 use native.Mathlib.Omega.{arith}
 use lib.ListN.{length, take, drop, set, getD, length-append, length-take, length-drop, take-append-drop, List·getD-append}
-use lib.Seq.{drop-cons, set-at, take-suc, take-length, take-at, drop-at, drop-drop, length-take-le}
+use lib.Seq.{drop-cons, set-at, take-suc, take-length, take-at, drop-at, drop-drop, length-take-le, drop-set-lt}
 
 -- `old` with `ws` in the place of the words from `at` on
 unfoldable pub put : ℕ → List ℕ → List ℕ → List ℕ
@@ -40,6 +40,20 @@ put-more at n ws old w e h =
 pub put-next : (n : ℕ) (ws old : List ℕ) (w : ℕ) → length ws ≡ n → n < length old
     → set (put 0 ws old) n w ≡ put 0 (ws ++ (w ∷ [])) old
 put-next n ws old w e h = rw zero-add at (put-more 0 n ws old w e (omega arith))
+
+-- two and four stores in a row
+pub put-one : (at : ℕ) (old : List ℕ) (a : ℕ) → at < length old → set old at a ≡ put at (a ∷ []) old
+put-one at old a h = rw (put-none, add-zero) at (put-more at 0 [] old a refl (omega arith))
+
+pub put-two : (at : ℕ) (old : List ℕ) (a b : ℕ) → at + 2 ≤ length old
+    → set (set old at a) (at + 1) b ≡ put at (a ∷ b ∷ []) old
+put-two at old a b h = rw (put-one at old a (omega arith)) (put-more at 1 (a ∷ []) old b refl (omega arith))
+
+pub put-four : (at : ℕ) (old : List ℕ) (a b c d : ℕ) → at + 4 ≤ length old
+    → set (set (set (set old at a) (at + 1) b) (at + 2) c) (at + 3) d ≡ put at (a ∷ b ∷ c ∷ d ∷ []) old
+put-four at old a b c d h =
+    rw (put-two at old a b (omega arith), put-more at 2 (a ∷ b ∷ []) old c refl (omega arith))
+    (put-more at 3 (a ∷ b ∷ c ∷ []) old d refl (omega arith))
 
 -- more words, just past what was put
 pub put-append : (at n : ℕ) (a b old : List ℕ) → length a ≡ n → at + n ≤ length old
@@ -79,3 +93,8 @@ take-put ws old = take-at ws (drop (0 + length ws) old) (length ws) refl
 pub getD-put : (ws old : List ℕ) (i : ℕ) → i < length ws → getD (put 0 ws old) i 0 ≡ getD ws i 0
 unfolding put
 getD-put ws old i h = List·getD-append ws (drop (0 + length ws) old) 0 i h
+
+-- what is put over a word makes an end of it
+pub put-over : (a b : ℕ) (ws old : List ℕ) → put 0 (a ∷ ws) (set old 0 b) ≡ put 0 (a ∷ ws) old
+unfolding put
+put-over a b ws old = rw (drop-set-lt (0 + length (a ∷ ws)) old 0 b (omega arith))

@@ -1,7 +1,8 @@
 // Words in lent slices: what a slice holds once some words were put into it. The laws speak of lists of numbers and so
 // serve every width.
 ghost use mathlib.Core.Path.{_≡_};
-ghost use Prim.Native.Nat.{_+_, _≤_};
+ghost use mathlib.Core.List.{[], _∷_};
+ghost use Prim.Native.Nat.{_+_, _≤_, _<_};
 ghost use lib.ListN.{length};
 ghost use Rattle.words.specs.Put.{put};
 
@@ -15,4 +16,26 @@ pub fn copy(dst: &mut [u16], at: usize, src: &[u16])
         dst[at + j] = src[j];
         j += 1;
     }
+}
+
+// Writes two numbers as words, from index at on.
+pub fn put_two(dst: &mut [u16], at: usize, a: u32, b: u32)
+    requires { ⌜ (at + 2 ≤ length (now dst)) × (a < 65536) × (b < 65536) ⌝ }
+    ensures { λ _. ⌜ now (dst .exit) ≡ put at (a ∷ b ∷ []) (now (dst .entry)) ⌝ }
+{
+    dst[at] = a as u16;
+    dst[at + 1] = b as u16;
+}
+
+// Writes four numbers as words, from index at on.
+pub fn put_four(dst: &mut [u16], at: usize, a: u32, b: u32, c: u32, d: u32)
+    requires {
+        ⌜ (at + 4 ≤ length (now dst)) × (a < 65536) × (b < 65536) × (c < 65536) × (d < 65536) ⌝
+    }
+    ensures { λ _. ⌜ now (dst .exit) ≡ put at (a ∷ b ∷ c ∷ d ∷ []) (now (dst .entry)) ⌝ }
+{
+    dst[at] = a as u16;
+    dst[at + 1] = b as u16;
+    dst[at + 2] = c as u16;
+    dst[at + 3] = d as u16;
 }

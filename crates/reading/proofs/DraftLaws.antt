@@ -1,0 +1,146 @@
+-- A draft and what the code keeps of it grow together, line by line.
+use mathlib.Core.Path.{_≡_, refl, sym, ap, _∙_}
+use mathlib.Core.Bool.{Bool, true, false, cond}
+use mathlib.Core.List.{List, [], _∷_, _++_, append-assoc, append-nil}
+use Prim.Native.Nat.{ℕ, zero, suc, _+_, _*_, _≤_, _<_}
+use native.Mathlib.Omega.{arith}
+use lib.ListN.{length, set, length-append}
+use Rattle.words.specs.Put.{put, put-next}
+use Rattle.text.specs.declared.Line.{Line}
+use Rattle.text.specs.declared.Line.the-variants.{Station as StationIn, Stop as StopIn, Shapeless}
+use Rattle.text.specs.declared.StationLine.{StationLine}
+use Rattle.text.specs.declared.StopLine.{StopLine}
+use Rattle.timetable.specs.Timetable.{Station, Stop, Trip, stopsOf}
+use Rattle.timetable.specs.Words.{stationWords, stopWords, startWords}
+use Rattle.timetable.specs.WordLaws.{
+    length-stationWords,
+    length-stopWords,
+    length-startWords,
+    stationWords-append,
+    stopWords-append,
+    stopsOf-append,
+    startWords-append
+}
+use Rattle.reading.specs.Draft.{
+    Draft,
+    final,
+    progress,
+    lineNumber,
+    stationOfLine,
+    stopOfLine,
+    withStop,
+    withLine
+}
+use Rattle.reading.specs.Model.{Within, advance, lineWords, startsWith}
+use Rattle.reading.specs.declared.Progress.{Progress}
+use Rattle.reading.proofs.YesLaws.{StationYes, station-yes, StopYes, stop-yes}
+
+-- all stops of a draft
+abbrev pub stopsIn : Draft → List Stop
+stopsIn d = stopsOf (d .trips) ++ d .begun
+
+-- the words of a draft's stations and stops
+abbrev pub bodyOf : Draft → List ℕ
+bodyOf d = stationWords (d .stations) ++ stopWords (stopsIn d)
+
+pub length-bodyOf : (d : Draft) → length (bodyOf d) ≡ 2 * length (d .stations) + 4 * length (stopsIn d)
+length-bodyOf d =
+    simp (length-append, length-stationWords, length-stopWords)
+
+pub nothing : {A : Type 0} (l : List A) → length l ≡ 0 → l ≡ []
+nothing [] e = refl
+nothing (x ∷ l) e = absurd (omega arith)
+
+final-append : (l : Trip) (s : Stop) → final (l ++ (s ∷ [])) ≡ s
+final-append [] s = refl
+final-append (u ∷ []) s = refl
+final-append (u ∷ v ∷ l) s = final-append (v ∷ l) s
+
+-- all stops, where a trip ends with stop s
+stops-ended : (d : Draft) (s : Stop) → stopsOf (d .trips ++ ((d .begun ++ (s ∷ [])) ∷ [])) ≡ stopsIn d ++ (s ∷ [])
+stops-ended d s =
+    stopsOf-append (d .trips) ((d .begun ++ (s ∷ [])) ∷ [])
+    ∙ simp (append-nil, append-assoc)
+
+-- ---- the progress
+stop-progress : (d : Draft) (l : StopLine) (t : Bool) → l .last ≡ t
+    → progress (withStop d (stopOfLine l) t) ≡ advance (progress d) (StopIn l)
+stop-progress d l true e = rw (e, stops-ended d (stopOfLine l)) (simp (append-nil, length-append))
+stop-progress d l false e =
+    rw (e, final-append (d .begun) (stopOfLine l), ← append-assoc (stopsOf (d .trips)) (d .begun)) (simp length-append)
+
+pub progress-grows : (d : Draft) (line : Line) → progress (withLine d line) ≡ advance (progress d) line
+progress-grows d (StationIn l) = simp length-append
+progress-grows d (StopIn l) = stop-progress d l (l .last) refl
+progress-grows d Shapeless = refl
+
+-- ---- the words of stations and stops
+stop-body : (d : Draft) (s : Stop) (t : Bool)
+    → bodyOf (withStop d s t) ≡ bodyOf d ++ (s .station ∷ s .arrive ∷ s .depart ∷ s .points ∷ [])
+unfolding stopWords
+stop-body d s true =
+    rw (stops-ended d s, append-nil, stopWords-append (stopsIn d) (s ∷ []), append-assoc)
+stop-body d s false =
+    rw (← append-assoc (stopsOf (d .trips)) (d .begun), stopWords-append (stopsIn d) (s ∷ []), append-assoc)
+
+pub body-grows : (d : Draft) (line : Line) → lineNumber (progress d) line ≡ 0
+    → bodyOf (withLine d line) ≡ bodyOf d ++ lineWords line
+unfolding stationWords stopWords
+body-grows d (StationIn l) e =
+    let all = station-yes (progress d) l 0 (sym e) refl in
+    let none : stopsIn d ≡ [] = nothing (stopsIn d) (all .before-stops) in
+    rw (none, append-nil, append-nil, stationWords-append (d .stations) (stationOfLine l ∷ []))
+body-grows d (StopIn l) e = stop-body d (stopOfLine l) (l .last)
+body-grows d Shapeless e = absurd (omega arith)
+
+-- ---- where trips begin
+module _ (d : Draft) (starts old : List ℕ) (is : starts ≡ put 0 (startWords 0 (d .trips)) old) where
+  stop-starts : (l : StopLine) (t : Bool) → length (d .trips) + 1 < length old
+      → cond t (set starts (length (d .trips) + 1) (length (stopsIn d) + 1)) starts
+      ≡ put 0 (startWords 0 ((withStop d (stopOfLine l) t) .trips)) old
+  stop-starts l true room =
+      let count : 0 + length (stopsOf (d .trips) ++ (d .begun ++ (stopOfLine l ∷ []))) ≡ length (stopsIn d) + 1 =
+          simp length-append (omega arith) in
+      rw (is, startWords-append 0 (d .trips) (d .begun ++ (stopOfLine l ∷ [])), count)
+      (put-next (length (d .trips) + 1) (startWords 0 (d .trips)) old (length (stopsIn d) + 1)
+      (length-startWords 0 (d .trips)) room)
+  stop-starts l false room = is
+
+  pub starts-grow : (line : Line) → lineNumber (progress d) line ≡ 0 → length old ≡ 257
+      → startsWith (progress d) line starts ≡ put 0 (startWords 0 ((withLine d line) .trips)) old
+  starts-grow (StationIn l) e h = is
+  starts-grow (StopIn l) e h =
+      let all = stop-yes (progress d) l 0 (sym e) refl in
+      stop-starts l (l .last) (omega arith)
+  starts-grow Shapeless e h = is
+
+-- ---- the limits
+pub within-grows : (p : Progress) (line : Line) → Within p → lineNumber p line ≡ 0 → Within (advance p line)
+within-grows p (StationIn l) w e =
+    let all = station-yes p l 0 (sym e) refl in
+    record { stations = omega arith; trips = w .trips; stops = w .stops; begun = w .begun }
+within-grows p (StopIn l) w e = by-last (l .last) (stop-yes p l 0 (sym e) refl)
+  where
+    by-last : (t : Bool) → StopYes p l
+        → Within
+        (cond t
+        (record {
+            stations = p .stations;
+            trips = p .trips + 1;
+            stops = p .stops + 1;
+            begun = 0;
+            station = 0;
+            depart = 0
+        })
+        (record {
+            stations = p .stations;
+            trips = p .trips;
+            stops = p .stops + 1;
+            begun = p .begun + 1;
+            station = l .station;
+            depart = l .depart
+        }))
+    by-last true all = record { stations = w .stations; trips = omega arith; stops = omega arith; begun = omega arith }
+    by-last false all =
+        record { stations = w .stations; trips = w .trips; stops = omega arith; begun = omega (arith, w .begun) }
+within-grows p Shapeless w e = w

@@ -1,0 +1,5 @@
+pub mod NumberLaws
+pub mod YesLaws
+pub mod TakeLaws
+pub mod DraftLaws
+pub mod LoopLaws

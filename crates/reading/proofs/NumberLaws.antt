@@ -1,0 +1,194 @@
+-- The ways out of the functions that put the questions to a line, on plain values.
+use mathlib.Core.Path.{_≡_, refl, sym, ap, _∙_}
+use mathlib.Core.Bool.{Bool, true, false, not, cond, _&&_, _||_}
+use Prim.Native.Nat.{ℕ, zero, suc, _+_, _≤_, _<_}
+use native.Mathlib.Omega.{arith}
+use borrow.Author.Tests.{lt-ltb, le-ltb, le-leb, lt-leb, eq-eqb, ne-eqb}
+use lib.Dec.{leb, ltb, eqb}
+use Rattle.text.specs.Range.{inRange, rangeNumber, range-in, range-out}
+use Rattle.text.specs.declared.StationLine.{StationLine}
+use Rattle.text.specs.declared.StopLine.{StopLine}
+use Rattle.reading.specs.Draft.{stationNumber, stopNumber, stopFits}
+use Rattle.reading.specs.declared.Progress.{Progress}
+
+-- ---- a station line
+module _ (p : Progress) (l : StationLine) (m : ℕ) (is-m : m ≡ rangeNumber 1 (l .minutes)) where
+  pub minutes-refused : (m ≡ 0 → ⊥) → 3 ≡ stationNumber p l
+  unfolding stationNumber
+  minutes-refused h = simp (range-out 1 (l .minutes) m is-m h)
+
+  module _ (in-m : m ≡ 0) (q : ℕ) (is-q : q ≡ rangeNumber 2 (l .points)) where
+    pub points-refused : (q ≡ 0 → ⊥) → 3 ≡ stationNumber p l
+    unfolding stationNumber
+    points-refused h = simp (range-in 1 (l .minutes) m is-m in-m, range-out 2 (l .points) q is-q h)
+
+    module _ (in-q : q ≡ 0) where
+      pub behind-stops : (p .stops ≡ 0 → ⊥) → 4 ≡ stationNumber p l
+      unfolding stationNumber
+      behind-stops h =
+          simp (
+              range-in 1 (l .minutes) m is-m in-m,
+              range-in 2 (l .points) q is-q in-q,
+              ne-eqb (p .stops) 0 h
+          )
+
+      module _ (none : p .stops ≡ 0) where
+        pub out-of-turn : (l .number ≡ p .stations + 1 → ⊥) → 4 ≡ stationNumber p l
+        unfolding stationNumber
+        out-of-turn h =
+            simp (
+                range-in 1 (l .minutes) m is-m in-m,
+                range-in 2 (l .points) q is-q in-q,
+                eq-eqb (p .stops) 0 none,
+                ne-eqb (l .number) (p .stations + 1) h
+            )
+
+        module _ (turn : l .number ≡ p .stations + 1) where
+          pub stations-full : 64 ≤ p .stations → 5 ≡ stationNumber p l
+          unfolding stationNumber
+          stations-full h =
+              simp (
+                  range-in 1 (l .minutes) m is-m in-m,
+                  range-in 2 (l .points) q is-q in-q,
+                  eq-eqb (p .stops) 0 none,
+                  eq-eqb (l .number) (p .stations + 1) turn,
+                  le-ltb (p .stations) 64 h
+              )
+
+          pub station-taken : p .stations < 64 → 0 ≡ stationNumber p l
+          unfolding stationNumber
+          station-taken h =
+              simp (
+                  range-in 1 (l .minutes) m is-m in-m,
+                  range-in 2 (l .points) q is-q in-q,
+                  eq-eqb (p .stops) 0 none,
+                  eq-eqb (l .number) (p .stations + 1) turn,
+                  lt-ltb (p .stations) 64 h
+              )
+
+-- ---- question 6
+module _ (p : Progress) (l : StopLine) where
+  pub no-station : l .station < 1 → false ≡ stopFits p l
+  unfolding stopFits
+  no-station h = simp (lt-leb 1 (l .station) h)
+
+  module _ (some : 1 ≤ l .station) where
+    pub unlisted : p .stations < l .station → false ≡ stopFits p l
+    unfolding stopFits
+    unlisted h = simp (le-leb 1 (l .station) some, lt-leb (l .station) (p .stations) h)
+
+    module _ (listed : l .station ≤ p .stations) where
+      pub first-fits : p .begun ≡ 0 → true ≡ stopFits p l
+      unfolding stopFits
+      first-fits h = simp (le-leb 1 (l .station) some, le-leb (l .station) (p .stations) listed, eq-eqb (p .begun) 0 h)
+
+      module _ (goes-on : p .begun ≡ 0 → ⊥) where
+        pub same-station : l .station ≡ p .station → false ≡ stopFits p l
+        unfolding stopFits
+        same-station h =
+            simp (
+                le-leb 1 (l .station) some,
+                le-leb (l .station) (p .stations) listed,
+                ne-eqb (p .begun) 0 goes-on,
+                eq-eqb (l .station) (p .station) h
+            )
+
+        module _ (unlike : l .station ≡ p .station → ⊥) where
+          pub too-early : l .arrive ≤ p .depart → false ≡ stopFits p l
+          unfolding stopFits
+          too-early h =
+              simp (
+                  le-leb 1 (l .station) some,
+                  le-leb (l .station) (p .stations) listed,
+                  ne-eqb (p .begun) 0 goes-on,
+                  ne-eqb (l .station) (p .station) unlike,
+                  le-ltb (p .depart) (l .arrive) h
+              )
+
+          module _ (after : p .depart < l .arrive) where
+            pub last-fits : l .last ≡ true → true ≡ stopFits p l
+            unfolding stopFits
+            last-fits h =
+                simp (
+                    le-leb 1 (l .station) some,
+                    le-leb (l .station) (p .stations) listed,
+                    ne-eqb (p .begun) 0 goes-on,
+                    ne-eqb (l .station) (p .station) unlike,
+                    lt-ltb (p .depart) (l .arrive) after,
+                    h
+                )
+
+            pub middle-fits : l .last ≡ false → leb (l .arrive) (l .depart) ≡ stopFits p l
+            unfolding stopFits
+            middle-fits h =
+                simp (
+                    le-leb 1 (l .station) some,
+                    le-leb (l .station) (p .stations) listed,
+                    ne-eqb (p .begun) 0 goes-on,
+                    ne-eqb (l .station) (p .station) unlike,
+                    lt-ltb (p .depart) (l .arrive) after,
+                    h
+                )
+
+-- ---- a stop line
+module _ (p : Progress) (l : StopLine) (a : ℕ) (is-a : a ≡ rangeNumber 3 (l .arrive)) where
+  pub arrive-refused : (a ≡ 0 → ⊥) → 3 ≡ stopNumber p l
+  unfolding stopNumber
+  arrive-refused h = simp (range-out 3 (l .arrive) a is-a h)
+
+  module _ (in-a : a ≡ 0) (d : ℕ) (is-d : d ≡ rangeNumber 3 (l .depart)) where
+    pub depart-refused : (d ≡ 0 → ⊥) → 3 ≡ stopNumber p l
+    unfolding stopNumber
+    depart-refused h = simp (range-in 3 (l .arrive) a is-a in-a, range-out 3 (l .depart) d is-d h)
+
+    module _ (in-d : d ≡ 0) (q : ℕ) (is-q : q ≡ rangeNumber 4 (l .points)) where
+      pub ride-refused : (q ≡ 0 → ⊥) → 3 ≡ stopNumber p l
+      unfolding stopNumber
+      ride-refused h =
+          simp (
+              range-in 3 (l .arrive) a is-a in-a,
+              range-in 3 (l .depart) d is-d in-d,
+              range-out 4 (l .points) q is-q h
+          )
+
+      module _ (in-q : q ≡ 0) where
+        ranges : (inRange 3 (l .arrive) && inRange 3 (l .depart) && inRange 4 (l .points)) ≡ true
+        ranges =
+            simp (
+                range-in 3 (l .arrive) a is-a in-a,
+                range-in 3 (l .depart) d is-d in-d,
+                range-in 4 (l .points) q is-q in-q
+            )
+
+        pub other-trip : (l .trip ≡ p .trips + 1 → ⊥) → 4 ≡ stopNumber p l
+        unfolding stopNumber
+        other-trip h = simp (ranges, ne-eqb (l .trip) (p .trips + 1) h)
+
+        module _ (trip : l .trip ≡ p .trips + 1) where
+          pub other-stop : (l .stop ≡ p .begun + 1 → ⊥) → 4 ≡ stopNumber p l
+          unfolding stopNumber
+          other-stop h = simp (ranges, eq-eqb (l .trip) (p .trips + 1) trip, ne-eqb (l .stop) (p .begun + 1) h)
+
+          module _ (stop : l .stop ≡ p .begun + 1) where
+            place : (eqb (l .trip) (p .trips + 1) && eqb (l .stop) (p .begun + 1)) ≡ true
+            place = simp (eq-eqb (l .trip) (p .trips + 1) trip, eq-eqb (l .stop) (p .begun + 1) stop)
+
+            pub trips-full : 256 ≤ p .trips → 5 ≡ stopNumber p l
+            unfolding stopNumber
+            trips-full h = simp (ranges, place, le-ltb (p .trips) 256 h)
+
+            module _ (trips : p .trips < 256) where
+              pub stops-full : 2048 ≤ p .stops → 5 ≡ stopNumber p l
+              unfolding stopNumber
+              stops-full h = simp (ranges, place, lt-ltb (p .trips) 256 trips, le-ltb (p .stops) 2048 h)
+
+              module _ (stops : p .stops < 2048) (f : Bool) (is-f : f ≡ stopFits p l) where
+                pub stop-taken : f ≡ true → 0 ≡ stopNumber p l
+                unfolding stopNumber
+                stop-taken h =
+                    simp (ranges, place, lt-ltb (p .trips) 256 trips, lt-ltb (p .stops) 2048 stops, ← is-f, h)
+
+                pub stop-refused : f ≡ false → 6 ≡ stopNumber p l
+                unfolding stopNumber
+                stop-refused h =
+                    simp (ranges, place, lt-ltb (p .trips) 256 trips, lt-ltb (p .stops) 2048 stops, ← is-f, h)

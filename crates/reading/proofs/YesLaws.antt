@@ -1,0 +1,109 @@
+-- What a line is that has its yes to all questions.
+use mathlib.Core.Path.{_≡_, refl, sym, ap, _∙_}
+use mathlib.Core.Bool.{Bool, true, false, not, cond, _&&_, _||_}
+use mathlib.Core.List.{[], _∷_}
+use Prim.Native.Nat.{ℕ, zero, suc, _+_, _≤_, _<_}
+use native.Mathlib.Omega.{arith}
+use borrow.Author.Tests.{ltb-true, leb-true, eqb-true}
+use lib.Dec.{leb, ltb, eqb}
+use Rattle.questions.specs.Question.{ask, firstNo, yes-here, yes-later, and-left, and-right}
+use Rattle.text.specs.Range.{inRange, minutes-bound, points-bound, time-bound, ride-bound}
+use Rattle.text.specs.declared.StationLine.{StationLine}
+use Rattle.text.specs.declared.StopLine.{StopLine}
+use Rattle.reading.specs.Draft.{
+    stationNumber,
+    stationInRange,
+    stationInPlace,
+    stationCounted,
+    stopNumber,
+    stopInRange,
+    stopInPlace,
+    stopCounted,
+    stopFits
+}
+use Rattle.reading.specs.declared.Progress.{Progress}
+
+-- the tests of three and of four questions
+three-yes : (a b c : Bool) → firstNo (ask 3 a ∷ ask 4 b ∷ ask 5 c ∷ []) ≡ 0 → (a ≡ true) × (b ≡ true) × (c ≡ true)
+three-yes a b c e =
+    let second = yes-later 2 a (ask 4 b ∷ ask 5 c ∷ []) e in
+    let third = yes-later 3 b (ask 5 c ∷ []) second in
+    (yes-here 2 a (ask 4 b ∷ ask 5 c ∷ []) e, yes-here 3 b (ask 5 c ∷ []) second, yes-here 4 c [] third)
+
+four-yes : (a b c d : Bool) → firstNo (ask 3 a ∷ ask 4 b ∷ ask 5 c ∷ ask 6 d ∷ []) ≡ 0
+    → (a ≡ true) × (b ≡ true) × (c ≡ true) × (d ≡ true)
+four-yes a b c d e =
+    let second = yes-later 2 a (ask 4 b ∷ ask 5 c ∷ ask 6 d ∷ []) e in
+    let third = yes-later 3 b (ask 5 c ∷ ask 6 d ∷ []) second in
+    let fourth = yes-later 4 c (ask 6 d ∷ []) third in
+    (
+        yes-here 2 a (ask 4 b ∷ ask 5 c ∷ ask 6 d ∷ []) e,
+        yes-here 3 b (ask 5 c ∷ ask 6 d ∷ []) second,
+        yes-here 4 c (ask 6 d ∷ []) third,
+        yes-here 5 d [] fourth
+    )
+
+pub record StationYes (p : Progress) (l : StationLine) : Type 0 where
+  pub minutes : l .minutes ≤ 240
+  pub least : 1 ≤ l .points
+  pub most : l .points ≤ 1000
+  pub before-stops : p .stops ≡ 0
+  pub turn : l .number ≡ p .stations + 1
+  pub room : p .stations < 64
+
+pub station-yes : (p : Progress) (l : StationLine) (n : ℕ) → n ≡ stationNumber p l → n ≡ 0 → StationYes p l
+unfolding stationNumber
+station-yes p l n is e =
+    let all = three-yes (stationInRange l) (stationInPlace p l) (stationCounted p) (sym is ∙ e) in
+    let points = points-bound (l .points) (and-right (inRange 1 (l .minutes)) (inRange 2 (l .points)) (all .0)) in
+    record {
+        minutes = minutes-bound (l .minutes) (and-left (inRange 1 (l .minutes)) (inRange 2 (l .points)) (all .0));
+        least = points .0;
+        most = points .1;
+        before-stops =
+            eqb-true (p .stops) 0 (and-left (eqb (p .stops) 0) (eqb (l .number) (p .stations + 1)) (all .1));
+        turn =
+            eqb-true (l .number) (p .stations + 1)
+            (and-right (eqb (p .stops) 0) (eqb (l .number) (p .stations + 1)) (all .1));
+        room = ltb-true (p .stations) 64 (all .2)
+    }
+
+pub record StopYes (p : Progress) (l : StopLine) : Type 0 where
+  pub arrive : l .arrive ≤ 2879
+  pub depart : l .depart ≤ 2879
+  pub points : l .points ≤ 100
+  pub trip : l .trip ≡ p .trips + 1
+  pub stop : l .stop ≡ p .begun + 1
+  pub trips : p .trips < 256
+  pub stops : p .stops < 2048
+  pub station : l .station ≤ p .stations
+  pub fits : stopFits p l ≡ true
+
+stop-station : (p : Progress) (l : StopLine) → stopFits p l ≡ true → l .station ≤ p .stations
+unfolding stopFits
+stop-station p l e =
+    leb-true (l .station) (p .stations)
+    (and-right (leb 1 (l .station)) (leb (l .station) (p .stations)) (and-left _ (eqb (p .begun) 0 || _) e))
+
+pub stop-yes : (p : Progress) (l : StopLine) (n : ℕ) → n ≡ stopNumber p l → n ≡ 0 → StopYes p l
+unfolding stopNumber
+stop-yes p l n is e =
+    let all = four-yes (stopInRange l) (stopInPlace p l) (stopCounted p) (stopFits p l) (sym is ∙ e) in
+    let times = and-left (inRange 3 (l .arrive) && inRange 3 (l .depart)) (inRange 4 (l .points)) (all .0) in
+    record {
+        arrive = time-bound (l .arrive) (and-left (inRange 3 (l .arrive)) (inRange 3 (l .depart)) times);
+        depart = time-bound (l .depart) (and-right (inRange 3 (l .arrive)) (inRange 3 (l .depart)) times);
+        points =
+            ride-bound (l .points)
+            (and-right (inRange 3 (l .arrive) && inRange 3 (l .depart)) (inRange 4 (l .points)) (all .0));
+        trip =
+            eqb-true (l .trip) (p .trips + 1)
+            (and-left (eqb (l .trip) (p .trips + 1)) (eqb (l .stop) (p .begun + 1)) (all .1));
+        stop =
+            eqb-true (l .stop) (p .begun + 1)
+            (and-right (eqb (l .trip) (p .trips + 1)) (eqb (l .stop) (p .begun + 1)) (all .1));
+        trips = ltb-true (p .trips) 256 (and-left (ltb (p .trips) 256) (ltb (p .stops) 2048) (all .2));
+        stops = ltb-true (p .stops) 2048 (and-right (ltb (p .trips) 256) (ltb (p .stops) 2048) (all .2));
+        station = stop-station p l (all .3);
+        fits = all .3
+    }

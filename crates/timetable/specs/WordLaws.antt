@@ -1,0 +1,53 @@
+-- The words of stations, stops and starts, one more at a time.
+use mathlib.Core.Path.{_≡_, refl, sym, ap, _∙_}
+use mathlib.Core.List.{List, [], _∷_, _++_, append-assoc, append-nil}
+use Prim.Native.Nat.{ℕ, zero, suc, _+_, _*_}
+use native.Mathlib.Nat.{add-assoc}
+use native.Mathlib.Omega.{arith}
+use lib.ListN.{length, length-append}
+use Rattle.timetable.specs.Timetable.{Station, Stop, Trip, stopsOf}
+use Rattle.timetable.specs.Words.{stationWords, stopWords, startWords}
+
+pub length-stationWords : (l : List Station) → length (stationWords l) ≡ 2 * length l
+unfolding stationWords
+length-stationWords [] = refl
+length-stationWords (s ∷ l) = omega (arith, length-stationWords l)
+
+pub length-stopWords : (l : List Stop) → length (stopWords l) ≡ 4 * length l
+unfolding stopWords
+length-stopWords [] = refl
+length-stopWords (s ∷ l) = omega (arith, length-stopWords l)
+
+pub length-startWords : (k : ℕ) (l : List Trip) → length (startWords k l) ≡ length l + 1
+unfolding startWords
+length-startWords k [] = refl
+length-startWords k (t ∷ l) = omega (arith, length-startWords (k + length t) l)
+
+pub stationWords-append : (a b : List Station) → stationWords (a ++ b) ≡ stationWords a ++ stationWords b
+unfolding stationWords
+stationWords-append [] b = refl
+stationWords-append (s ∷ a) b = ap (λ w. s .minutes ∷ s .points ∷ w) (stationWords-append a b)
+
+pub stopWords-append : (a b : List Stop) → stopWords (a ++ b) ≡ stopWords a ++ stopWords b
+unfolding stopWords
+stopWords-append [] b = refl
+stopWords-append (s ∷ a) b =
+    ap (λ w. s .station ∷ s .arrive ∷ s .depart ∷ s .points ∷ w) (stopWords-append a b)
+
+pub stopsOf-append : (a b : List Trip) → stopsOf (a ++ b) ≡ stopsOf a ++ stopsOf b
+stopsOf-append [] b = refl
+stopsOf-append (t ∷ a) b = ap (λ l. t ++ l) (stopsOf-append a b) ∙ sym (append-assoc t (stopsOf a) (stopsOf b))
+
+pub startWords-append : (k : ℕ) (a : List Trip) (t : Trip)
+    → startWords k (a ++ (t ∷ [])) ≡ startWords k a ++ ((k + length (stopsOf a ++ t)) ∷ [])
+unfolding startWords
+startWords-append k [] t = refl
+startWords-append k (u ∷ a) t =
+    let sum : k + length u + length (stopsOf a ++ t) ≡ k + length (u ++ stopsOf a ++ t) =
+        simp length-append (omega arith) in
+    ap (λ l. k ∷ l) (rw sum at (startWords-append (k + length u) a t))
+
+pub start-first : (k : ℕ) (l : List Trip) → (ws : List ℕ) × (startWords k l ≡ k ∷ ws)
+unfolding startWords
+start-first k [] = ([], refl)
+start-first k (t ∷ l) = (startWords (k + length t) l, refl)
