@@ -28,6 +28,7 @@ use Rattle.reading.specs.Model.{
     startsWith,
     startsAfter,
     endOf,
+    progressOf,
     LinesRead
 }
 use Rattle.reading.specs.declared.Progress.{Progress}
@@ -180,8 +181,10 @@ module _
             ap
             (λ (b : Trip). record { stations = (k .draft) .stations; trips = (k .draft) .trips; begun = b })
             none in
+        let is : p ≡ progressOf whole = k .is-progress ∙ ap progress closed in
         (
-            ap (λ (x : Progress). LinesAccepted x (line - 1)) (k .is-progress ∙ ap progress closed),
+            ap (λ (x : Progress). LinesAccepted x (line - 1)) is,
+            subst Within is (k .within),
             k .is-body ∙ ap (λ (d : Draft). put 0 (bodyOf d) body₀) closed ∙ rw append-nil,
             ended-starts
         )

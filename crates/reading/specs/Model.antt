@@ -5,7 +5,7 @@ use mathlib.Core.Bool.{Bool, true, false, cond, _&&_}
 use mathlib.Core.List.{List, [], _∷_, _++_}
 use Prim.Native.Nat.{ℕ, zero, suc, _+_, _-_, _*_, _≤_}
 use lib.Dec.{leb, eqb}
-use lib.ListN.{length, set}
+use lib.ListN.{length, take, set}
 use Rattle.words.specs.Put.{put}
 use Rattle.text.specs.declared.Line.{Line}
 use Rattle.text.specs.declared.Line.the-variants.{Station as StationIn, Stop as StopIn, Shapeless}
@@ -95,5 +95,16 @@ endOf p line =
 -- what reading all lines has to answer and to leave in the two arrays
 abbrev pub LinesRead : Outcome → Lines → (body starts body₀ starts₀ : List ℕ) → Type 0
 LinesRead (Accepted t n) r body starts body₀ starts₀ =
-    (r ≡ LinesAccepted (progressOf t) n) × (body ≡ put 0 (bodyWords t) body₀) × (starts ≡ put 0 (startWords 0 (t .trips)) starts₀)
+    (r ≡ LinesAccepted (progressOf t) n)
+    × Within (progressOf t)
+    × (body ≡ put 0 (bodyWords t) body₀)
+    × (starts ≡ put 0 (startWords 0 (t .trips)) starts₀)
 LinesRead (Refused k l) r body starts body₀ starts₀ = r ≡ LinesRefused k l
+
+-- the words of a whole table, from the progress at its end and the two arrays
+abbrev pub tableWords : Progress → (body starts : List ℕ) → List ℕ
+tableWords p body starts =
+    p .stations
+    ∷ p .trips
+    ∷ p .stops
+    ∷ (take (2 * p .stations + 4 * p .stops) body ++ take (p .trips + 1) starts)

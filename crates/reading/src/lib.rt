@@ -8,7 +8,7 @@ ghost use Rattle.text.specs.Shape.{shapeOf};
 ghost use Rattle.text.specs.declared.Line.the-variants.{Station, Stop};
 ghost use Rattle.reading.specs.Draft.{stationNumber, stopNumber, stopFits};
 ghost use Rattle.reading.specs.Reading.{readLines, readReply, readWords};
-ghost use Rattle.reading.specs.Model.{Within, advance, nextOf, bodyAfter, startsAfter, endOf, LinesRead};
+ghost use Rattle.reading.specs.Model.{Within, advance, nextOf, bodyAfter, startsAfter, endOf, LinesRead, tableWords};
 
 use text::Line;
 use text::StationLine;
@@ -278,5 +278,50 @@ fn read_lines(text: &[u8], body: &mut [u16], starts: &mut [u16]) -> Lines
         }
         line += 1;
         from = end + 1;
+    }
+}
+
+// Writes the words of a timetable that was read.
+fn write_timetable(timetable: &mut [u16], p: Progress, body: &[u16], starts: &[u16])
+    requires {
+        ⌜ Within p
+            × (16384 ≤ length (now timetable))
+            × (length (now body) ≡ 8320)
+            × (length (now starts) ≡ 257) ⌝
+    }
+    ensures {
+        λ _. ⌜ now (timetable .exit)
+            ≡ put 0 (tableWords p (now (body .entry)) (now (starts .entry))) (now (timetable .entry)) ⌝
+    }
+{
+    let body_length = 2 * p.stations + 4 * p.stops;
+    let starts_at = 3 + body_length;
+    let starts_length = p.trips + 1;
+    words::put_three(timetable, 0, p.stations as u32, p.trips as u32, p.stops as u32);
+    words::copy(timetable, 3, body, body_length);
+    words::copy(timetable, starts_at, starts, starts_length);
+}
+
+// Reads a text into the lent words of a timetable.
+pub fn read(text: &[u8], timetable: &mut [u16]) -> Reply
+    ensures reply { λ r. ⌜ r ≡ readReply (now (text .entry)) (length (now (timetable .entry))) ⌝ }
+    ensures words { λ _. ⌜ now (timetable .exit) ≡ readWords (now (text .entry)) (now (timetable .entry)) ⌝ }
+{
+    if timetable.len() < 16384 {
+        return Reply::Refused { number: 8, line: 0 };
+    }
+    if 65536 < text.len() {
+        return Reply::Refused { number: 1, line: 0 };
+    }
+    let mut body = [0u16; 8320];
+    let mut starts = [0u16; 257];
+    match read_lines(text, &mut body, &mut starts) {
+        Lines::Refused { number, line } => {
+            return Reply::Refused { number, line };
+        }
+        Lines::Accepted(p, lines) => {
+            write_timetable(timetable, p, &body, &starts);
+            return Reply::Done { lines };
+        }
     }
 }

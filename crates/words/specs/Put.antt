@@ -41,7 +41,7 @@ pub put-next : (n : ℕ) (ws old : List ℕ) (w : ℕ) → length ws ≡ n → n
     → set (put 0 ws old) n w ≡ put 0 (ws ++ (w ∷ [])) old
 put-next n ws old w e h = rw zero-add at (put-more 0 n ws old w e (omega arith))
 
--- two and four stores in a row
+-- a few stores in a row
 pub put-one : (at : ℕ) (old : List ℕ) (a : ℕ) → at < length old → set old at a ≡ put at (a ∷ []) old
 put-one at old a h = rw (put-none, add-zero) at (put-more at 0 [] old a refl (omega arith))
 
@@ -49,10 +49,15 @@ pub put-two : (at : ℕ) (old : List ℕ) (a b : ℕ) → at + 2 ≤ length old
     → set (set old at a) (at + 1) b ≡ put at (a ∷ b ∷ []) old
 put-two at old a b h = rw (put-one at old a (omega arith)) (put-more at 1 (a ∷ []) old b refl (omega arith))
 
+pub put-three : (at : ℕ) (old : List ℕ) (a b c : ℕ) → at + 3 ≤ length old
+    → set (set (set old at a) (at + 1) b) (at + 2) c ≡ put at (a ∷ b ∷ c ∷ []) old
+put-three at old a b c h =
+    rw (put-two at old a b (omega arith)) (put-more at 2 (a ∷ b ∷ []) old c refl (omega arith))
+
 pub put-four : (at : ℕ) (old : List ℕ) (a b c d : ℕ) → at + 4 ≤ length old
     → set (set (set (set old at a) (at + 1) b) (at + 2) c) (at + 3) d ≡ put at (a ∷ b ∷ c ∷ d ∷ []) old
 put-four at old a b c d h =
-    rw (put-two at old a b (omega arith), put-more at 2 (a ∷ b ∷ []) old c refl (omega arith))
+    rw (put-three at old a b c (omega arith))
     (put-more at 3 (a ∷ b ∷ c ∷ []) old d refl (omega arith))
 
 -- more words, just past what was put
@@ -72,18 +77,18 @@ put-append at n a b old e h =
         append-assoc (take at old) a b
     )
 
--- a turn of a loop that copies src
-pub copy-more : (at j : ℕ) (src old dst : List ℕ) → dst ≡ put at (take j src) old → j < length src
-    → at + length src ≤ length old → set dst (at + j) (getD src j 0) ≡ put at (take (j + 1) src) old
-copy-more at j src old dst e h g =
-    rw (e, add-one j, take-suc src j 0 h)
-    (put-more at j (take j src) old (getD src j 0) (length-take-le j src (omega arith)) (omega arith))
+-- a turn of a loop that copies the first n words of src, and its end
+module _ (at n j : ℕ) (src old dst : List ℕ) (so-far : dst ≡ put at (take j src) old) where
+  pub copy-more : j < n → n ≤ length src → at + n ≤ length old
+      → set dst (at + j) (getD src j 0) ≡ put at (take (j + 1) src) old
+  copy-more h l g =
+      rw (so-far, add-one j, take-suc src j 0 (omega arith))
+      (put-more at j (take j src) old (getD src j 0) (length-take-le j src (omega arith)) (omega arith))
 
-pub copied : (at j : ℕ) (src old dst : List ℕ) → dst ≡ put at (take j src) old → j ≤ length src → length src ≤ j
-    → dst ≡ put at src old
-copied at j src old dst e h g =
-    let whole : j ≡ length src = omega arith in
-    rw (e, whole, take-length)
+  pub copied : j ≤ n → n ≤ j → dst ≡ put at (take n src) old
+  copied h g =
+      let whole : j ≡ n = omega arith in
+      rw (so-far, whole)
 
 -- what was put can be read again
 pub take-put : (ws old : List ℕ) → take (length ws) (put 0 ws old) ≡ ws

@@ -3,16 +3,17 @@
 ghost use mathlib.Core.Path.{_≡_};
 ghost use mathlib.Core.List.{[], _∷_};
 ghost use Prim.Native.Nat.{_+_, _≤_, _<_};
-ghost use lib.ListN.{length};
+ghost use lib.ListN.{length, take};
 ghost use Rattle.words.specs.Put.{put};
 
-// Copies all of src into dst, from index at on.
-pub fn copy(dst: &mut [u16], at: usize, src: &[u16])
-    requires { ⌜ at + length (now src) ≤ length (now dst) ⌝ }
-    ensures { λ _. ⌜ now (dst .exit) ≡ put at (now (src .entry)) (now (dst .entry)) ⌝ }
+// Copies the first n words of src into dst, from index at on.
+pub fn copy(dst: &mut [u16], at: usize, src: &[u16], n: usize)
+    requires { ⌜ (at + n ≤ length (now dst)) × (n ≤ length (now src)) ⌝ }
+    ensures { λ _. ⌜ now (dst .exit) ≡ put at (take n (now (src .entry))) (now (dst .entry)) ⌝ }
+    ensures { λ _. ⌜ length (now (dst .exit)) ≡ length (now (dst .entry)) ⌝ }
 {
     let mut j = 0;
-    while j < src.len() {
+    while j < n {
         dst[at + j] = src[j];
         j += 1;
     }
@@ -22,9 +23,21 @@ pub fn copy(dst: &mut [u16], at: usize, src: &[u16])
 pub fn put_two(dst: &mut [u16], at: usize, a: u32, b: u32)
     requires { ⌜ (at + 2 ≤ length (now dst)) × (a < 65536) × (b < 65536) ⌝ }
     ensures { λ _. ⌜ now (dst .exit) ≡ put at (a ∷ b ∷ []) (now (dst .entry)) ⌝ }
+    ensures { λ _. ⌜ length (now (dst .exit)) ≡ length (now (dst .entry)) ⌝ }
 {
     dst[at] = a as u16;
     dst[at + 1] = b as u16;
+}
+
+// Writes three numbers as words, from index at on.
+pub fn put_three(dst: &mut [u16], at: usize, a: u32, b: u32, c: u32)
+    requires { ⌜ (at + 3 ≤ length (now dst)) × (a < 65536) × (b < 65536) × (c < 65536) ⌝ }
+    ensures { λ _. ⌜ now (dst .exit) ≡ put at (a ∷ b ∷ c ∷ []) (now (dst .entry)) ⌝ }
+    ensures { λ _. ⌜ length (now (dst .exit)) ≡ length (now (dst .entry)) ⌝ }
+{
+    dst[at] = a as u16;
+    dst[at + 1] = b as u16;
+    dst[at + 2] = c as u16;
 }
 
 // Writes four numbers as words, from index at on.
@@ -33,6 +46,7 @@ pub fn put_four(dst: &mut [u16], at: usize, a: u32, b: u32, c: u32, d: u32)
         ⌜ (at + 4 ≤ length (now dst)) × (a < 65536) × (b < 65536) × (c < 65536) × (d < 65536) ⌝
     }
     ensures { λ _. ⌜ now (dst .exit) ≡ put at (a ∷ b ∷ c ∷ d ∷ []) (now (dst .entry)) ⌝ }
+    ensures { λ _. ⌜ length (now (dst .exit)) ≡ length (now (dst .entry)) ⌝ }
 {
     dst[at] = a as u16;
     dst[at + 1] = b as u16;

@@ -10,10 +10,11 @@ use Rattle.words.proofs.copy.Reads as reads
 use Rattle.words.proofs.copy.Lts as lts
 
 abbrev Inv-loop : tie.InvT-loop
-Inv-loop dst₀ at src j₀ dst j = (j ≤ length src) × ((length dst ≡ length dst₀) × (dst ≡ put at (take j src) dst₀))
+Inv-loop dst₀ at src n j₀ dst j =
+    (j ≤ n) × ((length dst ≡ length dst₀) × (dst ≡ put at (take j src) dst₀))
 
 abbrev μ-loop : tie.MeasureT-loop
-μ-loop dst₀ at src j₀ dst j = length src - j
+μ-loop dst₀ at src n j₀ dst j = n - j
 
 -- src/lib.rt:14:5
 loop-holds : tie.Need-loop-holds Inv-loop μ-loop
@@ -57,7 +58,7 @@ same-length c = search needs
 
 -- src/lib.rt:9:1
 returns : tie.Need-returns Inv-loop μ-loop
-returns c = search copied
+returns c = (search copied, search needs)
 
 pub copy-spec : {M : Type 1} → statement M
 copy-spec =

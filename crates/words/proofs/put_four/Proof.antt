@@ -73,7 +73,7 @@ same-length c = search needs
 
 -- src/lib.rt:31:1
 returns : tie.Need-returns
-returns c = search put-four
+returns c = (search put-four, simp length-set)
 
 pub put-four-spec : {M : Type 1} → statement M
 put-four-spec =

@@ -41,7 +41,7 @@ same-length c = search needs
 
 -- src/lib.rt:22:1
 returns : tie.Need-returns
-returns c = search put-two
+returns c = (search put-two, simp length-set)
 
 pub put-two-spec : {M : Type 1} → statement M
 put-two-spec =

@@ -1,0 +1,147 @@
+-- The ways out of the call.
+use mathlib.Core.Path.{_≡_, refl, sym, ap, subst, _∙_}
+use mathlib.Core.Bool.{Bool, true, false, cond}
+use mathlib.Core.List.{List, [], _∷_, _++_, append-nil}
+use Prim.Native.Nat.{ℕ, _+_, _*_, _≤_, _<_}
+use native.Mathlib.Omega.{arith}
+use borrow.Author.Tests.{le-leb, lt-leb}
+use lib.Dec.{leb}
+use lib.ListN.{length, take, length-append}
+use Rattle.words.specs.Put.{put, take-put}
+use Rattle.timetable.specs.Timetable.{Timetable, stopsOf}
+use Rattle.timetable.specs.Words.{stationWords, stopWords, startWords, words}
+use Rattle.timetable.specs.WordLaws.{length-stationWords, length-stopWords, length-startWords}
+use Rattle.reading.specs.Reading.{
+    Outcome,
+    Accepted,
+    Refused,
+    readLines,
+    reading,
+    replyTo,
+    readReply,
+    written,
+    readWords
+}
+use Rattle.reading.specs.Model.{Within, bodyWords, progressOf, LinesRead, tableWords}
+use Rattle.reading.specs.declared.Progress.{Progress}
+use Rattle.reading.specs.declared.Lines.{Lines}
+use Rattle.reading.specs.declared.Lines.the-variants.{Accepted as LinesAccepted, Refused as LinesRefused}
+use Rattle.reading.specs.declared.Reply.the-variants.{Done as ReplyDone, Refused as ReplyRefused}
+
+module _ (text old : List ℕ) where
+  module _ (short : length old < 16384) where
+    pub short-reply : ReplyRefused 8 0 ≡ readReply text (length old)
+    unfolding readReply
+    short-reply = simp (lt-leb 16384 (length old) short)
+
+    pub short-words : old ≡ readWords text old
+    unfolding readWords
+    short-words = simp (lt-leb 16384 (length old) short)
+
+  module _ (room : 16384 ≤ length old) where
+    module _ (long : 65536 < length text) where
+      refused-long : reading text ≡ Refused 1 0
+      unfolding reading
+      refused-long = simp (lt-leb (length text) 65536 long)
+
+      pub long-reply : ReplyRefused 1 0 ≡ readReply text (length old)
+      unfolding readReply
+      long-reply = simp (le-leb 16384 (length old) room, refused-long)
+
+      pub long-words : old ≡ readWords text old
+      unfolding readWords
+      long-words = simp (le-leb 16384 (length old) room, refused-long)
+
+    module _ (fits : length text ≤ 65536) (r : Lines) (body starts body₀ starts₀ : List ℕ)
+        (lines : LinesRead (readLines text) r body starts body₀ starts₀) where
+      reads-lines : reading text ≡ readLines text
+      unfolding reading
+      reads-lines = simp (le-leb (length text) 65536 fits)
+
+      module _ (number line : ℕ) (no : r ≡ LinesRefused number line) where
+        is-refused : (o : Outcome) → LinesRead o r body starts body₀ starts₀ → o ≡ Refused number line
+        is-refused (Accepted t n) l = let e = l .0 in let z : _≡_ {A = ℕ} 0 1 = cc in absurd (omega arith)
+        is-refused (Refused k m) l = cc
+
+        refused-lines : reading text ≡ Refused number line
+        refused-lines = reads-lines ∙ is-refused (readLines text) lines
+
+        pub refused-reply : ReplyRefused number line ≡ readReply text (length old)
+        unfolding readReply
+        refused-reply = simp (le-leb 16384 (length old) room, refused-lines)
+
+        pub refused-words : old ≡ readWords text old
+        unfolding readWords
+        refused-words = simp (le-leb 16384 (length old) room, refused-lines)
+
+      module _ (p : Progress) (n : ℕ) (done : r ≡ LinesAccepted p n) where
+        -- the timetable that was read, and what is kept of it
+        record Held : Type 0 where
+          timetable : Timetable
+          accepted : readLines text ≡ Accepted timetable n
+          is-progress : p ≡ progressOf timetable
+          within : Within (progressOf timetable)
+          is-body : body ≡ put 0 (bodyWords timetable) body₀
+          is-starts : starts ≡ put 0 (startWords 0 (timetable .trips)) starts₀
+
+        is-held : (o : Outcome) → readLines text ≡ o → LinesRead o r body starts body₀ starts₀ → Held
+        is-held (Accepted t m) e l =
+            let f = l .0 in
+            let same : m ≡ n = cc in
+            record {
+                timetable = t;
+                accepted = e ∙ ap (Accepted t) same;
+                is-progress = cc;
+                within = l .1;
+                is-body = l .2;
+                is-starts = l .3
+            }
+        is-held (Refused k m) e l = let z : _≡_ {A = ℕ} 0 1 = cc in absurd (omega arith)
+
+        held : Held
+        held = is-held (readLines text) refl lines
+
+        pub accepted-within : Within p
+        accepted-within = subst Within (sym (held .is-progress)) (held .within)
+
+        pub done-reply : ReplyDone n ≡ readReply text (length old)
+        unfolding readReply
+        done-reply = simp (le-leb 16384 (length old) room, reads-lines, held .accepted)
+
+        body-taken : take (2 * p .stations + 4 * p .stops) body ≡ bodyWords (held .timetable)
+        body-taken =
+            let t = held .timetable in
+            let long : length (bodyWords t) ≡ 2 * (progressOf t) .stations + 4 * (progressOf t) .stops =
+                simp (length-append, length-stationWords, length-stopWords, append-nil) in
+            ap (λ (x : Progress). take (2 * x .stations + 4 * x .stops) body) (held .is-progress)
+            ∙ ap (λ k. take k body) (sym long)
+            ∙ ap (take (length (bodyWords t))) (held .is-body)
+            ∙ take-put (bodyWords t) body₀
+
+        starts-taken : take (p .trips + 1) starts ≡ startWords 0 ((held .timetable) .trips)
+        starts-taken =
+            let t = held .timetable in
+            ap (λ (x : Progress). take (x .trips + 1) starts) (held .is-progress)
+            ∙ ap (λ k. take k starts) (sym (length-startWords 0 (t .trips)))
+            ∙ ap (take (length (startWords 0 (t .trips)))) (held .is-starts)
+            ∙ take-put (startWords 0 (t .trips)) starts₀
+
+        table-is : tableWords p body starts ≡ words (held .timetable)
+        unfolding words
+        table-is =
+            let t = held .timetable in
+            let stops : (progressOf t) .stops ≡ length (stopsOf (t .trips)) = simp append-nil in
+            ap (λ (x : List ℕ). p .stations ∷ p .trips ∷ p .stops ∷ (x ++ take (p .trips + 1) starts)) body-taken
+            ∙ ap (λ (x : List ℕ). p .stations ∷ p .trips ∷ p .stops ∷ (bodyWords t ++ x)) starts-taken
+            ∙ ap
+            (λ (x : Progress). x .stations ∷ x .trips ∷ x .stops ∷ (bodyWords t ++ startWords 0 (t .trips)))
+            (held .is-progress)
+            ∙ ap
+            (λ k. length (t .stations) ∷ length (t .trips) ∷ k ∷ (bodyWords t ++ startWords 0 (t .trips)))
+            stops
+
+        pub done-words : (table : List ℕ) → table ≡ put 0 (tableWords p body starts) old → table ≡ readWords text old
+        unfolding readWords
+        done-words table e =
+            simp (le-leb 16384 (length old) room, reads-lines, held .accepted)
+            (e ∙ ap (λ w. put 0 w old) table-is)
