@@ -1,3 +1,4 @@
 pub mod Timetable
 pub mod Words
 pub mod WordLaws
+pub mod Check

@@ -5,6 +5,7 @@ use mathlib.Core.List.{List, [], _∷_, _++_, map}
 use Prim.Native.Nat.{ℕ, zero, suc, _+_, _-_, _*_}
 use lib.Dec.{leb, ltb, eqb}
 use lib.ListN.{length, getD}
+use Rattle.questions.specs.Question.{ask, firstNo}
 use Rattle.timetable.specs.Timetable.{Station, Stop, Trip, Timetable, stopsOf, valid}
 
 unfoldable pub stationWords : List Station → List ℕ
@@ -83,6 +84,10 @@ rise a (b ∷ l) n = leb a b && rise b l n
 unfoldable pub chained : List ℕ → Bool
 chained w = eqb (startAt w 0) 0 && rise 0 (map (startAt w) (numbersFrom 1 (tripCount w))) (stopCount w)
 
--- "Could the timetable words come from an accepted text?" The crate accepted proves that this is so.
+-- "Could the timetable words come from an accepted text? 9" The crate accepted proves that this is what it decides.
 unfoldable pub isTimetable : List ℕ → Bool
 isTimetable w = chained w && valid (timetableOf w)
+
+-- "Are the slices long enough: timetable .. 16,384 16-bit words ..? 8", and question 9; 0 where both have a yes
+unfoldable pub timetableNumber : List ℕ → ℕ
+timetableNumber w = firstNo (ask 8 (leb 16384 (length w)) ∷ ask 9 (isTimetable w) ∷ [])

@@ -1,4 +1,15 @@
 // The abstract timetable, the words that hold it, and question 9: could these words come from an accepted text?
+ghost use mathlib.Core.Path.{_≡_};
+ghost use mathlib.Core.List.{map};
+ghost use Prim.Native.Nat.{_+_, _-_, _*_, _≤_, _<_};
+ghost use lib.ListN.{length, getD};
+ghost use Rattle.timetable.specs.Timetable.{
+    validStation, listed, leaves, ends, follows, runs, validTrip, validStations,
+};
+ghost use Rattle.timetable.specs.Words.{
+    stationCount, stopCount, stationAt, stopAt, startAt, isTimetable, timetableNumber,
+};
+ghost use Rattle.timetable.specs.Check.{begins, passes, stationsAt, stopsAt, tripsTest};
 
 // A station: what a change there takes and costs.
 pub struct Station {
@@ -13,4 +24,264 @@ pub struct Stop {
     pub arrive: u32,
     pub depart: u32,
     pub points: u32,
+}
+
+// ---- the words of a timetable, of which the header's counts are within the limits
+
+// Station i, counted from 0.
+pub fn station_at(words: &[u16], i: usize) -> Station
+    requires { ⌜ (16384 ≤ length (now words)) × (i < 64) ⌝ }
+    ensures { λ r. ⌜ r ≡ stationAt (now (words .entry)) i ⌝ }
+{
+    let place = 3 + 2 * i;
+    Station {
+        minutes: words::word(words, place),
+        points: words::word(words, place + 1),
+    }
+}
+
+// Stop i, counted from 0 over all trips.
+pub fn stop_at(words: &[u16], i: usize) -> Stop
+    requires {
+        ⌜ (16384 ≤ length (now words)) × (stationCount (now words) ≤ 64) × (i < 2048) ⌝
+    }
+    ensures { λ r. ⌜ r ≡ stopAt (now (words .entry)) i ⌝ }
+{
+    let place = 3 + 2 * words::word(words, 0) as usize + 4 * i;
+    Stop {
+        station: words::word(words, place),
+        arrive: words::word(words, place + 1),
+        depart: words::word(words, place + 2),
+        points: words::word(words, place + 3),
+    }
+}
+
+// The place of the first stop of trip k, counted from 0, among all stops; of the trip past the last, their number.
+pub fn start_at(words: &[u16], k: usize) -> usize
+    requires {
+        ⌜ (16384 ≤ length (now words))
+            × (stationCount (now words) ≤ 64)
+            × (stopCount (now words) ≤ 2048)
+            × (k ≤ 256) ⌝
+    }
+    ensures { λ r. ⌜ (r ≡ startAt (now (words .entry)) k) × (r < 65536) ⌝ }
+{
+    let stops = 3 + 2 * words::word(words, 0) as usize;
+    let place = stops + 4 * words::word(words, 2) as usize + k;
+    words::word(words, place) as usize
+}
+
+// ---- question 9, from its parts
+
+fn station_is_valid(s: Station) -> bool
+    ensures { λ r. ⌜ r ≡ validStation s ⌝ }
+{
+    if 240 < s.minutes {
+        return false;
+    }
+    if s.points < 1 {
+        return false;
+    }
+    s.points <= 1000
+}
+
+// The stop's station is one of n.
+fn is_listed(n: u32, s: Stop) -> bool
+    ensures { λ r. ⌜ r ≡ listed n s ⌝ }
+{
+    if s.station < 1 {
+        return false;
+    }
+    s.station <= n
+}
+
+fn stop_leaves(s: Stop) -> bool
+    ensures { λ r. ⌜ r ≡ leaves s ⌝ }
+{
+    if 2879 < s.depart {
+        return false;
+    }
+    s.points <= 100
+}
+
+fn stop_ends(s: Stop) -> bool
+    ensures { λ r. ⌜ r ≡ ends s ⌝ }
+{
+    if s.depart != 0 {
+        return false;
+    }
+    s.points == 0
+}
+
+// Stop s can come after stop b.
+fn stop_follows(n: u32, b: Stop, s: Stop) -> bool
+    ensures { λ r. ⌜ r ≡ follows n b s ⌝ }
+{
+    if !is_listed(n, s) {
+        return false;
+    }
+    if s.station == b.station {
+        return false;
+    }
+    if s.arrive <= b.depart {
+        return false;
+    }
+    s.arrive <= 2879
+}
+
+// A trip's first stop: listed, with no arrival, and left again.
+fn stop_begins(n: u32, s: Stop) -> bool
+    ensures { λ r. ⌜ r ≡ begins n s ⌝ }
+{
+    if !is_listed(n, s) {
+        return false;
+    }
+    if s.arrive != 0 {
+        return false;
+    }
+    stop_leaves(s)
+}
+
+// Stop s, after stop b, where the trip goes on.
+fn stop_passes(n: u32, b: Stop, s: Stop) -> bool
+    ensures { λ r. ⌜ r ≡ passes n b s ⌝ }
+{
+    if !stop_follows(n, b, s) {
+        return false;
+    }
+    if s.depart < s.arrive {
+        return false;
+    }
+    stop_leaves(s)
+}
+
+// The stops behind the first of a trip, which stands at place first, to the trip's end.
+fn trip_runs(words: &[u16], n: u32, first: usize, end: usize) -> bool
+    requires {
+        ⌜ (16384 ≤ length (now words)) × (stationCount (now words) ≤ 64) × (first < end) × (end ≤ 2048) ⌝
+    }
+    ensures {
+        λ r. ⌜ r ≡ runs n (stopAt (now (words .entry)) first) (stopsAt (now (words .entry)) (first + 1) end) ⌝
+    }
+{
+    let mut before = stop_at(words, first);
+    let mut i = first + 1;
+    loop {
+        if i == end {
+            return false;
+        }
+        let s = stop_at(words, i);
+        if i + 1 == end {
+            if stop_follows(n, before, s) {
+                return stop_ends(s);
+            }
+            return false;
+        }
+        if !stop_passes(n, before, s) {
+            return false;
+        }
+        before = s;
+        i += 1;
+    }
+}
+
+// The trip of the stops from place first up to place end.
+fn trip_is_valid(words: &[u16], n: u32, first: usize, end: usize) -> bool
+    requires { ⌜ (16384 ≤ length (now words)) × (stationCount (now words) ≤ 64) × (end ≤ 2048) ⌝ }
+    ensures { λ r. ⌜ r ≡ validTrip n (stopsAt (now (words .entry)) first end) ⌝ }
+{
+    if end <= first {
+        return false;
+    }
+    if !stop_begins(n, stop_at(words, first)) {
+        return false;
+    }
+    trip_runs(words, n, first, end)
+}
+
+fn stations_are_valid(words: &[u16], n: usize) -> bool
+    requires { ⌜ (16384 ≤ length (now words)) × (n ≤ 64) ⌝ }
+    ensures { λ r. ⌜ r ≡ validStations (stationsAt (now (words .entry)) 0 n) ⌝ }
+{
+    let mut i = 0;
+    while i < n {
+        if !station_is_valid(station_at(words, i)) {
+            return false;
+        }
+        i += 1;
+    }
+    true
+}
+
+// The trips stand one behind the other, from stop 0 to the last of all stops, and each is valid.
+fn trips_are_valid(words: &[u16], n: u32, trips: usize, stops: usize) -> bool
+    requires {
+        ⌜ (16384 ≤ length (now words))
+            × (stationCount (now words) ≤ 64)
+            × (stopCount (now words) ≤ 2048)
+            × (trips ≤ 256)
+            × (stops ≤ 2048)
+            × (startAt (now words) 0 ≡ 0) ⌝
+    }
+    ensures { λ r. ⌜ r ≡ tripsTest (now (words .entry)) n stops 0 0 trips ⌝ }
+{
+    let mut first = 0;
+    let mut k = 0;
+    while k < trips {
+        let end = start_at(words, k + 1);
+        if end < first {
+            return false;
+        }
+        if stops < end {
+            return false;
+        }
+        if !trip_is_valid(words, n, first, end) {
+            return false;
+        }
+        first = end;
+        k += 1;
+    }
+    first == stops
+}
+
+// Question 9.
+pub fn is_timetable(words: &[u16]) -> bool
+    requires { ⌜ 16384 ≤ length (now words) ⌝ }
+    ensures { λ r. ⌜ r ≡ isTimetable (now (words .entry)) ⌝ }
+{
+    let stations = words::word(words, 0);
+    if stations < 1 {
+        return false;
+    }
+    if 64 < stations {
+        return false;
+    }
+    let trips = words::word(words, 1);
+    if 256 < trips {
+        return false;
+    }
+    let stops = words::word(words, 2);
+    if 2048 < stops {
+        return false;
+    }
+    if start_at(words, 0) != 0 {
+        return false;
+    }
+    if !stations_are_valid(words, stations as usize) {
+        return false;
+    }
+    trips_are_valid(words, stations, trips as usize, stops as usize)
+}
+
+// Questions 8 and 9 to lent timetable words: 0, or the number of the first no.
+pub fn timetable_number(words: &[u16]) -> u32
+    ensures { λ r. ⌜ r ≡ timetableNumber (now (words .entry)) ⌝ }
+{
+    if words.len() < 16384 {
+        return 8;
+    }
+    if is_timetable(words) {
+        return 0;
+    }
+    9
 }

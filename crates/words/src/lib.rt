@@ -3,8 +3,16 @@
 ghost use mathlib.Core.Path.{_≡_};
 ghost use mathlib.Core.List.{[], _∷_};
 ghost use Prim.Native.Nat.{_+_, _≤_, _<_};
-ghost use lib.ListN.{length, take};
+ghost use lib.ListN.{length, getD, take};
 ghost use Rattle.words.specs.Put.{put};
+
+// The word at index i, as a number.
+pub fn word(s: &[u16], i: usize) -> u32
+    requires { ⌜ i < length (now s) ⌝ }
+    ensures { λ r. ⌜ (r ≡ getD (now (s .entry)) i 0) × (r < 65536) ⌝ }
+{
+    s[i] as u32
+}
 
 // Copies the first n words of src into dst, from index at on.
 pub fn copy(dst: &mut [u16], at: usize, src: &[u16], n: usize)

@@ -1,0 +1,29 @@
+-- What a host of C or Rust gets in one number of 64 bits: the refusal's number in the upper half, or 0; in the lower
+-- half the count, or on a refusal the line.
+use mathlib.Core.Path.{_≡_, refl, sym, ap, _∙_}
+use Prim.Native.Nat.{ℕ, _+_, _*_}
+use native.Mathlib.Nat.{add-zero, zero-add}
+use Rattle.reading.specs.declared.Reply.{Reply}
+use Rattle.reading.specs.declared.Reply.the-variants.{Done, Refused}
+use Rattle.reading.specs.Reading.{numberOf, lineOf, countOf}
+
+abbrev pub packed : (number low : ℕ) → ℕ
+packed number low = number * 4294967296 + low
+
+-- a reply of reading: of the count and the line one is 0
+unfoldable pub packedReply : Reply → ℕ
+packedReply r = packed (numberOf r) (countOf r + lineOf r)
+
+-- ---- the two cases
+module _ (reply : Reply) (r : ℕ) where
+  pub packed-done : (lines : ℕ) → r ≡ packed 0 lines → reply ≡ Done lines → r ≡ packedReply reply
+  unfolding packedReply
+  packed-done lines e f = e ∙ rw (f, add-zero)
+
+  pub packed-refused : (number line : ℕ) → r ≡ packed number line → reply ≡ Refused number line
+      → r ≡ packedReply reply
+  unfolding packedReply
+  packed-refused number line e f = e ∙ rw (f, zero-add)
+
+  pub packed-same : (other : Reply) → r ≡ packedReply reply → reply ≡ other → r ≡ packedReply other
+  packed-same other e f = e ∙ ap packedReply f

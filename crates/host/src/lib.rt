@@ -1,0 +1,50 @@
+// The public calls as a display's host of C or Rust sees them: numbers and slices only, and no condition is left for the
+// host to meet. Each passes on to a proved call and has that call's equations. include/dairyepoch.h declares them.
+ghost use mathlib.Core.Path.{_≡_};
+ghost use lib.ListN.{length};
+ghost use Rattle.timetable.specs.Words.{timetableNumber};
+ghost use Rattle.reading.specs.Reading.{readReply, readWords};
+ghost use Rattle.host.specs.Packed.{packed, packedReply};
+
+use reading::Reply;
+
+// The refusal's number, or 0, in the upper half, and the count or line in the lower.
+fn pack(number: u32, low: u32) -> u64
+    ensures { λ r. ⌜ r ≡ packed number low ⌝ }
+{
+    number as u64 * 4294967296 + low as u64
+}
+
+fn pack_reply(reply: Reply) -> u64
+    ensures { λ r. ⌜ r ≡ packedReply reply ⌝ }
+{
+    match reply {
+        Reply::Done { lines } => {
+            return pack(0, lines);
+        }
+        Reply::Refused { number, line } => {
+            return pack(number, line);
+        }
+    }
+}
+
+// Reads a timetable text into the lent timetable words.
+#[no_mangle]
+pub extern "C" fn dairyepoch_read(text: &[u8], timetable: &mut [u16]) -> u64
+    ensures reply {
+        λ r. ⌜ r ≡ packedReply (readReply (now (text .entry)) (length (now (timetable .entry)))) ⌝
+    }
+    ensures words {
+        λ _. ⌜ now (timetable .exit) ≡ readWords (now (text .entry)) (now (timetable .entry)) ⌝
+    }
+{
+    pack_reply(reading::read(text, timetable))
+}
+
+// Questions 8 and 9 to lent timetable words.
+#[no_mangle]
+pub extern "C" fn dairyepoch_check_timetable(timetable: &[u16]) -> u64
+    ensures { λ r. ⌜ r ≡ packed (timetableNumber (now (timetable .entry))) 0 ⌝ }
+{
+    pack(timetable::timetable_number(timetable), 0)
+}

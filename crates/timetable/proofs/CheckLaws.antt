@@ -1,0 +1,203 @@
+-- The ways out of the functions that decide question 9.
+use mathlib.Core.Path.{_≡_, refl, sym, ap, _∙_}
+use mathlib.Core.Bool.{Bool, true, false, not, cond, _&&_}
+use mathlib.Core.List.{List, [], _∷_, map}
+use Prim.Native.Nat.{ℕ, zero, suc, _+_, _-_, _≤_, _<_}
+use native.Mathlib.Omega.{arith}
+use borrow.Author.Tests.{le-leb, lt-leb, eq-eqb, ne-eqb, leb-true, eqb-true, not-true, not-false}
+use lib.Dec.{leb, ltb, eqb}
+use Rattle.questions.specs.Question.{and-left, and-right, and-true, and-false}
+use Rattle.timetable.specs.Timetable.{
+    Station,
+    Stop,
+    listed,
+    leaves,
+    ends,
+    follows,
+    runs,
+    validTrip,
+    validStation,
+    validStations,
+    validTrips
+}
+use Rattle.timetable.specs.Words.{stationAt, stopAt, startAt, tripAt, rise}
+use Rattle.timetable.specs.Check.{
+    begins,
+    passes,
+    stationsAt,
+    stopsAt,
+    tripsAt,
+    startsAt,
+    tripsTest,
+    stations-more,
+    stations-none,
+    stops-more,
+    stops-none,
+    trips-more,
+    trips-none,
+    starts-more,
+    starts-none
+}
+
+-- ---- a first stop
+module _ (n : ℕ) (s : Stop) (t : Bool) (is : t ≡ listed n s) where
+  pub begins-unlisted : not t ≡ true → false ≡ begins n s
+  unfolding begins
+  begins-unlisted h = simp (← is, not-true t h)
+
+  module _ (in-list : not t ≡ false) where
+    pub begins-arriving : (s .arrive ≡ 0 → ⊥) → false ≡ begins n s
+    unfolding begins
+    begins-arriving h = simp (← is, not-false t in-list, ne-eqb (s .arrive) 0 h)
+
+    pub begins-leaving : s .arrive ≡ 0 → (u : Bool) → u ≡ leaves s → u ≡ begins n s
+    unfolding begins
+    begins-leaving h u e = e ∙ simp (← is, not-false t in-list, eq-eqb (s .arrive) 0 h)
+
+-- ---- a stop in between
+module _ (n : ℕ) (b s : Stop) (t : Bool) (is : t ≡ follows n b s) where
+  pub passes-astray : not t ≡ true → false ≡ passes n b s
+  unfolding passes
+  passes-astray h = simp (← is, not-true t h)
+
+  module _ (after : not t ≡ false) where
+    pub passes-early : s .depart < s .arrive → false ≡ passes n b s
+    unfolding passes
+    passes-early h = simp (← is, not-false t after, lt-leb (s .arrive) (s .depart) h)
+
+    pub passes-leaving : s .arrive ≤ s .depart → (u : Bool) → u ≡ leaves s → u ≡ passes n b s
+    unfolding passes
+    passes-leaving h u e = e ∙ simp (← is, not-false t after, le-leb (s .arrive) (s .depart) h)
+
+-- ---- stations, one by one
+module _ (w : List ℕ) (n i : ℕ) (left : validStations (stationsAt w 0 n) ≡ validStations (stationsAt w i n)) where
+  pub stations-done : n ≤ i → true ≡ validStations (stationsAt w 0 n)
+  unfolding validStations
+  stations-done h = sym (left ∙ ap validStations (stations-none w i n h))
+
+  module _ (h : i < n) (s : Station) (is : s ≡ stationAt w i) (t : Bool) (test : t ≡ validStation s) where
+    next : validStations (stationsAt w 0 n) ≡ (t && validStations (stationsAt w (i + 1) n))
+    unfolding validStations
+    next = left ∙ ap validStations (stations-more w i n h) ∙ rw (test, is)
+
+    pub station-bad : not t ≡ true → false ≡ validStations (stationsAt w 0 n)
+    station-bad e = sym (next ∙ rw (not-true t e))
+
+    pub station-good : not t ≡ false → validStations (stationsAt w 0 n) ≡ validStations (stationsAt w (i + 1) n)
+    station-good e = next ∙ rw (not-false t e)
+
+-- ---- stops of a trip, one by one
+pub run-starts : (w : List ℕ) (n : ℕ) (s : Stop) (i first end : ℕ) → s ≡ stopAt w first
+    → runs n (stopAt w first) (stopsAt w i end) ≡ runs n s (stopsAt w i end)
+run-starts w n s i first end e = ap (λ (b : Stop). runs n b (stopsAt w i end)) (sym e)
+
+module _ (w : List ℕ) (n : ℕ) (whole : Bool) (before : Stop) (i end : ℕ)
+    (left : whole ≡ runs n before (stopsAt w i end)) where
+  pub run-short : i ≡ end → false ≡ whole
+  unfolding runs
+  run-short e = sym (left ∙ ap (runs n before) (stops-none w i end (omega arith)))
+
+  module _ (s : Stop) (is : s ≡ stopAt w i) (h : i ≤ end) (g : i ≡ end → ⊥) where
+    module _ (e : i + 1 ≡ end) (t : Bool) (after : t ≡ follows n before s) where
+      last : whole ≡ (t && ends s)
+      unfolding runs
+      last =
+          left
+          ∙ ap (runs n before) (stops-more w i end (omega arith) ∙ ap (λ l. stopAt w i ∷ l) (stops-none w (i + 1) end (omega arith)))
+          ∙ rw (after, is)
+
+      pub run-ends : t ≡ true → (u : Bool) → u ≡ ends s → u ≡ whole
+      run-ends y u f = f ∙ sym (last ∙ rw y)
+
+      pub run-astray : t ≡ false → false ≡ whole
+      run-astray y = sym (last ∙ rw y)
+
+    module _ (e : i + 1 ≡ end → ⊥) (t : Bool) (on : t ≡ passes n before s) where
+      middle : whole ≡ (t && runs n s (stopsAt w (i + 1) end))
+      unfolding runs passes
+      middle =
+          let two = stops-more w (i + 1) end (omega arith) in
+          left
+          ∙ ap (runs n before) (stops-more w i end (omega arith) ∙ ap (λ l. stopAt w i ∷ l) two)
+          ∙ rw (on, is, two)
+
+      pub run-breaks : not t ≡ true → false ≡ whole
+      run-breaks y = sym (middle ∙ rw (not-true t y))
+
+      pub run-goes-on : not t ≡ false → whole ≡ runs n s (stopsAt w (i + 1) end)
+      run-goes-on y = middle ∙ rw (not-false t y)
+
+-- ---- a trip
+module _ (w : List ℕ) (n first end : ℕ) where
+  pub trip-empty : end ≤ first → false ≡ validTrip n (stopsAt w first end)
+  unfolding validTrip
+  trip-empty h = sym (ap (validTrip n) (stops-none w first end h))
+
+  module _ (h : first < end) (s : Stop) (is : s ≡ stopAt w first) (t : Bool) (test : t ≡ begins n s) where
+    begun : validTrip n (stopsAt w first end) ≡ (t && runs n (stopAt w first) (stopsAt w (first + 1) end))
+    unfolding validTrip begins
+    begun = ap (validTrip n) (stops-more w first end h) ∙ rw (test, is)
+
+    pub trip-unbegun : not t ≡ true → false ≡ validTrip n (stopsAt w first end)
+    trip-unbegun y = sym (begun ∙ rw (not-true t y))
+
+    pub trip-begun : not t ≡ false → (u : Bool) → u ≡ runs n (stopAt w first) (stopsAt w (first + 1) end)
+        → u ≡ validTrip n (stopsAt w first end)
+    trip-begun y u e = e ∙ sym (begun ∙ rw (not-false t y))
+
+-- ---- trips, one by one
+-- starts that rise to n are at most n
+rise-most : (b : ℕ) (l : List ℕ) (n : ℕ) → rise b l n ≡ true → b ≤ n
+unfolding rise
+rise-most b [] n e = omega (arith, eqb-true b n e)
+rise-most b (c ∷ l) n e =
+    omega (arith, leb-true b c (and-left (leb b c) (rise c l n) e), rise-most c l n (and-right (leb b c) (rise c l n) e))
+
+rise-beyond : (b : ℕ) (l : List ℕ) (n : ℕ) → n < b → rise b l n ≡ false
+rise-beyond b l n h = by-test (rise b l n) (rise-most b l n)
+  where
+    by-test : (t : Bool) → (t ≡ true → b ≤ n) → t ≡ false
+    by-test true f = absurd (omega (arith, f refl))
+    by-test false f = refl
+
+module _ (w : List ℕ) (n stops k first trips : ℕ) (whole : Bool) (left : whole ≡ tripsTest w n stops k first trips) where
+  pub trips-done : k ≤ trips → trips ≤ k → eqb first stops ≡ whole
+  unfolding tripsTest rise validTrips
+  trips-done h g =
+      sym
+      (left
+      ∙ rw (starts-none w (k + 1) (trips + 1) (omega arith), trips-none w k trips g)
+      (and-true (eqb first stops)))
+
+  module _ (h : k < trips) (end : ℕ) (is-end : end ≡ startAt w (k + 1)) where
+    rises : rise first (startsAt w (k + 1) (trips + 1)) stops
+        ≡ (leb first end && rise end (startsAt w (k + 1 + 1) (trips + 1)) stops)
+    unfolding rise
+    rises = rw (starts-more w (k + 1) (trips + 1) (omega arith), is-end)
+
+    pub trip-falls : end < first → false ≡ whole
+    unfolding tripsTest
+    trip-falls e = sym (left ∙ rw (rises, lt-leb first end e))
+
+    pub trip-beyond : stops < end → false ≡ whole
+    unfolding tripsTest
+    trip-beyond e =
+        let rest : List ℕ = startsAt w (k + 1 + 1) (trips + 1) in
+        sym (left ∙ rw (rises, and-false (leb first end) (rise end rest stops) (rise-beyond end rest stops e)))
+
+    module _ (is-first : first ≡ startAt w k) (t : Bool) (test : t ≡ validTrip n (stopsAt w first end)) where
+      goes : validTrips n (tripsAt w k trips) ≡ (t && validTrips n (tripsAt w (k + 1) trips))
+      unfolding validTrips tripAt stopsAt
+      goes = rw (trips-more w k trips h, test, is-first, is-end)
+
+      pub trip-bad : not t ≡ true → false ≡ whole
+      unfolding tripsTest
+      trip-bad e =
+          let none : validTrips n (tripsAt w k trips) ≡ false = goes ∙ rw (not-true t e) in
+          sym
+          (left
+          ∙ and-false (rise first (startsAt w (k + 1) (trips + 1)) stops) (validTrips n (tripsAt w k trips)) none)
+
+      pub trip-good : not t ≡ false → first ≤ end → whole ≡ tripsTest w n stops (k + 1) end trips
+      unfolding tripsTest
+      trip-good e f = left ∙ rw (rises, goes, not-false t e, le-leb first end f)

@@ -1,0 +1,63 @@
+-- The ways out of `is_timetable`: its tests are those of `decision`, one after the other.
+use mathlib.Core.Path.{_≡_, refl, sym, ap, _∙_}
+use mathlib.Core.Bool.{Bool, true, false, not, cond, _&&_}
+use mathlib.Core.List.{List}
+use Prim.Native.Nat.{ℕ, _+_, _≤_, _<_}
+use borrow.Author.Tests.{le-leb, lt-leb, eq-eqb, ne-eqb, not-true, not-false}
+use lib.Dec.{leb, eqb}
+use lib.ListN.{getD}
+use Rattle.timetable.specs.Timetable.{validStations}
+use Rattle.timetable.specs.Words.{startAt, isTimetable}
+use Rattle.timetable.specs.Check.{stationsAt, tripsTest, decided}
+
+module _ (w : List ℕ) (s : ℕ) (is-s : s ≡ getD w 0 0) where
+  pub no-stations : s < 1 → false ≡ isTimetable w
+  no-stations h = sym (decided w ∙ simp (← is-s, lt-leb 1 s h))
+
+  module _ (some : 1 ≤ s) where
+    pub many-stations : 64 < s → false ≡ isTimetable w
+    many-stations h = sym (decided w ∙ simp (← is-s, le-leb 1 s some, lt-leb s 64 h))
+
+    module _ (few : s ≤ 64) (t : ℕ) (is-t : t ≡ getD w 1 0) where
+      pub many-trips : 256 < t → false ≡ isTimetable w
+      many-trips h = sym (decided w ∙ simp (← is-s, ← is-t, le-leb 1 s some, le-leb s 64 few, lt-leb t 256 h))
+
+      module _ (few-trips : t ≤ 256) (n : ℕ) (is-n : n ≡ getD w 2 0) where
+        pub many-stops : 2048 < n → false ≡ isTimetable w
+        many-stops h =
+            sym
+            (decided w
+            ∙ simp (
+                ← is-s,
+                ← is-t,
+                ← is-n,
+                le-leb 1 s some,
+                le-leb s 64 few,
+                le-leb t 256 few-trips,
+                lt-leb n 2048 h
+            ))
+
+        module _ (few-stops : n ≤ 2048) (a : ℕ) (is-a : a ≡ startAt w 0) where
+          headed : isTimetable w ≡ (eqb a 0 && validStations (stationsAt w 0 s) && tripsTest w s n 0 0 t)
+          headed =
+              decided w
+              ∙ simp (
+                  ← is-s,
+                  ← is-t,
+                  ← is-n,
+                  ← is-a,
+                  le-leb 1 s some,
+                  le-leb s 64 few,
+                  le-leb t 256 few-trips,
+                  le-leb n 2048 few-stops
+              )
+
+          pub late-start : (a ≡ 0 → ⊥) → false ≡ isTimetable w
+          late-start h = sym (headed ∙ simp (ne-eqb a 0 h))
+
+          module _ (start : a ≡ 0) (v : Bool) (is-v : v ≡ validStations (stationsAt w 0 s)) where
+            pub bad-stations : not v ≡ true → false ≡ isTimetable w
+            bad-stations h = sym (headed ∙ simp (eq-eqb a 0 start, ← is-v, not-true v h))
+
+            pub trips-decide : not v ≡ false → (r : Bool) → r ≡ tripsTest w s n 0 0 t → r ≡ isTimetable w
+            trips-decide h r e = e ∙ sym (headed ∙ simp (eq-eqb a 0 start, ← is-v, not-false v h))

@@ -1,0 +1,4 @@
+pub mod TestLaws
+pub mod WordAtLaws
+pub mod CheckLaws
+pub mod DecideLaws

@@ -1,0 +1,78 @@
+-- The ways out of the tests of one station or stop.
+use mathlib.Core.Path.{_≡_, refl, sym, ap, _∙_}
+use mathlib.Core.Bool.{Bool, true, false, not, cond, _&&_}
+use Prim.Native.Nat.{ℕ, _+_, _≤_, _<_}
+use borrow.Author.Tests.{lt-ltb, le-ltb, le-leb, lt-leb, eq-eqb, ne-eqb, not-true, not-false}
+use lib.Dec.{leb, ltb, eqb}
+use Rattle.timetable.specs.Timetable.{Station, Stop, validStation, listed, leaves, ends, follows}
+
+module _ (s : Station) where
+  pub minutes-above : 240 < s .minutes → false ≡ validStation s
+  unfolding validStation
+  minutes-above h = simp (lt-leb (s .minutes) 240 h)
+
+  module _ (m : s .minutes ≤ 240) where
+    pub points-below : s .points < 1 → false ≡ validStation s
+    unfolding validStation
+    points-below h = simp (le-leb (s .minutes) 240 m, lt-leb 1 (s .points) h)
+
+    pub points-decide : 1 ≤ s .points → leb (s .points) 1000 ≡ validStation s
+    unfolding validStation
+    points-decide h = simp (le-leb (s .minutes) 240 m, le-leb 1 (s .points) h)
+
+module _ (s : Stop) where
+  module _ (n : ℕ) where
+    pub no-station : s .station < 1 → false ≡ listed n s
+    unfolding listed
+    no-station h = simp (lt-leb 1 (s .station) h)
+
+    pub station-decides : 1 ≤ s .station → leb (s .station) n ≡ listed n s
+    unfolding listed
+    station-decides h = simp (le-leb 1 (s .station) h)
+
+  pub depart-above : 2879 < s .depart → false ≡ leaves s
+  unfolding leaves
+  depart-above h = simp (lt-leb (s .depart) 2879 h)
+
+  pub ride-decides : s .depart ≤ 2879 → leb (s .points) 100 ≡ leaves s
+  unfolding leaves
+  ride-decides h = simp (le-leb (s .depart) 2879 h)
+
+  pub depart-some : (s .depart ≡ 0 → ⊥) → false ≡ ends s
+  unfolding ends
+  depart-some h = simp (ne-eqb (s .depart) 0 h)
+
+  pub ride-none : s .depart ≡ 0 → eqb (s .points) 0 ≡ ends s
+  unfolding ends
+  ride-none h = simp (eq-eqb (s .depart) 0 h)
+
+module _ (n : ℕ) (b s : Stop) (t : Bool) (is : t ≡ listed n s) where
+  pub unlisted : not t ≡ true → false ≡ follows n b s
+  unfolding follows
+  unlisted h = simp (← is, not-true t h)
+
+  module _ (in-list : not t ≡ false) where
+    pub same-station : s .station ≡ b .station → false ≡ follows n b s
+    unfolding follows
+    same-station h = simp (← is, not-false t in-list, eq-eqb (s .station) (b .station) h)
+
+    module _ (unlike : s .station ≡ b .station → ⊥) where
+      pub too-early : s .arrive ≤ b .depart → false ≡ follows n b s
+      unfolding follows
+      too-early h =
+          simp (
+              ← is,
+              not-false t in-list,
+              ne-eqb (s .station) (b .station) unlike,
+              le-ltb (b .depart) (s .arrive) h
+          )
+
+      pub arrive-decides : b .depart < s .arrive → leb (s .arrive) 2879 ≡ follows n b s
+      unfolding follows
+      arrive-decides h =
+          simp (
+              ← is,
+              not-false t in-list,
+              ne-eqb (s .station) (b .station) unlike,
+              lt-ltb (b .depart) (s .arrive) h
+          )
