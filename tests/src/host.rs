@@ -58,25 +58,25 @@ impl Host {
         let reply = ffi::check_timetable(words);
         assert!(words == before, "the words changed while they were checked");
         let text = text_of(words);
-        let number = match text {
+        let number = match &text {
             _ if words.len() < TIMETABLE_WORDS => 8,
-            None => 9,
             Some(_) => 0,
+            None => 9,
         };
         let expected = Reply { number, beside: 0 };
         assert_eq!(reply, expected, "the reply (left) and the reference's, for the words\n{}", first_words(words));
-        if number == 0 {
-            self.read_leads_to(&text.unwrap_or_default(), words);
+        if let (0, Some(text)) = (number, text) {
+            self.read_into(&text, words);
         }
         number
     }
 
-    /// Fails unless reading accepts `text` and writes the words that `words` begins with.
-    fn read_leads_to(&mut self, text: &[u8], words: &[u16]) {
+    /// Fails unless reading accepts the text and writes the table that `words` begins with.
+    fn read_into(&mut self, text: &[u8], words: &[u16]) {
         assert_eq!(self.read(text).number, 0);
         let mut written = vec![0; TIMETABLE_WORDS];
         ffi::read(text, &mut written);
-        let length = table_length(&written);
+        let length = table_length(words);
         assert_eq!(written[..length], words[..length], "the words of\n{}", excerpt(text));
     }
 }
