@@ -42,9 +42,8 @@ pub fn largest(random: &mut Random) -> Timetable {
     with_trips(random, STATIONS_MOST, &lengths)
 }
 
-/// As `largest`, with 8 stops to each trip and, in every field, a value of the most digits: a text hardly to be
-/// surpassed in length.
-pub fn longest_lines() -> Timetable {
+/// As `largest`, with 8 stops to each trip and values of the most digits, so that the text's lines are long.
+pub fn long_lines() -> Timetable {
     let stations =
         vec![Station { change_minutes: CHANGE_MINUTES_MOST, change_penalty: CHANGE_PENALTY_MOST }; STATIONS_MOST];
     let trip = (0..8u16).map(|place| Stop {
@@ -144,7 +143,7 @@ mod tests {
     #[test]
     fn the_largest_timetables_read_back_from_their_texts() {
         let mut random = Random::new(2);
-        for timetable in (0..20).map(|_| largest(&mut random)).chain([longest_lines()]) {
+        for timetable in (0..20).map(|_| largest(&mut random)).chain([long_lines()]) {
             assert_eq!(read(&timetable.to_text()).as_ref(), Ok(&timetable));
             assert_eq!(timetable.stations.len(), STATIONS_MOST);
             assert_eq!(timetable.trips.len(), TRIPS_MOST);

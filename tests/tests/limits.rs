@@ -1,7 +1,7 @@
 //! Texts and slices one below, at and one above each limit.
 
 use dairyepoch_tests::examples::M;
-use dairyepoch_tests::generate::longest_lines;
+use dairyepoch_tests::generate::long_lines;
 use dairyepoch_tests::host::Host;
 
 fn stations(count: usize) -> String {
@@ -143,7 +143,7 @@ fn all_three_counts_full() {
     host.expect_read(&full, 0, 2_112);
     host.expect_read(full.clone() + "T,257,1,1,,0,0\n", 5, 2_113);
     host.expect_read(full + "S,65,0,1\n", 4, 2_113);
-    host.expect_read(longest_lines().to_text(), 0, 2_112);
+    host.expect_read(long_lines().to_text(), 0, 2_112);
 }
 
 /// The text, made up to a length by bytes that are part of no line.
@@ -189,7 +189,7 @@ fn a_timetable_slice_below_16384_words_gives_8_before_all_else() {
         host.expect_read("", 8, 0);
         host.expect_read("x", 8, 0);
         host.expect_read(padded(M, 65_537, b'\n'), 8, 0);
-        host.expect_read(longest_lines().to_text(), 8, 0);
+        host.expect_read(long_lines().to_text(), 8, 0);
     }
 }
 
@@ -201,6 +201,6 @@ fn a_timetable_slice_of_16384_words_or_more_is_long_enough() {
         host.expect_read("", 7, 1);
         host.expect_read("x", 2, 1);
         host.expect_read(padded(M, 65_537, b'\n'), 1, 0);
-        host.expect_read(longest_lines().to_text(), 0, 2_112);
+        host.expect_read(long_lines().to_text(), 0, 2_112);
     }
 }

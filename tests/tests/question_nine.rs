@@ -1,7 +1,7 @@
 //! Could the timetable words come from an accepted text? Asked of words that do, and of words that were damaged.
 
 use dairyepoch_tests::ffi;
-use dairyepoch_tests::generate::{largest, longest_lines, timetable, with_trips, Size, LARGE, MIDDLING, SMALL};
+use dairyepoch_tests::generate::{largest, long_lines, timetable, with_trips, Size, LARGE, MIDDLING, SMALL};
 use dairyepoch_tests::host::Host;
 use dairyepoch_tests::random::Random;
 use dairyepoch_tests::timetable::{Onward, Station, Stop, Timetable};
@@ -67,7 +67,7 @@ fn words_of_large_texts_have_a_yes() {
 fn words_of_the_largest_texts_have_a_yes() {
     let mut host = Host::new(1);
     let mut random = Random::new(2);
-    for timetable in (0..50).map(|_| largest(&mut random)).chain([longest_lines()]).collect::<Vec<_>>() {
+    for timetable in (0..50).map(|_| largest(&mut random)).chain([long_lines()]).collect::<Vec<_>>() {
         assert_eq!(host.check_timetable(&lent(&to_words(&timetable), &mut random)), 0);
     }
 }

@@ -134,12 +134,12 @@ fn empty_lines_give_2_wherever_they_stand() {
 
 #[test]
 fn station_values_out_of_range_give_3() {
-    let third = |number, beside| move |line| (line, number, beside);
+    let give = |number| move |line| (line, number, 3);
     let passes = ["S,3,0,1", "S,3,240,1", "S,3,0,1000", "S,3,240,1000", "S,3,1,999"];
     let refused =
         ["S,3,241,1", "S,3,0,0", "S,3,0,1001", "S,3,9999,1", "S,3,0,9999", "S,3,9999,9999", "S,3,241,0", "S,3,256,1"];
-    expect_after(STATIONS, &passes.map(third(0, 3)));
-    expect_after(STATIONS, &refused.map(third(3, 3)));
+    expect_after(STATIONS, &passes.map(give(0)));
+    expect_after(STATIONS, &refused.map(give(3)));
 }
 
 #[test]

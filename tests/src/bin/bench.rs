@@ -6,14 +6,14 @@ use std::hint::black_box;
 use std::time::{Duration, Instant};
 
 use dairyepoch_tests::ffi::{check_timetable, read, Reply};
-use dairyepoch_tests::generate::longest_lines;
+use dairyepoch_tests::generate::long_lines;
 use dairyepoch_tests::reference;
 use dairyepoch_tests::words::{text_of, to_words, TIMETABLE_WORDS};
 
 const ROUNDS: usize = 1_001;
 
 fn main() {
-    let text = longest_lines().to_text();
+    let text = long_lines().to_text();
     let mut words = vec![0; TIMETABLE_WORDS];
     let lines = 64 + 2_048;
     assert_eq!(read(&text, &mut words), Reply { number: 0, beside: lines }, "the largest text is accepted");
