@@ -1,0 +1,284 @@
+//! Ways in which a timetable text comes to harm.
+
+#![allow(clippy::ptr_arg)] // every damage is of one type, whether or not it changes the length
+
+use crate::random::Random;
+
+pub type Damage = fn(&mut Random, &mut Vec<u8>);
+
+pub const DAMAGES: &[Damage] = &[
+    flip_a_bit,
+    set_a_byte,
+    insert_a_byte,
+    remove_a_byte,
+    cut_the_end_off,
+    drop_the_final_newline,
+    append_bytes,
+    drop_a_line,
+    double_a_line,
+    swap_neighbours,
+    swap_two_lines,
+    insert_an_empty_line,
+    join_two_lines,
+    end_a_line_with_carriage_return,
+    put_a_station_last,
+    empty_a_field,
+    fill_a_field,
+    add_a_leading_zero,
+    write_five_digits,
+    add_a_sign_or_blank,
+    count_one_up,
+    count_one_down,
+    put_an_edge_in_a_field,
+    swap_two_fields,
+    add_a_comma,
+    drop_a_comma,
+    change_the_kind,
+    add_a_station,
+    add_a_trip,
+    add_a_stop,
+];
+
+/// Bytes that have a part in the text, or that careless readers give one.
+const TELLING_BYTES: &[u8] = b"ST,0123456789\n\r\t -+.\"st\x00\x7f\x80\xff:/";
+
+/// Numbers at the edges of the ranges and counts.
+const EDGES: &[&str] = &[
+    "0", "1", "2", "63", "64", "65", "99", "100", "101", "239", "240", "241", "255", "256", "257", "999", "1000",
+    "1001", "2047", "2048", "2049", "2878", "2879", "2880", "9999", "10000", "65535", "65536",
+];
+
+/// Does up to three damages to a copy of the text.
+pub fn damaged(random: &mut Random, text: &[u8]) -> Vec<u8> {
+    let mut text = text.to_vec();
+    for _ in 0..random.within(1..=3) {
+        random.pick(DAMAGES)(random, &mut text);
+    }
+    text
+}
+
+fn flip_a_bit(random: &mut Random, text: &mut Vec<u8>) {
+    change_a_byte(random, text, |random, byte| byte ^ (1 << random.below(8)));
+}
+
+fn set_a_byte(random: &mut Random, text: &mut Vec<u8>) {
+    change_a_byte(random, text, |random, _| random.pick(TELLING_BYTES));
+}
+
+fn change_a_byte(random: &mut Random, text: &mut [u8], change: fn(&mut Random, u8) -> u8) {
+    if !text.is_empty() {
+        let at = random.below(text.len());
+        text[at] = change(random, text[at]);
+    }
+}
+
+fn insert_a_byte(random: &mut Random, text: &mut Vec<u8>) {
+    let byte = if random.one_in(4) { random.byte() } else { random.pick(TELLING_BYTES) };
+    text.insert(random.within(0..=text.len()), byte);
+}
+
+fn remove_a_byte(random: &mut Random, text: &mut Vec<u8>) {
+    if !text.is_empty() {
+        text.remove(random.below(text.len()));
+    }
+}
+
+fn cut_the_end_off(random: &mut Random, text: &mut Vec<u8>) {
+    text.truncate(random.within(0..=text.len()));
+}
+
+fn drop_the_final_newline(_: &mut Random, text: &mut Vec<u8>) {
+    text.pop();
+}
+
+fn append_bytes(random: &mut Random, text: &mut Vec<u8>) {
+    for _ in 0..random.within(1..=5) {
+        text.push(random.pick(TELLING_BYTES));
+    }
+}
+
+/// The lines of a text, each with its line end.
+fn change_lines(text: &mut Vec<u8>, change: impl FnOnce(&mut Vec<Vec<u8>>)) {
+    let mut lines: Vec<Vec<u8>> = text.split_inclusive(|&byte| byte == b'\n').map(<[u8]>::to_vec).collect();
+    if !lines.is_empty() {
+        change(&mut lines);
+        *text = lines.concat();
+    }
+}
+
+fn drop_a_line(random: &mut Random, text: &mut Vec<u8>) {
+    change_lines(text, |lines| {
+        lines.remove(random.below(lines.len()));
+    });
+}
+
+fn double_a_line(random: &mut Random, text: &mut Vec<u8>) {
+    change_lines(text, |lines| {
+        let at = random.below(lines.len());
+        lines.insert(at, lines[at].clone());
+    });
+}
+
+fn swap_neighbours(random: &mut Random, text: &mut Vec<u8>) {
+    change_lines(text, |lines| {
+        let at = random.below(lines.len());
+        lines.swap(at.saturating_sub(1), at);
+    });
+}
+
+fn swap_two_lines(random: &mut Random, text: &mut Vec<u8>) {
+    change_lines(text, |lines| {
+        let (one, other) = (random.below(lines.len()), random.below(lines.len()));
+        lines.swap(one, other);
+    });
+}
+
+fn insert_an_empty_line(random: &mut Random, text: &mut Vec<u8>) {
+    change_lines(text, |lines| lines.insert(random.within(0..=lines.len()), b"\n".to_vec()));
+}
+
+fn join_two_lines(random: &mut Random, text: &mut Vec<u8>) {
+    change_lines(text, |lines| {
+        let at = random.below(lines.len());
+        lines[at].pop();
+    });
+}
+
+fn end_a_line_with_carriage_return(random: &mut Random, text: &mut Vec<u8>) {
+    change_lines(text, |lines| {
+        let at = random.below(lines.len());
+        lines[at].pop();
+        lines[at].extend(random.pick(&[&b"\r\n"[..], b"\r", b"\n\r"]));
+    });
+}
+
+fn put_a_station_last(random: &mut Random, text: &mut Vec<u8>) {
+    change_lines(text, |lines| {
+        let stations = lines.iter().take_while(|line| line.starts_with(b"S")).count();
+        if stations > 0 {
+            let station = lines.remove(random.below(stations));
+            lines.push(station);
+        }
+    });
+}
+
+/// The fields of some line, its kind the first.
+fn change_fields(random: &mut Random, text: &mut Vec<u8>, change: impl FnOnce(&mut Random, &mut Vec<Vec<u8>>)) {
+    change_lines(text, |lines| {
+        let at = random.below(lines.len());
+        let line = lines[at].strip_suffix(b"\n").unwrap_or(&lines[at]);
+        let mut fields: Vec<Vec<u8>> = line.split(|&byte| byte == b',').map(<[u8]>::to_vec).collect();
+        change(random, &mut fields);
+        lines[at] = fields.join(&b","[..]);
+        lines[at].push(b'\n');
+    });
+}
+
+fn change_a_field(random: &mut Random, text: &mut Vec<u8>, change: impl FnOnce(&mut Random, &mut Vec<u8>)) {
+    change_fields(random, text, |random, fields| {
+        let at = random.below(fields.len());
+        change(random, &mut fields[at]);
+    });
+}
+
+fn empty_a_field(random: &mut Random, text: &mut Vec<u8>) {
+    change_a_field(random, text, |_, field| field.clear());
+}
+
+/// Fills a field if it is empty: the last fields of a trip's end both, so that the trip goes on.
+fn fill_a_field(random: &mut Random, text: &mut Vec<u8>) {
+    change_fields(random, text, |random, fields| {
+        for field in fields.iter_mut().filter(|field| field.is_empty()) {
+            field.extend(random.within(0..=2_900).to_string().bytes());
+        }
+    });
+}
+
+fn add_a_leading_zero(random: &mut Random, text: &mut Vec<u8>) {
+    change_a_field(random, text, |_, field| field.insert(0, b'0'));
+}
+
+fn write_five_digits(random: &mut Random, text: &mut Vec<u8>) {
+    change_a_field(random, text, |random, field| *field = random.within(10_000..=99_999).to_string().into_bytes());
+}
+
+fn add_a_sign_or_blank(random: &mut Random, text: &mut Vec<u8>) {
+    change_a_field(random, text, |random, field| {
+        field.insert(random.within(0..=field.len()), random.pick(b"+- \t."));
+    });
+}
+
+fn count_one_up(random: &mut Random, text: &mut Vec<u8>) {
+    change_a_number(random, text, |number| number + 1);
+}
+
+fn count_one_down(random: &mut Random, text: &mut Vec<u8>) {
+    change_a_number(random, text, |number| number.saturating_sub(1));
+}
+
+fn change_a_number(random: &mut Random, text: &mut Vec<u8>, change: fn(u64) -> u64) {
+    change_a_field(random, text, |_, field| {
+        if let Some(number) = std::str::from_utf8(field).ok().and_then(|digits| digits.parse().ok()) {
+            *field = change(number).to_string().into_bytes();
+        }
+    });
+}
+
+fn put_an_edge_in_a_field(random: &mut Random, text: &mut Vec<u8>) {
+    change_a_field(random, text, |random, field| *field = random.pick(EDGES).as_bytes().to_vec());
+}
+
+fn swap_two_fields(random: &mut Random, text: &mut Vec<u8>) {
+    change_fields(random, text, |random, fields| {
+        let (one, other) = (random.below(fields.len()), random.below(fields.len()));
+        fields.swap(one, other);
+    });
+}
+
+fn add_a_comma(random: &mut Random, text: &mut Vec<u8>) {
+    change_fields(random, text, |random, fields| fields.insert(random.within(0..=fields.len()), Vec::new()));
+}
+
+fn drop_a_comma(random: &mut Random, text: &mut Vec<u8>) {
+    change_fields(random, text, |random, fields| {
+        let at = random.below(fields.len());
+        if at + 1 < fields.len() {
+            let after = fields.remove(at + 1);
+            fields[at].extend(after);
+        }
+    });
+}
+
+fn change_the_kind(random: &mut Random, text: &mut Vec<u8>) {
+    change_fields(random, text, |random, fields| {
+        fields[0] = random.pick(&["S", "T", "s", "t", "W", "", "SS", "ST", "Q"]).as_bytes().to_vec();
+    });
+}
+
+/// Adds the next station after the others: a fault only where the stations are full.
+fn add_a_station(_: &mut Random, text: &mut Vec<u8>) {
+    change_lines(text, |lines| {
+        let stations = lines.iter().take_while(|line| line.starts_with(b"S")).count();
+        lines.insert(stations, format!("S,{},0,1\n", stations + 1).into_bytes());
+    });
+}
+
+/// Adds a trip at the end: a fault only where the trips or stops are full, or the last trip is open.
+fn add_a_trip(_: &mut Random, text: &mut Vec<u8>) {
+    let trip = last_number(text, 1) + 1;
+    text.extend(format!("T,{trip},1,1,,0,0\nT,{trip},2,2,1,,\n").bytes());
+}
+
+/// Adds a stop to the last trip: a fault, since that trip has ended, unless something opened it.
+fn add_a_stop(random: &mut Random, text: &mut Vec<u8>) {
+    let (trip, stop) = (last_number(text, 1), last_number(text, 2) + 1);
+    let station = random.within(1..=3);
+    text.extend(format!("T,{trip},{stop},{station},2879,,\n").bytes());
+}
+
+/// The number in a field of the last line, if that is a stop.
+fn last_number(text: &[u8], field: usize) -> u64 {
+    let last = text.split(|&byte| byte == b'\n').rfind(|line| line.starts_with(b"T,"));
+    let digits = last.and_then(|line| line.split(|&byte| byte == b',').nth(field));
+    digits.and_then(|digits| std::str::from_utf8(digits).ok()).and_then(|digits| digits.parse().ok()).unwrap_or(0)
+}

@@ -1,0 +1,143 @@
+//! A display's host: it lends words to the calls and looks at what they did with them.
+
+use crate::ffi::{self, Reply};
+use crate::random::Random;
+use crate::reference;
+use crate::words::{text_of, to_words, TIMETABLE_WORDS};
+
+/// Words on either side of a lent slice, which no call may touch.
+const FENCE: usize = 32;
+
+/// Every call is made twice, over words that differ in every bit: whatever a call writes then shows at least once.
+pub struct Host {
+    loans: [Loan; 2],
+}
+
+struct Loan {
+    entry: Vec<u16>,
+    words: Vec<u16>,
+}
+
+impl Host {
+    /// A host that lends `length` words for a timetable.
+    pub fn lending(length: usize, seed: u64) -> Host {
+        let mut random = Random::new(seed);
+        let entry: Vec<u16> = (0..length + 2 * FENCE).map(|_| random.word()).collect();
+        let inverse = entry.iter().map(|word| !word).collect();
+        Host { loans: [Loan::of(entry), Loan::of(inverse)] }
+    }
+
+    /// A host that lends as many words as question 8 asks for.
+    pub fn new(seed: u64) -> Host {
+        Host::lending(TIMETABLE_WORDS, seed)
+    }
+
+    /// Has `text` read, and fails unless the reply and every word are the reference's. Returns the reply.
+    pub fn read(&mut self, text: &[u8]) -> Reply {
+        let (expected, result) = expected_read(text, self.loans[0].slice().len());
+        for loan in &mut self.loans {
+            let reply = ffi::read(text, loan.slice());
+            assert_eq!(reply, expected, "the reply (left) and the reference's, for the text\n{}", excerpt(text));
+            if let Err(difference) = loan.settle(&result) {
+                panic!("{difference} after {reply:?} for the text\n{}", excerpt(text));
+            }
+        }
+        expected
+    }
+
+    /// As `read`, and fails unless the reply is the one given, which document 01 asks for.
+    pub fn expect_read(&mut self, text: impl AsRef<[u8]>, number: u32, beside: u32) {
+        let text = text.as_ref();
+        assert_eq!(self.read(text), Reply { number, beside }, "for the text\n{}", excerpt(text));
+    }
+
+    /// Asks question 9 of `words`, and fails unless the reply is the reference's and a yes has its text. Returns the
+    /// reply's number.
+    pub fn check_timetable(&mut self, words: &[u16]) -> u32 {
+        let before = words.to_vec();
+        let reply = ffi::check_timetable(words);
+        assert!(words == before, "the words changed while they were checked");
+        let text = text_of(words);
+        let number = match &text {
+            _ if words.len() < TIMETABLE_WORDS => 8,
+            Some(_) => 0,
+            None => 9,
+        };
+        let expected = Reply { number, beside: 0 };
+        assert_eq!(reply, expected, "the reply (left) and the reference's, for the words\n{}", first_words(words));
+        if let (0, Some(text)) = (number, text) {
+            self.read_into(&text, words);
+        }
+        number
+    }
+
+    /// Fails unless reading accepts the text and writes the table that `words` begins with.
+    fn read_into(&mut self, text: &[u8], words: &[u16]) {
+        assert_eq!(self.read(text).number, 0);
+        let mut written = vec![0; TIMETABLE_WORDS];
+        ffi::read(text, &mut written);
+        let length = table_length(words);
+        assert_eq!(written[..length], words[..length], "the words of\n{}", excerpt(text));
+    }
+}
+
+impl Loan {
+    fn of(entry: Vec<u16>) -> Loan {
+        Loan { words: entry.clone(), entry }
+    }
+
+    fn slice(&mut self) -> &mut [u16] {
+        let end = self.words.len() - FENCE;
+        &mut self.words[FENCE..end]
+    }
+
+    /// Tells of the first word that is neither `result`'s nor what it was at entry; then takes the words back.
+    fn settle(&mut self, result: &[u16]) -> Result<(), String> {
+        let end = FENCE + result.len();
+        let kept = self.words[..FENCE] == self.entry[..FENCE] && self.words[end..] == self.entry[end..];
+        if kept && self.words[FENCE..end] == *result {
+            self.words[FENCE..end].copy_from_slice(&self.entry[FENCE..end]);
+            return Ok(());
+        }
+        let mut expected = self.entry.clone();
+        expected[FENCE..end].copy_from_slice(result);
+        let at = (0..expected.len()).find(|&at| self.words[at] != expected[at]).expect("some word differs");
+        let place = at as i64 - FENCE as i64;
+        Err(format!("word {place} is {} and not {}", self.words[at], expected[at]))
+    }
+}
+
+/// The reply to reading `text` into a slice of `length` words, and the words of the result.
+fn expected_read(text: &[u8], length: usize) -> (Reply, Vec<u16>) {
+    if length < TIMETABLE_WORDS {
+        return (Reply { number: 8, beside: 0 }, Vec::new());
+    }
+    match reference::read(text) {
+        Ok(timetable) => {
+            let lines = timetable.stations.len() + timetable.trips.iter().map(Vec::len).sum::<usize>();
+            (Reply { number: 0, beside: lines as u32 }, to_words(&timetable))
+        }
+        Err(refusal) => (Reply { number: refusal.number, beside: refusal.line }, Vec::new()),
+    }
+}
+
+/// How many words a table has, by its first three.
+fn table_length(words: &[u16]) -> usize {
+    let [stations, trips, stops] = [0, 1, 2].map(|at| usize::from(words[at]));
+    3 + 2 * stations + 4 * stops + trips + 1
+}
+
+/// As much of a text as a failure should show.
+fn excerpt(text: &[u8]) -> String {
+    const BYTES_SHOWN: usize = 3_000;
+    let shown: String =
+        text.split_inclusive(|&byte| byte == b'\n').map(|line| format!("{}\n", line.escape_ascii())).collect();
+    match shown.char_indices().nth(BYTES_SHOWN) {
+        Some((end, _)) => format!("{}.. ({} bytes in all)", &shown[..end], text.len()),
+        None => shown,
+    }
+}
+
+fn first_words(words: &[u16]) -> String {
+    format!("{:?} of {}", &words[..words.len().min(200)], words.len())
+}

@@ -1,0 +1,15 @@
+//! A host of the exported calls that believes none of them: whatever a call replies and writes is held against a
+//! reader written from document 01 alone.
+//!
+//! A further call needs three things: its declaration and a safe wrapper in [`ffi`], what it must answer in a module
+//! like [`reference`], and a method of [`host::Host`] that compares the two.
+
+pub mod damage;
+pub mod examples;
+pub mod ffi;
+pub mod generate;
+pub mod host;
+pub mod random;
+pub mod reference;
+pub mod timetable;
+pub mod words;

@@ -1,0 +1,180 @@
+//! A reader of the timetable text, written from document 01: line by line, each question in its order.
+
+use crate::timetable::{
+    Onward, Station, Stop, Timetable, CHANGE_MINUTES_MOST, CHANGE_PENALTY_LEAST, CHANGE_PENALTY_MOST, LAST_MINUTE,
+    RIDE_PENALTY_MOST, STATIONS_MOST, STOPS_MOST, TEXT_BYTES_MOST, TRIPS_MOST,
+};
+
+#[derive(Clone, Copy, Debug, PartialEq, Eq)]
+pub struct Refusal {
+    pub number: u32,
+    pub line: u32,
+}
+
+/// Reads a whole text: the timetable, or the first question that it has a no for.
+pub fn read(text: &[u8]) -> Result<Timetable, Refusal> {
+    if text.len() > TEXT_BYTES_MOST {
+        return Err(Refusal { number: 1, line: 0 });
+    }
+    let mut reader = Reader::default();
+    let mut lines = 0;
+    for line in text.split_inclusive(|&byte| byte == b'\n') {
+        lines += 1;
+        reader.take(line).map_err(|number| Refusal { number, line: lines })?;
+    }
+    if reader.may_end() {
+        Ok(reader.timetable)
+    } else {
+        Err(Refusal { number: 7, line: lines + 1 })
+    }
+}
+
+enum Line {
+    Station { number: u16, station: Station },
+    Stop { trip: u16, number: u16, stop: Stop },
+}
+
+/// The timetable of the lines so far.
+#[derive(Default)]
+struct Reader {
+    timetable: Timetable,
+    stops: usize,
+}
+
+impl Reader {
+    /// Adds a line, or tells the number of its refusal.
+    fn take(&mut self, bytes: &[u8]) -> Result<(), u32> {
+        let line = shaped(bytes).ok_or(2u32)?;
+        if !in_range(&line) {
+            return Err(3);
+        }
+        if !self.in_place(&line) {
+            return Err(4);
+        }
+        if !self.within_counts(&line) {
+            return Err(5);
+        }
+        if !self.fits(&line) {
+            return Err(6);
+        }
+        self.add(line);
+        Ok(())
+    }
+
+    /// The stop that the next line's stop follows on its trip; none where a new trip must begin.
+    fn stop_before(&self) -> Option<(Stop, Onward)> {
+        let last = *self.timetable.trips.last()?.last()?;
+        last.onward.map(|onward| (last, onward))
+    }
+
+    fn in_place(&self, line: &Line) -> bool {
+        let Timetable { stations, trips } = &self.timetable;
+        match *line {
+            Line::Station { number, .. } => trips.is_empty() && usize::from(number) == stations.len() + 1,
+            Line::Stop { trip, number, .. } => {
+                let due = match trips.last() {
+                    Some(stops) if self.stop_before().is_some() => (trips.len(), stops.len() + 1),
+                    _ => (trips.len() + 1, 1),
+                };
+                (usize::from(trip), usize::from(number)) == due
+            }
+        }
+    }
+
+    fn within_counts(&self, line: &Line) -> bool {
+        match *line {
+            Line::Station { number, .. } => usize::from(number) <= STATIONS_MOST,
+            Line::Stop { trip, .. } => usize::from(trip) <= TRIPS_MOST && self.stops < STOPS_MOST,
+        }
+    }
+
+    fn fits(&self, line: &Line) -> bool {
+        let Line::Stop { stop, .. } = line else { return true };
+        let listed = (1..=self.timetable.stations.len()).contains(&usize::from(stop.station));
+        let (Some(arrive), Some((before, ride))) = (stop.arrive, self.stop_before()) else { return listed };
+        let waits = stop.onward.is_none_or(|onward| onward.depart >= arrive);
+        listed && stop.station != before.station && arrive > ride.depart && waits
+    }
+
+    fn add(&mut self, line: Line) {
+        match line {
+            Line::Station { station, .. } => self.timetable.stations.push(station),
+            Line::Stop { number, stop, .. } => {
+                if number == 1 {
+                    self.timetable.trips.push(Vec::new());
+                }
+                self.timetable.trips.last_mut().expect("a stop in place has a trip").push(stop);
+                self.stops += 1;
+            }
+        }
+    }
+
+    fn may_end(&self) -> bool {
+        !self.timetable.stations.is_empty() && self.stop_before().is_none()
+    }
+}
+
+fn shaped(line: &[u8]) -> Option<Line> {
+    let mut fields = line.strip_suffix(b"\n")?.split(|&byte| byte == b',');
+    let shaped = match fields.next()? {
+        b"S" => station_line(&mut fields)?,
+        b"T" => stop_line(&mut fields)?,
+        _ => return None,
+    };
+    fields.next().is_none().then_some(shaped)
+}
+
+fn station_line<'a>(fields: &mut impl Iterator<Item = &'a [u8]>) -> Option<Line> {
+    let number = decimal(fields.next()?)?;
+    let change_minutes = decimal(fields.next()?)?;
+    let change_penalty = decimal(fields.next()?)?;
+    Some(Line::Station { number, station: Station { change_minutes, change_penalty } })
+}
+
+fn stop_line<'a>(fields: &mut impl Iterator<Item = &'a [u8]>) -> Option<Line> {
+    let trip = decimal(fields.next()?)?;
+    let number = decimal(fields.next()?)?;
+    let station = decimal(fields.next()?)?;
+    let arrive = decimal_or_empty(fields.next()?)?;
+    let depart = decimal_or_empty(fields.next()?)?;
+    let penalty = decimal_or_empty(fields.next()?)?;
+    let onward = match (depart, penalty) {
+        (Some(depart), Some(penalty)) => Some(Onward { depart, penalty }),
+        (None, None) => None,
+        _ => return None,
+    };
+    let first = number == 1;
+    let filled_rightly = arrive.is_none() == first && (onward.is_some() || !first);
+    filled_rightly.then_some(Line::Stop { trip, number, stop: Stop { station, arrive, onward } })
+}
+
+fn decimal_or_empty(field: &[u8]) -> Option<Option<u16>> {
+    if field.is_empty() {
+        Some(None)
+    } else {
+        decimal(field).map(Some)
+    }
+}
+
+/// "One to four decimal digits and no leading zero, except 0 itself."
+fn decimal(field: &[u8]) -> Option<u16> {
+    let wrong_zero = field.len() > 1 && field[0] == b'0';
+    if field.is_empty() || field.len() > 4 || wrong_zero || !field.iter().all(u8::is_ascii_digit) {
+        return None;
+    }
+    Some(field.iter().fold(0, |number, digit| 10 * number + u16::from(digit - b'0')))
+}
+
+fn in_range(line: &Line) -> bool {
+    match line {
+        Line::Station { station, .. } => {
+            station.change_minutes <= CHANGE_MINUTES_MOST
+                && (CHANGE_PENALTY_LEAST..=CHANGE_PENALTY_MOST).contains(&station.change_penalty)
+        }
+        Line::Stop { stop, .. } => {
+            let is_time = |minute: u16| minute <= LAST_MINUTE;
+            stop.arrive.is_none_or(is_time)
+                && stop.onward.is_none_or(|onward| is_time(onward.depart) && onward.penalty <= RIDE_PENALTY_MOST)
+        }
+    }
+}

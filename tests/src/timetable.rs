@@ -1,0 +1,72 @@
+//! A timetable as plain data, its limits, and its text.
+
+use std::fmt::{self, Display};
+
+pub const STATIONS_MOST: usize = 64;
+pub const TRIPS_MOST: usize = 256;
+pub const STOPS_MOST: usize = 2_048;
+pub const TEXT_BYTES_MOST: usize = 65_536;
+
+pub const CHANGE_MINUTES_MOST: u16 = 240;
+pub const CHANGE_PENALTY_LEAST: u16 = 1;
+pub const CHANGE_PENALTY_MOST: u16 = 1_000;
+pub const LAST_MINUTE: u16 = 2_879;
+pub const RIDE_PENALTY_MOST: u16 = 100;
+
+#[derive(Clone, Debug, Default, PartialEq, Eq)]
+pub struct Timetable {
+    /// Station 1 is the first.
+    pub stations: Vec<Station>,
+    /// Trip 1 is the first, and stop 1 the first of each trip.
+    pub trips: Vec<Vec<Stop>>,
+}
+
+#[derive(Clone, Copy, Debug, PartialEq, Eq)]
+pub struct Station {
+    pub change_minutes: u16,
+    pub change_penalty: u16,
+}
+
+#[derive(Clone, Copy, Debug, PartialEq, Eq)]
+pub struct Stop {
+    pub station: u16,
+    /// Empty at stop 1.
+    pub arrive: Option<u16>,
+    /// Empty where the trip ends.
+    pub onward: Option<Onward>,
+}
+
+/// The ride to the next stop.
+#[derive(Clone, Copy, Debug, PartialEq, Eq)]
+pub struct Onward {
+    pub depart: u16,
+    pub penalty: u16,
+}
+
+impl Timetable {
+    /// The timetable's text. It is the only one: a number has one form, and the lines have one order.
+    pub fn to_text(&self) -> Vec<u8> {
+        self.to_string().into_bytes()
+    }
+}
+
+impl Display for Timetable {
+    fn fmt(&self, out: &mut fmt::Formatter) -> fmt::Result {
+        for (station, values) in (1..).zip(&self.stations) {
+            writeln!(out, "S,{station},{},{}", values.change_minutes, values.change_penalty)?;
+        }
+        for (trip, stops) in (1..).zip(&self.trips) {
+            for (number, stop) in (1..).zip(stops) {
+                let arrive = or_empty(stop.arrive);
+                let depart = or_empty(stop.onward.map(|onward| onward.depart));
+                let penalty = or_empty(stop.onward.map(|onward| onward.penalty));
+                writeln!(out, "T,{trip},{number},{},{arrive},{depart},{penalty}", stop.station)?;
+            }
+        }
+        Ok(())
+    }
+}
+
+fn or_empty(field: Option<u16>) -> String {
+    field.map_or_else(String::new, |number| number.to_string())
+}

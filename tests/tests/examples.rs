@@ -1,0 +1,84 @@
+//! What document 01 itself shows: timetable M, case k and the cases that are only run.
+
+use dairyepoch_tests::examples::M;
+use dairyepoch_tests::ffi;
+use dairyepoch_tests::host::Host;
+use dairyepoch_tests::words::TIMETABLE_WORDS;
+
+#[rustfmt::skip]
+const M_WORDS: [u16; 41] = [
+    3, 3, 7,
+    2, 10,  3, 10,  5, 10,
+    1, 0, 480, 0,  2, 500, 501, 0,  3, 560, 0, 0,
+    2, 0, 503, 0,  3, 520, 0, 0,
+    2, 0, 502, 0,  3, 515, 0, 0,
+    0, 3, 5, 7,
+];
+
+#[test]
+fn m_has_ten_lines() {
+    Host::new(1).expect_read(M, 0, 10);
+}
+
+#[test]
+fn m_leads_to_its_words_and_keeps_those_behind() {
+    let mut words = vec![0xabcd; TIMETABLE_WORDS];
+    ffi::read(M.as_bytes(), &mut words);
+    assert_eq!(words[..M_WORDS.len()], M_WORDS);
+    assert!(words[M_WORDS.len()..].iter().all(|&word| word == 0xabcd));
+}
+
+#[test]
+fn the_words_of_m_have_a_yes() {
+    let mut words = vec![0xffff; TIMETABLE_WORDS];
+    words[..M_WORDS.len()].copy_from_slice(&M_WORDS);
+    assert_eq!(Host::new(2).check_timetable(&words), 0);
+}
+
+#[test]
+fn case_k_the_empty_text() {
+    Host::new(3).expect_read("", 7, 1);
+}
+
+#[test]
+fn time_2879_passes_and_2880_gives_3() {
+    let mut host = Host::new(4);
+    host.expect_read(M.replace("560", "2879"), 0, 10);
+    host.expect_read(M.replace("560", "2880"), 3, 6);
+    host.expect_read(M.replace("501", "2879").replace("560", "2879"), 6, 6);
+    host.expect_read(M.replace("501", "2880"), 3, 5);
+    host.expect_read(M.replace("502", "2880"), 3, 9);
+}
+
+#[test]
+fn change_penalty_0_gives_3() {
+    let mut host = Host::new(5);
+    host.expect_read(M.replace("S,2,3,10", "S,2,3,0"), 3, 2);
+    host.expect_read(M.replace("S,2,3,10", "S,2,3,1"), 0, 10);
+}
+
+#[test]
+fn arrival_equal_to_the_previous_departure_gives_6() {
+    let mut host = Host::new(6);
+    host.expect_read(M.replace("520", "503"), 6, 8);
+    host.expect_read(M.replace("520", "504"), 0, 10);
+}
+
+#[test]
+fn a_65th_station_gives_5() {
+    let mut host = Host::new(7);
+    let mut text: String = (1..=64).map(|station| format!("S,{station},0,1\n")).collect();
+    host.expect_read(&text, 0, 64);
+    text += "S,65,0,1\n";
+    host.expect_read(&text, 5, 65);
+}
+
+#[test]
+fn every_piece_of_m_is_judged_without_what_lies_around_it() {
+    let mut host = Host::new(8);
+    for begin in 0..=M.len() {
+        for end in begin..=M.len() {
+            host.read(&M.as_bytes()[begin..end]);
+        }
+    }
+}

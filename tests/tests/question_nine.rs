@@ -1,0 +1,328 @@
+//! Could the timetable words come from an accepted text? Asked of words that do, and of words that were damaged.
+
+use dairyepoch_tests::ffi;
+use dairyepoch_tests::generate::{largest, long_lines, timetable, with_trips, Size, LARGE, MIDDLING, SMALL};
+use dairyepoch_tests::host::Host;
+use dairyepoch_tests::random::Random;
+use dairyepoch_tests::timetable::{Onward, Station, Stop, Timetable};
+use dairyepoch_tests::words::{to_words, TIMETABLE_WORDS};
+
+/// The table in a slice of the least length, with any words behind it.
+fn lent(table: &[u16], random: &mut Random) -> Vec<u16> {
+    let mut words = table.to_vec();
+    words.resize_with(words.len().max(TIMETABLE_WORDS), || random.word());
+    words
+}
+
+/// A timetable of the fewest words that have every kind of stop: a first, a middle and a last one.
+fn smallest_whole() -> Timetable {
+    with_trips(&mut Random::new(0), 2, &[3, 2])
+}
+
+/// Asks about each of the values in each place of the table, with the others as they are.
+fn each_word_changed(host: &mut Host, table: &[u16], values: &[u16], random: &mut Random) -> [usize; 10] {
+    let mut tally = [0; 10];
+    let mut words = lent(table, random);
+    for at in 0..table.len() {
+        for &value in values {
+            words[at] = value;
+            tally[host.check_timetable(&words) as usize] += 1;
+        }
+        words[at] = table[at];
+    }
+    tally
+}
+
+/// The values at the edges of every range and count, and some that only a word of 16 bits can have.
+fn edges() -> Vec<u16> {
+    let around = [1, 3, 64, 100, 240, 256, 1_000, 2_048, 2_879, 4_096, 10_000, 16_384, 32_768, 65_534];
+    around.iter().flat_map(|&edge| [edge - 1, edge, edge + 1]).collect()
+}
+
+fn words_of_texts_have_a_yes(size: &Size, count: u64) {
+    let mut host = Host::new(count);
+    let mut random = Random::new(count);
+    for _ in 0..count {
+        let table = to_words(&timetable(&mut random, size));
+        assert_eq!(host.check_timetable(&lent(&table, &mut random)), 0);
+    }
+}
+
+#[test]
+fn words_of_small_texts_have_a_yes() {
+    words_of_texts_have_a_yes(&SMALL, 10_000);
+}
+
+#[test]
+fn words_of_middling_texts_have_a_yes() {
+    words_of_texts_have_a_yes(&MIDDLING, 2_000);
+}
+
+#[test]
+fn words_of_large_texts_have_a_yes() {
+    words_of_texts_have_a_yes(&LARGE, 200);
+}
+
+#[test]
+fn words_of_the_largest_texts_have_a_yes() {
+    let mut host = Host::new(1);
+    let mut random = Random::new(2);
+    for timetable in (0..50).map(|_| largest(&mut random)).chain([long_lines()]).collect::<Vec<_>>() {
+        assert_eq!(host.check_timetable(&lent(&to_words(&timetable), &mut random)), 0);
+    }
+}
+
+#[test]
+fn what_reading_wrote_has_a_yes() {
+    let mut random = Random::new(3);
+    for size in [SMALL, MIDDLING, LARGE] {
+        for _ in 0..200 {
+            let mut words = lent(&[], &mut random);
+            let text = timetable(&mut random, &size).to_text();
+            assert_eq!(ffi::read(&text, &mut words).number, 0);
+            assert_eq!(ffi::check_timetable(&words).number, 0);
+        }
+    }
+}
+
+#[test]
+fn words_behind_the_table_are_not_judged() {
+    let mut host = Host::new(4);
+    let table = to_words(&smallest_whole());
+    for filler in [0, 1, 2, 64, 2_880, 0x7fff, 0x8000, 0xffff] {
+        let mut words = vec![filler; TIMETABLE_WORDS];
+        words[..table.len()].copy_from_slice(&table);
+        assert_eq!(host.check_timetable(&words), 0);
+        words[table.len() - 1] = filler;
+        assert_eq!(host.check_timetable(&words), if filler == table[table.len() - 1] { 0 } else { 9 });
+    }
+}
+
+#[test]
+fn a_slice_below_16384_words_gives_8_before_9() {
+    let mut host = Host::new(5);
+    let mut random = Random::new(6);
+    let whole = lent(&to_words(&smallest_whole()), &mut random);
+    let zeros = vec![0; TIMETABLE_WORDS];
+    for length in [0, 1, 2, 3, 27, 28, 8_580, 16_382, 16_383] {
+        assert_eq!(host.check_timetable(&whole[..length]), 8);
+        assert_eq!(host.check_timetable(&zeros[..length]), 8);
+    }
+    assert_eq!(host.check_timetable(&whole), 0);
+    assert_eq!(host.check_timetable(&zeros), 9);
+}
+
+#[test]
+fn a_slice_above_16384_words_is_long_enough() {
+    let mut host = Host::new(7);
+    let mut random = Random::new(8);
+    let table = to_words(&largest(&mut random));
+    for length in [16_384, 16_385, 32_768, 65_536, 65_537, 2 * 65_536 + 3] {
+        let mut words = lent(&table, &mut random);
+        words.resize(length, 7);
+        assert_eq!(host.check_timetable(&words), 0);
+        words[0] = 65;
+        assert_eq!(host.check_timetable(&words), 9);
+    }
+}
+
+#[test]
+fn words_all_alike_have_a_no() {
+    let mut host = Host::new(9);
+    for value in (0..=u16::MAX).step_by(31).chain(edges()).chain([u16::MAX]) {
+        assert_eq!(host.check_timetable(&vec![value; TIMETABLE_WORDS]), 9, "all words {value}");
+    }
+}
+
+#[test]
+fn random_words_are_judged_as_the_reference_does() {
+    let mut host = Host::new(10);
+    let mut random = Random::new(11);
+    for _ in 0..2_000 {
+        let mut words = lent(&[], &mut random);
+        host.check_timetable(&words);
+        // small numbers lead further into the table
+        words.iter_mut().for_each(|word| *word %= 4);
+        host.check_timetable(&words);
+    }
+}
+
+#[test]
+fn every_value_in_each_word_of_a_small_table() {
+    let mut host = Host::new(12);
+    let mut random = Random::new(13);
+    let values: Vec<u16> = (0..=3_000).chain((3_001..=u16::MAX).step_by(97)).chain(edges()).collect();
+    let tally = each_word_changed(&mut host, &to_words(&smallest_whole()), &values, &mut random);
+    assert!(tally[0] > 1_000 && tally[9] > 1_000, "{tally:?}");
+}
+
+#[test]
+fn edge_values_in_each_word_of_many_tables() {
+    let mut host = Host::new(14);
+    let mut random = Random::new(15);
+    for _ in 0..60 {
+        let table = to_words(&timetable(&mut random, &SMALL));
+        each_word_changed(&mut host, &table, &edges(), &mut random);
+    }
+}
+
+#[test]
+fn each_word_of_many_tables_one_up_and_one_down() {
+    let mut host = Host::new(16);
+    let mut random = Random::new(17);
+    for _ in 0..1_000 {
+        let table = to_words(&timetable(&mut random, &SMALL));
+        let mut words = lent(&table, &mut random);
+        for at in 0..table.len() {
+            for value in [table[at].wrapping_add(1), table[at].wrapping_sub(1), 0, random.word()] {
+                words[at] = value;
+                host.check_timetable(&words);
+            }
+            words[at] = table[at];
+        }
+    }
+}
+
+#[test]
+fn two_words_of_a_table_changed_at_once() {
+    let mut host = Host::new(18);
+    let mut random = Random::new(19);
+    let table = to_words(&smallest_whole());
+    let mut words = lent(&table, &mut random);
+    for one in 0..table.len() {
+        for other in 0..one {
+            for (first, second) in (0..4).flat_map(|first| (0..6).map(move |second| (first, second))) {
+                (words[one], words[other]) = (first, second);
+                host.check_timetable(&words);
+            }
+            words[other] = table[other];
+        }
+        words[one] = table[one];
+    }
+}
+
+#[test]
+fn words_left_out_put_in_and_swapped() {
+    let mut host = Host::new(20);
+    let mut random = Random::new(21);
+    for _ in 0..5_000 {
+        let mut table = to_words(&timetable(&mut random, &SMALL));
+        let (one, other) = (random.below(table.len()), random.below(table.len()));
+        match random.below(4) {
+            0 => drop(table.remove(one)),
+            1 => table.insert(one, random.below(5) as u16),
+            2 => table.swap(one, other),
+            _ => table.truncate(one),
+        }
+        host.check_timetable(&lent(&table, &mut random));
+    }
+}
+
+/// Asks about every table that begins with `start`, has any of `values` in the next `free` words and ends with `end`.
+fn every_filling(host: &mut Host, start: &[u16], values: &[u16], free: usize, end: &[u16]) -> [usize; 10] {
+    let table = [start, &vec![values[0]; free], end].concat();
+    let mut words = lent(&table, &mut Random::new(22));
+    let mut tally = [0; 10];
+    for mut choice in 0..values.len().pow(free as u32) {
+        for word in &mut words[start.len()..start.len() + free] {
+            *word = values[choice % values.len()];
+            choice /= values.len();
+        }
+        tally[host.check_timetable(&words) as usize] += 1;
+    }
+    tally
+}
+
+#[test]
+fn every_trip_of_two_stops_over_small_values() {
+    let tally = every_filling(&mut Host::new(23), &[2, 1, 2, 0, 1, 0, 1], &[0, 1, 2, 3], 8, &[0, 2]);
+    // two orders of the stations; 0 < 1, 2, 3 and 1 < 2, 3 and 2 < 3; four ride penalties
+    assert_eq!(tally[0], 2 * 6 * 4);
+}
+
+#[test]
+fn every_trip_of_three_stops_over_small_values() {
+    let tally = every_filling(&mut Host::new(24), &[2, 1, 3, 0, 1, 0, 1], &[0, 1, 2], 11, &[0, 0, 3]);
+    // stations 1, 2, 1 or 2, 1, 2; minutes 0, 1, 1, 2; three ride penalties twice
+    assert_eq!(tally[0], 2 * 9);
+}
+
+#[test]
+fn every_place_of_first_stops_over_small_values() {
+    let stop = |station, arrive, depart| [station, arrive, depart, 0];
+    let trip = [stop(1, 0, 5), stop(2, 6, 0)].concat();
+    let start = [&[2, 2, 4, 0, 1, 0, 1][..], &trip, &trip].concat();
+    let tally = every_filling(&mut Host::new(25), &start, &[0, 1, 2, 3, 4, 5, 8, 65_535], 3, &[]);
+    assert_eq!(tally[0], 1);
+}
+
+#[test]
+fn every_head_over_small_values() {
+    let mut host = Host::new(26);
+    for timetable in [with_trips(&mut Random::new(1), 1, &[]), smallest_whole()] {
+        let table = to_words(&timetable);
+        let tally = every_filling(&mut host, &[], &(0..=20).collect::<Vec<_>>(), 3, &table[3..]);
+        assert!(tally[0] >= 1);
+    }
+}
+
+/// A trip of the given number of stops, right in all but, perhaps, that number.
+fn trip_of(stops: usize) -> Vec<Stop> {
+    let stop = |place: usize| Stop {
+        station: (place % 2 + 1) as u16,
+        arrive: (place > 0).then_some(place as u16),
+        onward: (place + 1 < stops).then_some(Onward { depart: place as u16, penalty: 0 }),
+    };
+    (0..stops).map(stop).collect()
+}
+
+#[test]
+fn counts_above_the_limits_have_a_no() {
+    let mut host = Host::new(27);
+    let mut random = Random::new(28);
+    let mut expect = |stations: usize, lengths: &[usize], number: u32| {
+        let timetable = Timetable {
+            stations: vec![Station { change_minutes: 0, change_penalty: 1 }; stations],
+            trips: lengths.iter().map(|&stops| trip_of(stops)).collect(),
+        };
+        assert_eq!(host.check_timetable(&lent(&to_words(&timetable), &mut random)), number, "{stations}, {lengths:?}");
+    };
+    expect(0, &[], 9);
+    expect(1, &[], 0);
+    expect(1, &[2], 9);
+    expect(63, &[2], 0);
+    expect(64, &[2], 0);
+    expect(65, &[2], 9);
+    expect(2, &[2; 255], 0);
+    expect(2, &[2; 256], 0);
+    expect(2, &[2; 257], 9);
+    expect(2, &[2_047], 0);
+    expect(2, &[2_048], 0);
+    expect(2, &[2_049], 9);
+    expect(2, &[8; 256], 0);
+    expect(64, &[8; 256], 0);
+    expect(64, &[[8; 16].as_slice(), &[9]].concat(), 0);
+    expect(64, &[&[8; 255][..], &[9]].concat(), 9);
+    expect(2, &[0], 9);
+    expect(2, &[1], 9);
+    expect(2, &[2, 1], 9);
+    expect(2, &[2, 0, 2], 9);
+    expect(2, &[1, 2], 9);
+    expect(2, &[2, 2], 0);
+}
+
+#[test]
+fn heads_that_lead_out_of_the_slice_have_a_no() {
+    let mut host = Host::new(29);
+    let mut random = Random::new(30);
+    let counts = [0, 1, 2, 64, 65, 256, 257, 2_048, 2_049, 4_094, 4_095, 8_190, 8_191, 16_383, 16_384, 32_768, 65_535];
+    let mut words = lent(&to_words(&largest(&mut random)), &mut random);
+    for stations in counts {
+        for trips in counts {
+            for stops in counts {
+                words[..3].copy_from_slice(&[stations, trips, stops]);
+                host.check_timetable(&words);
+            }
+        }
+    }
+}
