@@ -8,19 +8,15 @@ use mathlib.Core.List.{List, [], _∷_, _++_}
 use Prim.Native.Nat.{ℕ, zero, suc, _+_, _-_}
 use lib.Dec.{leb, ltb, eqb}
 use lib.ListN.{length}
+use Rattle.timetable.specs.declared.Station.{Station as StationStruct}
+use Rattle.timetable.specs.declared.Stop.{Stop as StopStruct}
 
-pub record Station : Type 0 where
-  -- change minutes
-  pub minutes : ℕ
-  -- change penalty
-  pub points : ℕ
+-- a station's change minutes and change penalty, and a stop: the structs of src/
+abbrev pub Station : Type 0
+Station = StationStruct
 
-pub record Stop : Type 0 where
-  pub station : ℕ
-  pub arrive : ℕ
-  pub depart : ℕ
-  -- ride penalty of the ride to the next stop
-  pub points : ℕ
+abbrev pub Stop : Type 0
+Stop = StopStruct
 
 abbrev pub Trip : Type 0
 Trip = List Stop

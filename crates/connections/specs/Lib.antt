@@ -1,0 +1,5 @@
+pub mod Net
+pub mod Conn
+pub mod Optimal
+pub mod Valid
+pub mod Rides

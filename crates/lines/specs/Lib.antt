@@ -1,0 +1,3 @@
+pub mod Lines
+pub mod Lemma1
+pub mod Direct

@@ -1,0 +1,5 @@
+pub mod Least
+pub mod Aboard
+pub mod Events
+pub mod Sets
+pub mod Way

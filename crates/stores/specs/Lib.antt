@@ -1,0 +1,4 @@
+pub mod Store
+pub mod RoundTrip
+pub mod Demand
+pub mod WellMade
