@@ -1,5 +1,8 @@
-pub mod Net
-pub mod Conn
-pub mod Optimal
-pub mod Valid
 pub mod Rides
+pub mod Connections
+pub mod Planner
+pub mod RideLaws
+pub mod Sound
+pub mod Feasibility
+pub mod Listed
+pub mod OptimalLaws

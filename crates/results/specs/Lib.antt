@@ -1,2 +1,5 @@
-pub mod Result
-pub mod Costs
+pub mod Results
+pub mod Domination
+pub mod Picks
+pub mod Answered
+pub mod Kept

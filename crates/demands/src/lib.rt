@@ -1,1 +1,0 @@
-// Definitions and theorems; see specs/.

@@ -1,3 +1,0 @@
-pub mod Lines
-pub mod Lemma1
-pub mod Direct

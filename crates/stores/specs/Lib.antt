@@ -1,4 +1,0 @@
-pub mod Store
-pub mod RoundTrip
-pub mod Demand
-pub mod WellMade
