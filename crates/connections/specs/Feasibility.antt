@@ -22,6 +22,11 @@ boards-earlier n a t u r h b = record { listed = b .listed; here = b .here; time
 pub boards-own : (n : Net) (a t : ℕ) (r : Ride) → Boards n a t r → Boards n a (r .depart) r
 boards-own n a t r b = record { listed = b .listed; here = b .here; timely = omega arith }
 
+-- a connection has stations
+pub has-stations : (c : Connection) → ¬ (stations c ≡ [])
+has-stations (direct r) e = let z : _≡_ {A = ℕ} 0 1 = cc in omega arith
+has-stations (onward r w c) e = let z : _≡_ {A = ℕ} 0 1 = cc in omega arith
+
 module _ (n : Net) where
   pub earlier : (a t u b : ℕ) (c : Connection) → t ≤ u → Feasible n a u b c → Feasible n a t b c
   earlier a t u b (direct r) h f = (boards-earlier n a t u r h (f .0), f .1)
@@ -56,11 +61,6 @@ module _ (n : Net) where
         m
         (λ e. rw (e, f .1 .here) (ok .arrives r (f .0 .listed)))
         (stations-listed (w .to) (ready r w) b c (f .2) x)
-
-    -- and end in b
-    pub has-stations : (c : Connection) → ¬ (stations c ≡ [])
-    has-stations (direct r) e = let z : _≡_ {A = ℕ} 0 1 = cc in omega arith
-    has-stations (onward r w c) e = let z : _≡_ {A = ℕ} 0 1 = cc in omega arith
 
 -- A minute of a ride costs 100 points at the most, and before each change there is a minute of a ride.
 module _ (t : Timetable) (v : T (valid t)) where

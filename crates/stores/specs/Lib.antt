@@ -1,0 +1,7 @@
+pub mod Stored
+pub mod Words
+pub mod Sequences
+pub mod Nodes
+pub mod RoundTrip
+pub mod WellMade
+pub mod StoredLaws
