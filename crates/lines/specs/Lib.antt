@@ -1,0 +1,6 @@
+pub mod Lines
+pub mod Behind
+pub mod Ordered
+pub mod Once
+pub mod Calls
+pub mod Direct
