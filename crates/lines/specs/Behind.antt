@@ -23,7 +23,8 @@ later-refl s = record { station = refl; points = refl; arrive = omega arith; dep
 
 module _ (s u : Stop) (k l : Trip) where
   behind-first : T (behind (s ∷ k) (u ∷ l)) → Later s u
-  behind-first t = record { station = search reads; points = search reads; arrive = search reads; depart = search reads }
+  behind-first t =
+      record { station = search reads; points = search reads; arrive = search reads; depart = search reads }
 
   behind-rest : T (behind (s ∷ k) (u ∷ l)) → T (behind k l)
   behind-rest t = search and-r

@@ -1,4 +1,5 @@
 pub mod Lines
+pub mod Worked
 pub mod Behind
 pub mod Ordered
 pub mod Once

@@ -1,4 +1,5 @@
 pub mod Results
+pub mod Worked
 pub mod Domination
 pub mod Picks
 pub mod Answered
