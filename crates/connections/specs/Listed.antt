@@ -11,12 +11,11 @@ use Rattle.lists.specs.Tests.{reads, writes, eq→eqb}
 use Rattle.lists.specs.Members.{none, kept-cases, keep-here, keep-there, filter-in, filter-out, concatMap-in}
 use Rattle.lists.specs.Members.{concatMap-out}
 use Rattle.results.specs.Results.{Undominated, undominated}
-use Rattle.results.specs.Picks.{undominated-in, undominated-out}
 use Rattle.connections.specs.Rides.{Ride}
 use Rattle.connections.specs.Connections.{Change, Net, Connection, direct, onward, Boards, Changes, Feasible}
 use Rattle.connections.specs.Connections.{Optimal, ready}
 use Rattle.connections.specs.Planner.{boardable, changeable, connections, mostRides, plannerList, rideCount}
-use Rattle.connections.specs.Planner.{measure, optimals}
+use Rattle.connections.specs.Planner.{measure}
 use Rattle.connections.specs.Sound.{Sound}
 use Rattle.connections.specs.Feasibility.{takes-time, ends-in-time}
 
@@ -127,17 +126,3 @@ module _ (n : Net) where
           listed = listed a t b c .1 (o .feasible);
           free = λ e i. o .undominated e (listed a t b e .0 i);
         }
-
-    pub optimals-in : (a t b : ℕ) (c : Connection) → Optimal n a t b c → c ∈ optimals n a t b
-    unfolding optimals
-    optimals-in a t b c o =
-        let l = plannerList n a t b in
-        let u = optimal-in a t b c o in
-        filter-in (undominated (measure t) l) (u .listed) (undominated-in (measure t) l c u)
-
-    pub optimals-out : (a t b : ℕ) (c : Connection) → c ∈ optimals n a t b → Optimal n a t b c
-    unfolding optimals
-    optimals-out a t b c m =
-        let l = plannerList n a t b in
-        let r = filter-out (undominated (measure t) l) l m in
-        optimal-out a t b c (undominated-out (measure t) l c (r .0) (r .1))

@@ -6,7 +6,7 @@ use Prim.Native.Nat.{ℕ, zero, suc, _-_}
 use lib.Dec.{leb, eqb}
 use Rattle.timetable.specs.Timetable.{lastMinute}
 use Rattle.lists.specs.Lists.{keep, filter, concatMap}
-use Rattle.results.specs.Results.{Measure, result, undominated}
+use Rattle.results.specs.Results.{Measure, result}
 use Rattle.connections.specs.Rides.{Ride}
 use Rattle.connections.specs.Connections.{Change, Net, Connection, direct, onward, ready, departure, cost}
 
@@ -62,7 +62,3 @@ measure t = record { cost = cost t; key = tieKey; tells = tail }
 -- the rows of a list of connections, for a query at minute t
 unfoldable pub rowsOf : ℕ → List Connection → List (List ℕ)
 rowsOf t l = result (measure t) l
-
--- the optimal connections
-unfoldable pub optimals : Net → (a t b : ℕ) → List Connection
-optimals n a t b = let l = plannerList n a t b in filter (undominated (measure t) l) l

@@ -9,13 +9,18 @@ use lib.Dec.{eqb}
 use Rattle.timetable.specs.Timetable.{lastMinute}
 use Rattle.lists.specs.Lists.{filter, concatMap, range, sort}
 use Rattle.connections.specs.Connections.{Net, Connection, Optimal, stations}
-use Rattle.connections.specs.Planner.{optimals}
+use Rattle.connections.specs.Planner.{plannerList, measure}
+use Rattle.results.specs.Results.{undominated}
 
 abbrev pub minutes : List ℕ
 minutes = range 0 (suc lastMinute)
 
 abbrev pub targets : Net → (a : ℕ) → List ℕ
 targets n a = filter (λ b. not (eqb b a)) (range 1 (n .stations))
+
+-- every optimal connection, of equal cost or not
+unfoldable pub optimals : Net → (a t b : ℕ) → List Connection
+optimals n a t b = let l = plannerList n a t b in filter (undominated (measure t) l) l
 
 -- the stations of the optimal connections from a, at one of the minutes given and to one of the targets given
 unfoldable pub optimalStations : Net → (a : ℕ) (minutes targets : List ℕ) → List (List ℕ)

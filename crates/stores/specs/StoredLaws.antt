@@ -17,12 +17,14 @@ use Rattle.lists.specs.Sorting.{Inside, sort-in, sort-out, sort-same}
 use Rattle.connections.specs.Rides.{Ride}
 use Rattle.connections.specs.Connections.{Net, Connection, direct, onward, Boards, Feasible, Optimal, departure}
 use Rattle.connections.specs.Connections.{stations}
-use Rattle.connections.specs.Planner.{optimals}
+use Rattle.connections.specs.Planner.{plannerList, measure}
+use Rattle.results.specs.Results.{undominated}
+use Rattle.results.specs.Picks.{undominated-in, undominated-out}
 use Rattle.connections.specs.Sound.{Sound}
 use Rattle.connections.specs.Feasibility.{has-stations, stations-listed}
-use Rattle.connections.specs.Listed.{optimals-in, optimals-out}
+use Rattle.connections.specs.Listed.{optimal-in, optimal-out}
 use Rattle.connections.specs.OptimalLaws.{optimal-own-minute, pattern-short}
-use Rattle.stores.specs.Stored.{minutes, targets, optimalStations, stored, Target, Sequence}
+use Rattle.stores.specs.Stored.{minutes, targets, optimals, optimalStations, stored, Target, Sequence}
 use Rattle.stores.specs.Words.{nodes, arcs, entriesMost, readable, storeWords, wellMade}
 use Rattle.stores.specs.RoundTrip.{read-back}
 use Rattle.stores.specs.WellMade.{well-made}
@@ -45,6 +47,20 @@ unfoldable pub departures : Net → (a : ℕ) → List ℕ
 departures n a = map (λ r. r .depart) (filter (λ r. eqb (r .from) a) (n .rides))
 
 module _ (n : Net) (ok : Sound n) where
+  optimals-in : (a t b : ℕ) (c : Connection) → Optimal n a t b c → c ∈ optimals n a t b
+  unfolding optimals
+  optimals-in a t b c o =
+      let l = plannerList n a t b in
+      let u = optimal-in n ok a t b c o in
+      filter-in (undominated (measure t) l) (u .listed) (undominated-in (measure t) l c u)
+
+  optimals-out : (a t b : ℕ) (c : Connection) → c ∈ optimals n a t b → Optimal n a t b c
+  unfolding optimals
+  optimals-out a t b c m =
+      let l = plannerList n a t b in
+      let r = filter-out (undominated (measure t) l) l m in
+      optimal-out n ok a t b c (undominated-out (measure t) l c (r .0) (r .1))
+
   -- the pattern of an optimal connection at one of the minutes and to one of the targets given
   record Found (a : ℕ) (ts bs q : List ℕ) : Type 0 where
     minute : ℕ
@@ -71,14 +87,14 @@ module _ (n : Net) (ok : Sound n) where
         connection = z .0;
         in-minutes = x .1;
         in-targets = y .1;
-        optimal = optimals-out n ok a (x .0) (y .0) (z .0) (z .1);
+        optimal = optimals-out a (x .0) (y .0) (z .0) (z .1);
         is = z .2;
       }
 
   found-in : (a : ℕ) (ts bs q : List ℕ) → Found a ts bs q → q ∈ optimalStations n a ts bs
   unfolding optimalStations
   found-in a ts bs q h =
-      let o = optimals-in n ok a (h .minute) (h .target) (h .connection) (h .optimal) in
+      let o = optimals-in a (h .minute) (h .target) (h .connection) (h .optimal) in
       concatMap-in
       (atMinute a bs)
       (h .in-minutes)
