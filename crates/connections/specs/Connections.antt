@@ -1,0 +1,106 @@
+-- Connections, what makes one feasible, what it costs, and its pattern: Definitions 1 to 3 of the 2010 paper in the
+-- words of document 01. They speak of a net: the rides of a timetable and the ways of changing.
+use mathlib.Core.Path.{_≡_}
+use mathlib.Core.List.{List, [], _∷_, map}
+use Prim.Native.Nat.{ℕ, suc, _+_, _-_, _≤_}
+use lib.Dec.{T}
+use lib.ListN.{length, getD}
+use Rattle.timetable.specs.Timetable.{Station, Timetable}
+use Rattle.lists.specs.Lists.{_∈_, range}
+use Rattle.results.specs.Results.{Cost, dominates}
+use Rattle.connections.specs.Rides.{Ride, ridesOf}
+
+-- A way of changing: from the station alighted at to the station boarded at, with the minutes it takes and the points
+-- it costs. "At each change alights and boards at one station, leaving no earlier than arrival plus that station's
+-- change minutes": here every change stays at its station, and there is one for each station.
+pub record Change : Type 0 where
+  pub from : ℕ
+  pub to : ℕ
+  pub minutes : ℕ
+  pub points : ℕ
+
+abbrev pub noStation : Station
+noStation = record { minutes = 0; points = 0 }
+
+abbrev pub changeAt : List Station → (z : ℕ) → Change
+changeAt l z =
+    record {
+      from = suc z;
+      to = suc z;
+      minutes = (getD l z noStation) .minutes;
+      points = (getD l z noStation) .points;
+    }
+
+unfoldable pub changesOf : List Station → List Change
+changesOf l = map (changeAt l) (range 0 (length l))
+
+pub record Net : Type 0 where
+  -- how many stations are listed
+  pub stations : ℕ
+  pub rides : List Ride
+  pub changes : List Change
+
+abbrev pub net : Timetable → Net
+net t =
+    record { stations = length (t .stations); rides = ridesOf (t .trips); changes = changesOf (t .stations) }
+
+-- "A connection is one or more rides": a single ride, or a ride, a change and a connection from there.
+pub data Connection : Type 0 where
+  direct : Ride → Connection
+  onward : Ride → Change → Connection → Connection
+
+-- one who is at station a from minute t on can take this ride
+pub record Boards (n : Net) (a t : ℕ) (r : Ride) : Type 0 where
+  pub listed : r ∈ n .rides
+  pub here : r .from ≡ a
+  pub timely : t ≤ r .depart
+
+-- one who has taken this ride can change so
+pub record Changes (n : Net) (r : Ride) (w : Change) : Type 0 where
+  pub listed : w ∈ n .changes
+  pub here : w .from ≡ r .to
+
+-- the minute from which one who came by r and changes by w can leave again
+abbrev pub ready : Ride → Change → ℕ
+ready r w = r .arrive + w .minutes
+
+-- "It is feasible for A at minute t to B if it boards at A at t or later, alights at B, and at each change alights and
+-- boards at one station, leaving no earlier than arrival plus that station's change minutes. Staying aboard needs no
+-- change minutes": it is part of a ride.
+abbrev pub Feasible : Net → (a t b : ℕ) → Connection → Type 0
+Feasible n a t b (direct r) = Boards n a t r × (r .to ≡ b)
+Feasible n a t b (onward r w c) = Boards n a t r × Changes n r w × Feasible n (w .to) (ready r w) b c
+
+abbrev pub departure : Connection → ℕ
+departure (direct r) = r .depart
+departure (onward r w c) = r .depart
+
+abbrev pub arrival : Connection → ℕ
+arrival (direct r) = r .arrive
+arrival (onward r w c) = arrival c
+
+-- "Duration is last arrival minus t."
+abbrev pub duration : ℕ → Connection → ℕ
+duration t c = arrival c - t
+
+-- "Penalty is the sum of ride penalties over every stop ridden from, plus the change penalty of each change."
+abbrev pub penalty : Connection → ℕ
+penalty (direct r) = r .points
+penalty (onward r w c) = r .points + w .points + penalty c
+
+abbrev pub cost : ℕ → Connection → Cost
+cost t c = record { minutes = duration t c; points = penalty c }
+
+-- "Optimal: no feasible connection for the query dominates it."
+pub record Optimal (n : Net) (a t b : ℕ) (c : Connection) : Type 0 where
+  pub feasible : Feasible n a t b c
+  pub undominated : (e : Connection) → Feasible n a t b e → ¬ T (dominates (cost t e) (cost t c))
+
+-- "the stations of the changes in order, then B"
+abbrev pub stations : Connection → List ℕ
+stations (direct r) = r .to ∷ []
+stations (onward r w c) = w .from ∷ stations c
+
+-- "The pattern is A, the stations of the changes in order, then B."
+abbrev pub pattern : ℕ → Connection → List ℕ
+pattern a c = a ∷ stations c

@@ -1,0 +1,10 @@
+pub mod Rides
+pub mod Connections
+pub mod Planner
+pub mod Worked
+pub mod RideLaws
+pub mod Sound
+pub mod Feasibility
+pub mod Listed
+pub mod OptimalLaws
+pub mod Ties

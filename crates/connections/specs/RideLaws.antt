@@ -1,0 +1,92 @@
+-- The rides and changes of a timetable by their places, and how a ride's penalty is summed stop by stop.
+use mathlib.Core.Path.{_≡_, refl}
+use mathlib.Core.List.{List, [], _∷_, Memᴰ·map, Memᴰ·of-map}
+use Prim.Native.Nat.{ℕ, zero, suc, _+_, _-_, _≤_, _<_}
+use native.Mathlib.Omega.{arith}
+use lib.ListN.{length, getD}
+use Rattle.timetable.specs.Timetable.{Station, Stop, Trip}
+use Rattle.lists.specs.Lists.{_∈_, range}
+use Rattle.lists.specs.Members.{concatMap-in, concatMap-out, range-in, range-out}
+use Rattle.connections.specs.Rides.{Ride, noStop, ridePoints, rideAt, ridesFrom, tripRides, ridesOf}
+use Rattle.connections.specs.Connections.{Change, changeAt, changesOf}
+
+-- a ride of the timetable: a trip, a stop to board at and a later stop to alight at
+pub record Taken (t : List Trip) (r : Ride) : Type 0 where
+  pub z : ℕ
+  pub x : ℕ
+  pub y : ℕ
+  pub listed : z < length t
+  pub later : x < y
+  pub inside : y < length (getD t z [])
+  pub is : rideAt (getD t z []) z x y ≡ r
+
+module _ (t : List Trip) where
+  pub rides-out : (r : Ride) → r ∈ ridesOf t → Taken t r
+  unfolding ridesOf
+  rides-out r m =
+      let i = concatMap-out (λ z. tripRides (getD t z []) z) (range 0 (length t)) m in
+      let l = getD t (i .0) [] in
+      let j = concatMap-out (ridesFrom l (i .0)) (range 0 (length l)) (i .2) in
+      let k = Memᴰ·of-map (rideAt l (i .0) (j .0)) (range (suc (j .0)) (length l - suc (j .0))) (j .2) in
+      let a = range-out 0 (length t) (i .0) (i .1) in
+      let c = range-out (suc (j .0)) (length l - suc (j .0)) (k .0) (k .1) in
+      record {
+        z = i .0;
+        x = j .0;
+        y = k .0;
+        listed = omega arith;
+        later = omega arith;
+        inside = omega arith;
+        is = k .2;
+      }
+
+  pub rides-in : (z x y : ℕ) → z < length t → x < y → y < length (getD t z []) → rideAt (getD t z []) z x y ∈ ridesOf t
+  unfolding ridesOf
+  rides-in z x y h g i =
+      let l = getD t z [] in
+      let last = range-in (suc x) (length l - suc x) y (omega arith) (omega arith) in
+      concatMap-in
+      (λ z. tripRides (getD t z []) z)
+      (range-in 0 (length t) z (omega arith) (omega arith))
+      (concatMap-in
+      (ridesFrom l z)
+      (range-in 0 (length l) x (omega arith) (omega arith))
+      (Memᴰ·map (rideAt l z x) last))
+
+module _ (l : List Station) where
+  pub changes-out : (w : Change) → w ∈ changesOf l → (z : ℕ) × (z < length l) × (changeAt l z ≡ w)
+  unfolding changesOf
+  changes-out w m =
+      let r = Memᴰ·of-map (changeAt l) (range 0 (length l)) m in
+      let h = range-out 0 (length l) (r .0) (r .1) in
+      (r .0, omega arith, r .2)
+
+  pub changes-in : (z : ℕ) → z < length l → changeAt l z ∈ changesOf l
+  unfolding changesOf
+  changes-in z h = Memᴰ·map (changeAt l) (range-in 0 (length l) z (omega arith) (omega arith))
+
+-- the points of a ride, stop by stop
+pub points-none : (l : Trip) (x : ℕ) → ridePoints l x 0 ≡ 0
+unfolding ridePoints
+points-none [] x = refl
+points-none (s ∷ l) x = refl
+
+module _ (s : Stop) (l : Trip) where
+  pub points-first : (y : ℕ) → ridePoints (s ∷ l) 0 (suc y) ≡ s .points + ridePoints l 0 y
+  unfolding ridePoints
+  points-first y = refl
+
+  pub points-next : (x y : ℕ) → ridePoints (s ∷ l) (suc x) (suc y) ≡ ridePoints l x y
+  unfolding ridePoints
+  points-next x y = refl
+
+-- one stop further
+pub points-more : (l : Trip) (x y : ℕ) → x ≤ y → y < length l
+    → ridePoints l x (suc y) ≡ ridePoints l x y + (getD l y noStop) .points
+points-more [] x y h g = absurd (omega arith)
+points-more (s ∷ l) zero zero h g = omega (arith, points-first s l 0, points-none l 0, points-none (s ∷ l) 0)
+points-more (s ∷ l) (suc x) zero h g = absurd (omega arith)
+points-more (s ∷ l) zero (suc y) h g =
+    omega (arith, points-first s l (suc y), points-first s l y, points-more l 0 y (omega arith) (omega arith))
+points-more (s ∷ l) (suc x) (suc y) h g =
+    omega (arith, points-next s l x (suc y), points-next s l x y, points-more l x y (omega arith) (omega arith))

@@ -1,0 +1,56 @@
+-- Rides. Document 01: "A ride is a trip, a stop to board at and a later stop to alight at." A ride carries what the
+-- timetable says of it, so that nobody has to look it up again. Places count from 0, numbers from 1: the trip at place
+-- z is trip z + 1.
+use mathlib.Core.List.{List, [], _∷_, map}
+use Prim.Native.Nat.{ℕ, zero, suc, _+_, _-_}
+use lib.ListN.{length, getD}
+use Rattle.timetable.specs.Timetable.{Stop, Trip}
+use Rattle.lists.specs.Lists.{concatMap, range}
+
+pub record Ride : Type 0 where
+  -- the numbers by which it is shown
+  pub trip : ℕ
+  pub board : ℕ
+  pub alight : ℕ
+  -- the stations
+  pub from : ℕ
+  pub to : ℕ
+  pub depart : ℕ
+  pub arrive : ℕ
+  -- what the ride itself costs
+  pub points : ℕ
+
+abbrev pub noStop : Stop
+noStop = record { station = 0; arrive = 0; depart = 0; points = 0 }
+
+-- "the sum of ride penalties over every stop ridden from": the stops from place x on, to before place y
+unfoldable pub ridePoints : Trip → (x y : ℕ) → ℕ
+ridePoints [] x y = 0
+ridePoints (s ∷ l) x zero = 0
+ridePoints (s ∷ l) zero (suc y) = s .points + ridePoints l zero y
+ridePoints (s ∷ l) (suc x) (suc y) = ridePoints l x y
+
+-- the ride on trip l, which stands at place z, from the stop at place x to the stop at place y
+abbrev pub rideAt : (l : Trip) (z x y : ℕ) → Ride
+rideAt l z x y =
+    record {
+      trip = suc z;
+      board = suc x;
+      alight = suc y;
+      from = (getD l x noStop) .station;
+      to = (getD l y noStop) .station;
+      depart = (getD l x noStop) .depart;
+      arrive = (getD l y noStop) .arrive;
+      points = ridePoints l x y;
+    }
+
+-- the rides on a trip that board at place x: all later stops are open to alight at
+abbrev pub ridesFrom : (l : Trip) (z x : ℕ) → List Ride
+ridesFrom l z x = map (rideAt l z x) (range (suc x) (length l - suc x))
+
+abbrev pub tripRides : (l : Trip) (z : ℕ) → List Ride
+tripRides l z = concatMap (ridesFrom l z) (range 0 (length l))
+
+-- every ride of the trips
+unfoldable pub ridesOf : List Trip → List Ride
+ridesOf t = concatMap (λ z. tripRides (getD t z []) z) (range 0 (length t))

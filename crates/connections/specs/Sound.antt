@@ -1,0 +1,189 @@
+-- An accepted timetable gives a sound net: rides take time and end within the two days, changes stay at their station
+-- and cost something. These few facts are all that the theory of connections asks of a timetable.
+use mathlib.Core.Path.{_≡_, refl, sym, subst}
+use mathlib.Core.List.{List, [], _∷_}
+use Prim.Native.Nat.{ℕ, zero, suc, _+_, _*_, _≤_, _<_}
+use native.Mathlib.Omega.{arith}
+use lib.Dec.{T}
+use lib.ListN.{length, getD}
+use Rattle.timetable.specs.Timetable.{Station, Stop, Trip, Timetable, lastMinute, stationsMost, validStation, listed}
+use Rattle.timetable.specs.Timetable.{leaves, follows, runs, validTrip, validStations, validTrips, counted, valid}
+use Rattle.lists.specs.Lists.{_∈_}
+use Rattle.lists.specs.Tests.{and-l, and-r, reads}
+use Rattle.connections.specs.Rides.{Ride, noStop, ridePoints}
+use Rattle.connections.specs.Connections.{Change, Net, net, noStation, changeAt}
+use Rattle.connections.specs.RideLaws.{rides-out, changes-out, points-none, points-first, points-next}
+
+pub record Sound (n : Net) : Type 0 where
+  -- "arrival after the previous departure"
+  pub forward : (r : Ride) → r ∈ n .rides → r .depart < r .arrive
+  -- "times 0 to 2,879"
+  pub bounded : (r : Ride) → r ∈ n .rides → r .arrive ≤ lastMinute
+  -- "station listed"
+  pub arrives : (r : Ride) → r ∈ n .rides → (1 ≤ r .to) × (r .to ≤ n .stations)
+  -- "change penalty 1 to 1,000": a change costs something
+  pub toll : (w : Change) → w ∈ n .changes → 1 ≤ w .points
+  -- "alights and boards at one station"
+  pub stays : (w : Change) → w ∈ n .changes → w .to ≡ w .from
+  -- "At most 64 stations"
+  pub few : n .stations ≤ stationsMost
+
+-- What the rules for stops come to for the ride from stop b to a later stop s of a trip, with its points. Each minute
+-- of a ride costs 100 points at the most, which keeps penalties within 32 bits.
+record Reached (n : ℕ) (b s : Stop) (points : ℕ) : Type 0 where
+  forward : b .depart < s .arrive
+  bounded : s .arrive ≤ lastMinute
+  first : 1 ≤ s .station
+  last : s .station ≤ n
+  cheap : points + 100 * b .depart ≤ 100 * s .arrive
+
+record Follows (n : ℕ) (b s : Stop) : Type 0 where
+  forward : b .depart < s .arrive
+  bounded : s .arrive ≤ lastMinute
+  first : 1 ≤ s .station
+  last : s .station ≤ n
+
+follows-out : (n : ℕ) (b s : Stop) → T (follows n b s) → Follows n b s
+unfolding follows listed
+follows-out n b s t =
+    record { forward = search reads; bounded = search reads; first = search reads; last = search reads }
+
+-- a stop that the trip leaves again, and the rest of the trip
+record Passed (n : ℕ) (b s : Stop) (l : List Stop) : Type 0 where
+  follows-b : Follows n b s
+  waits : s .arrive ≤ s .depart
+  cheap : s .points ≤ 100
+  rest : T (runs n s l)
+
+passed : (n : ℕ) (b s u : Stop) (l : List Stop) → T (runs n b (s ∷ u ∷ l)) → Passed n b s (u ∷ l)
+unfolding runs leaves
+passed n b s u l t =
+    record {
+      follows-b = follows-out n b s (search and-l);
+      waits = search reads;
+      cheap = search reads;
+      rest = search and-r;
+    }
+
+ended : (n : ℕ) (b s : Stop) → T (runs n b (s ∷ [])) → Follows n b s
+unfolding runs
+ended n b s t = follows-out n b s (search and-l)
+
+-- from stop b, which l runs behind, to the stop at place y of l
+reach : (n : ℕ) (b : Stop) (l : List Stop) → b .points ≤ 100 → T (runs n b l) → (y : ℕ) → y < length l
+    → Reached n b (getD l y noStop) (ridePoints (b ∷ l) 0 (suc y))
+reach n b [] h t y g = absurd (omega arith)
+reach n b (s ∷ []) h t zero g =
+    let f = ended n b s t in
+    let p = points-first b (s ∷ []) 0 in
+    let q = points-none (s ∷ []) 0 in
+    omega arith
+reach n b (s ∷ []) h t (suc y) g = absurd (omega arith)
+reach n b (s ∷ u ∷ l) h t zero g =
+    let f = (passed n b s u l t) .follows-b in
+    let p = points-first b (s ∷ u ∷ l) 0 in
+    let q = points-none (s ∷ u ∷ l) 0 in
+    omega arith
+reach n b (s ∷ u ∷ l) h t (suc y) g =
+    let f = passed n b s u l t in
+    let p = points-first b (s ∷ u ∷ l) (suc y) in
+    let r = reach n s (u ∷ l) (f .cheap) (f .rest) y (omega arith) in
+    omega arith
+
+-- from the stop at place x of a trip to the stop at place y
+reach-at : (n : ℕ) (b : Stop) (l : List Stop) → b .points ≤ 100 → T (runs n b l)
+    → (x y : ℕ) → x < y → y < suc (length l)
+    → Reached n (getD (b ∷ l) x noStop) (getD (b ∷ l) y noStop) (ridePoints (b ∷ l) x y)
+reach-at n b l h t x zero g i = absurd (omega arith)
+reach-at n b l h t zero (suc y) g i = reach n b l h t y (omega arith)
+reach-at n b [] h t (suc x) (suc y) g i = absurd (omega arith)
+reach-at n b (s ∷ []) h t (suc x) (suc y) g i = absurd (omega arith)
+reach-at n b (s ∷ u ∷ l) h t (suc x) (suc y) g i =
+    let f = passed n b s u l t in
+    subst
+    (λ p. Reached n (getD (s ∷ u ∷ l) x noStop) (getD (s ∷ u ∷ l) y noStop) p)
+    (sym (points-next b (s ∷ u ∷ l) x y))
+    (reach-at n s (u ∷ l) (f .cheap) (f .rest) x y (omega arith) (omega arith))
+
+reach-trip : (n : ℕ) (l : Trip) → T (validTrip n l) → (x y : ℕ) → x < y → y < length l
+    → Reached n (getD l x noStop) (getD l y noStop) (ridePoints l x y)
+unfolding validTrip leaves
+reach-trip n [] t x y h g = absurd t
+reach-trip n (b ∷ l) t x y h g = reach-at n b l (search reads) (search and-r) x y h g
+
+pub valid-trip : (n : ℕ) (l : List Trip) → T (validTrips n l) → (z : ℕ) → z < length l → T (validTrip n (getD l z []))
+unfolding validTrips
+valid-trip n [] t z h = absurd (omega arith)
+valid-trip n (k ∷ l) t zero h = search and-l
+valid-trip n (k ∷ l) t (suc z) h = valid-trip n l (search and-r) z (omega arith)
+
+pub valid-station : (l : List Station) → T (validStations l) → (z : ℕ) → z < length l
+    → T (validStation (getD l z noStation))
+unfolding validStations
+valid-station [] t z h = absurd (omega arith)
+valid-station (s ∷ l) t zero h = search and-l
+valid-station (s ∷ l) t (suc z) h = valid-station l (search and-r) z (omega arith)
+
+-- what a station's change takes and costs
+pub record Priced (w : Change) : Type 0 where
+  pub minutes-most : w .minutes ≤ 240
+  pub points-least : 1 ≤ w .points
+  pub points-most : w .points ≤ 1000
+  pub stays : w .to ≡ w .from
+
+priced : (l : List Station) (z : ℕ) → T (validStation (getD l z noStation)) → Priced (changeAt l z)
+unfolding validStation
+priced l z t =
+    record { minutes-most = search reads; points-least = search reads; points-most = search reads; stays = refl }
+
+module _ (t : Timetable) (v : T (valid t)) where
+  trips-valid : T (validTrips (length (t .stations)) (t .trips))
+  unfolding valid
+  trips-valid = search and-r
+
+  stations-valid : T (validStations (t .stations))
+  unfolding valid
+  stations-valid = search (and-l, and-r)
+
+  pub stations-few : length (t .stations) ≤ stationsMost
+  unfolding valid counted
+  stations-few = search reads
+
+  pub change-priced : (w : Change) → w ∈ (net t) .changes → Priced w
+  change-priced w m =
+      let r = changes-out (t .stations) w m in
+      subst Priced (r .2) (priced (t .stations) (r .0) (valid-station (t .stations) stations-valid (r .0) (r .1)))
+
+  record Good (r : Ride) : Type 0 where
+    forward : r .depart < r .arrive
+    bounded : r .arrive ≤ lastMinute
+    first : 1 ≤ r .to
+    last : r .to ≤ length (t .stations)
+    cheap : r .points + 100 * r .depart ≤ 100 * r .arrive
+
+  ride-good : (r : Ride) → r ∈ (net t) .rides → Good r
+  ride-good r m =
+      let k = rides-out (t .trips) r m in
+      let l = getD (t .trips) (k .z) [] in
+      let s = length (t .stations) in
+      let v = valid-trip s (t .trips) trips-valid (k .z) (k .listed) in
+      let g = reach-trip s l v (k .x) (k .y) (k .later) (k .inside) in
+      subst
+      Good
+      (k .is)
+      (record { forward = g .forward; bounded = g .bounded; first = g .first; last = g .last; cheap = g .cheap })
+
+  pub sound : Sound (net t)
+  sound =
+      record {
+        forward = λ r m. ride-good r m .forward;
+        bounded = λ r m. ride-good r m .bounded;
+        arrives = λ r m. (ride-good r m .first, ride-good r m .last);
+        toll = λ w m. change-priced w m .points-least;
+        stays = λ w m. change-priced w m .stays;
+        few = stations-few;
+      }
+
+  -- a ride costs at most 100 points for each of its minutes
+  pub ride-cheap : (r : Ride) → r ∈ (net t) .rides → r .points + 100 * r .depart ≤ 100 * r .arrive
+  ride-cheap r m = ride-good r m .cheap

@@ -1,0 +1,92 @@
+-- Timetable M of document 01 and its queries, and the places where planners slip, each as rows that are computed.
+use mathlib.Core.Path.{_≡_, refl}
+use mathlib.Core.List.{List, [], _∷_}
+use Prim.Native.Nat.{ℕ}
+use lib.Dec.{T}
+use Rattle.timetable.specs.Timetable.{Station, Stop, Timetable, validStation, listed, leaves, ends, follows, runs}
+use Rattle.timetable.specs.Timetable.{validTrip, validStations, validTrips, counted, valid}
+use Rattle.results.specs.Results.{dominates, equal, result}
+use Rattle.connections.specs.Rides.{ridePoints, ridesOf}
+use Rattle.connections.specs.Connections.{net, changesOf}
+use Rattle.connections.specs.Planner.{connections, plannerList, tieKey, rowsOf}
+
+abbrev pub station : (minutes points : ℕ) → Station
+station m p = record { minutes = m; points = p }
+
+abbrev pub stop : (station arrive depart points : ℕ) → Stop
+stop s a d p = record { station = s; arrive = a; depart = d; points = p }
+
+-- "Timetable M", but for the change minutes at station 2 and the arrival of trip 2
+unfoldable pub variant : (change arrival : ℕ) → Timetable
+variant c v =
+    record {
+      stations = station 2 10 ∷ station c 10 ∷ station 5 10 ∷ [];
+      trips =
+          (stop 1 0 480 0 ∷ stop 2 500 501 0 ∷ stop 3 560 0 0 ∷ [])
+          ∷ (stop 2 0 503 0 ∷ stop 3 v 0 0 ∷ [])
+          ∷ (stop 2 0 502 0 ∷ stop 3 515 0 0 ∷ [])
+          ∷ [];
+    }
+
+unfoldable pub M : Timetable
+unfolding variant
+M = variant 3 520
+
+-- it is accepted, so that the theorems hold of it
+pub M-valid : T (valid M)
+unfolding valid counted validStations validTrips validTrip validStation listed leaves ends follows runs M variant
+M-valid = tt
+
+-- the planner's rows, for a query from a at minute m to b
+abbrev pub planned : Timetable → (a m b : ℕ) → List (List ℕ)
+planned t a m b = rowsOf m (plannerList (net t) a m b)
+
+-- a row, as it is printed: duration, penalty, number of rides, and the rides
+abbrev pub oneRide : (d p trip board alight : ℕ) → List ℕ
+oneRide d p t x y = d ∷ p ∷ 1 ∷ t ∷ x ∷ y ∷ []
+
+abbrev pub twoRides : (d p trip board alight trip′ board′ alight′ : ℕ) → List ℕ
+twoRides d p t x y t′ x′ y′ = d ∷ p ∷ 2 ∷ t ∷ x ∷ y ∷ t′ ∷ x′ ∷ y′ ∷ []
+
+-- Both durations are measured from 470. Trip 1 stays at station 2 for one minute, and who stays aboard needs no change
+-- minutes; who arrives at 500 with 3 change minutes cannot leave at 502, and takes trip 2.
+pub case-a : planned M 1 470 3 ≡ twoRides 50 10 1 1 2 2 1 2 ∷ oneRide 90 0 1 1 3 ∷ []
+unfolding M variant ridesOf ridePoints changesOf plannerList connections result dominates equal rowsOf tieKey
+case-a = refl
+
+pub case-a-none : plannerList (net M) 1 481 3 ≡ []
+unfolding M variant ridesOf ridePoints changesOf plannerList connections
+case-a-none = refl
+
+pub case-g : planned M 2 501 3 ≡ oneRide 14 0 3 1 2 ∷ []
+unfolding M variant ridesOf ridePoints changesOf plannerList connections result dominates equal rowsOf tieKey
+case-g = refl
+
+pub case-h : planned M 2 503 3 ≡ oneRide 17 0 2 1 2 ∷ []
+unfolding M variant ridesOf ridePoints changesOf plannerList connections result dominates equal rowsOf tieKey
+case-h = refl
+
+-- The customer's first exercise: "the 8:00 takes twenty minutes, the 8:05 takes thirty". Whoever reaches the stop at
+-- 8:03 has a way through.
+unfoldable pub valley : Timetable
+valley =
+    record {
+      stations = station 0 1 ∷ station 0 1 ∷ [];
+      trips = (stop 1 0 480 0 ∷ stop 2 500 0 0 ∷ []) ∷ (stop 1 0 485 0 ∷ stop 2 515 0 0 ∷ []) ∷ [];
+    }
+
+pub late-and-slow : planned valley 1 483 2 ≡ oneRide 32 0 2 1 2 ∷ []
+unfolding valley ridesOf ridePoints changesOf plannerList connections result dominates equal rowsOf tieKey
+late-and-slow = refl
+
+-- "Of connections with equal cost the one shown departs latest."
+unfoldable pub alike : Timetable
+alike =
+    record {
+      stations = station 0 1 ∷ station 0 1 ∷ [];
+      trips = (stop 1 0 480 0 ∷ stop 2 500 0 0 ∷ []) ∷ (stop 1 0 490 0 ∷ stop 2 500 0 0 ∷ []) ∷ [];
+    }
+
+pub latest-shown : planned alike 1 470 2 ≡ oneRide 30 0 2 1 2 ∷ []
+unfolding alike ridesOf ridePoints changesOf plannerList connections result dominates equal rowsOf tieKey
+latest-shown = refl

@@ -1,0 +1,243 @@
+-- Lemma 1 of the paper: among the trips of a line that leave in time the first is no worse than any other. So the first
+-- trips of the lines have the costs of all direct rides.
+use mathlib.Core.Path.{_≡_, refl, sym, ap, subst, _∙_}
+use mathlib.Core.Bool.{Bool, _&&_}
+use mathlib.Core.Logic.{_↔_}
+use mathlib.Core.List.{List, [], Memᴰ·map, Memᴰ·of-map, Memᴰ·cast}
+use Prim.Native.Nat.{ℕ, suc, _-_, _≤_, _<_}
+use native.Mathlib.Omega.{arith}
+use lib.Dec.{T, leb, eqb, eqb→eq}
+use lib.ListN.{length, getD}
+use Rattle.timetable.specs.Timetable.{Trip, Timetable}
+use Rattle.lists.specs.Lists.{_∈_, filter, firstOf, range}
+use Rattle.lists.specs.Tests.{reads, writes, eq→eqb}
+use Rattle.lists.specs.Members.{filter-in, filter-out, first-out, concatMap-in, concatMap-out, range-in, range-out}
+use Rattle.results.specs.Results.{costs}
+use Rattle.results.specs.Domination.{NoWorse}
+use Rattle.results.specs.Kept.{costs-covered}
+use Rattle.connections.specs.Rides.{Ride, rideAt}
+use Rattle.connections.specs.Connections.{Net, net, Connection, direct, onward, Feasible, arrival, penalty, cost}
+use Rattle.connections.specs.Planner.{boardable, measure, rideCount}
+use Rattle.connections.specs.RideLaws.{Taken, rides-in, rides-out}
+use Rattle.lines.specs.Lines.{behind, lines, course, stationOn, directs, leaves, firstTo, firstFrom, firstOn}
+use Rattle.lines.specs.Lines.{firstRides}
+use Rattle.lines.specs.Behind.{behind-at, behind-points}
+use Rattle.lines.specs.Ordered.{lines-good, line-length, line-stop, first-covers}
+use Rattle.lines.specs.Once.{line-of, trip-listed}
+
+module _ (t : List Trip) where
+  -- the ride between the same two places of the trip in front arrives no later and costs the same
+  pub lemma-1 : (z w x y : ℕ) → T (behind (getD t z []) (getD t w []))
+      → ((rideAt (getD t z []) z x y) .arrive ≤ (rideAt (getD t w []) w x y) .arrive)
+      × ((rideAt (getD t z []) z x y) .points ≡ (rideAt (getD t w []) w x y) .points)
+  lemma-1 z w x y h =
+      (behind-at (getD t z []) (getD t w []) h y .arrive, behind-points (getD t z []) (getD t w []) h x y)
+
+  -- where a line takes one from a to b: a place to board, and a later one to alight
+  record Pair (a b : ℕ) (l : List ℕ) (x y : ℕ) : Type 0 where
+    later : x < y
+    inside : y < length (course t l)
+    board : stationOn t l x ≡ a
+    alight : stationOn t l y ≡ b
+
+  record FirstRide (a u b : ℕ) (c : Connection) : Type 0 where
+    line : List ℕ
+    x : ℕ
+    y : ℕ
+    z : ℕ
+    listed : line ∈ lines t
+    pair : Pair a b line x y
+    first : z ∈ firstOf (leaves t u x) line
+    is : direct (rideAt (getD t z []) z x y) ≡ c
+
+  abbrev boardsAt : (a : ℕ) (l : List ℕ) (x : ℕ) → Bool
+  boardsAt a l x = eqb (stationOn t l x) a
+
+  first-out′ : (a u b : ℕ) (c : Connection) → c ∈ firstRides t a u b → FirstRide a u b c
+  unfolding firstRides
+  first-out′ a u b c m =
+      let i = concatMap-out (firstOn t a u b) (lines t) m in
+      let l = i .0 in
+      let size = length (course t l) in
+      let j = concatMap-out (firstFrom t u b l) (filter (boardsAt a l) (range 0 size)) (i .2) in
+      let x = j .0 in
+      let later = range (suc x) (size - suc x) in
+      let k = concatMap-out (firstTo t u l x) (filter (boardsAt b l) later) (j .2) in
+      let y = k .0 in
+      let w = Memᴰ·of-map (λ z. direct (rideAt (getD t z []) z x y)) (firstOf (leaves t u x) l) (k .2) in
+      let fx = filter-out (boardsAt a l) (range 0 size) (j .1) in
+      let fy = filter-out (boardsAt b l) later (k .1) in
+      let h = range-out (suc x) (size - suc x) y (fy .0) in
+      record {
+        line = l;
+        x = x;
+        y = y;
+        z = w .0;
+        listed = i .1;
+        pair =
+            record {
+              later = omega arith;
+              inside = omega arith;
+              board = eqb→eq (stationOn t l x) a (fx .1);
+              alight = eqb→eq (stationOn t l y) b (fy .1);
+            };
+        first = w .1;
+        is = w .2;
+      }
+
+  first-in : (a u b : ℕ) (l : List ℕ) (x y z : ℕ) → l ∈ lines t → Pair a b l x y → z ∈ firstOf (leaves t u x) l
+      → direct (rideAt (getD t z []) z x y) ∈ firstRides t a u b
+  unfolding firstRides
+  first-in a u b l x y z m p f =
+      let size = length (course t l) in
+      let h = p .later in
+      let g = p .inside in
+      let at-x = range-in 0 size x (omega arith) (omega arith) in
+      let at-y = range-in (suc x) (size - suc x) y (omega arith) (omega arith) in
+      concatMap-in
+      (firstOn t a u b)
+      m
+      (concatMap-in
+      (firstFrom t u b l)
+      (filter-in (boardsAt a l) at-x (eq→eqb (stationOn t l x) a (p .board)))
+      (concatMap-in
+      (firstTo t u l x)
+      (filter-in (boardsAt b l) at-y (eq→eqb (stationOn t l y) b (p .alight)))
+      (Memᴰ·map (λ z. direct (rideAt (getD t z []) z x y)) f)))
+
+some-rides : (c : Connection) → 1 ≤ rideCount c
+some-rides (direct r) = omega arith
+some-rides (onward r w c) = omega arith
+
+module _ (tt′ : Timetable) (a u b : ℕ) where
+  abbrev t : List Trip
+  t = tt′ .trips
+
+  abbrev n : Net
+  n = net tt′
+
+  abbrev wanted : Ride → Bool
+  wanted r = boardable a u r && eqb (r .to) b
+
+  direct-in : (r : Ride) → r ∈ n .rides → T (wanted r) → direct r ∈ directs n a u b
+  unfolding directs
+  direct-in r m w = Memᴰ·map direct (filter-in wanted m w)
+
+  direct-out : (c : Connection) → c ∈ directs n a u b → (r : Ride) × (r ∈ n .rides) × T (wanted r) × (direct r ≡ c)
+  unfolding directs
+  direct-out c m =
+      let x = Memᴰ·of-map direct (filter wanted (n .rides)) m in
+      let f = filter-out wanted (n .rides) (x .1) in
+      (x .0, f .0, f .1, x .2)
+
+  -- the direct rides are the feasible connections of one ride
+  pub directs-exactly : (c : Connection) → c ∈ directs n a u b ↔ (Feasible n a u b c × (rideCount c ≡ 1))
+  directs-exactly c = (out, into c)
+    where
+      out : c ∈ directs n a u b → Feasible n a u b c × (rideCount c ≡ 1)
+      out m =
+          let x = direct-out c m in
+          let h = x .2 in
+          let from : (x .0) .from ≡ a = search reads in
+          let to : (x .0) .to ≡ b = search reads in
+          let timely : u ≤ (x .0) .depart = search reads in
+          rw (← x .3) ((record { listed = x .1; here = from; timely = timely }, to), refl)
+
+      into : (c : Connection) → Feasible n a u b c × (rideCount c ≡ 1) → c ∈ directs n a u b
+      into (direct r) f =
+          let to = f .0 .1 in
+          let from = f .0 .0 .here in
+          let timely = f .0 .0 .timely in
+          direct-in r (f .0 .0 .listed) (search writes)
+      into (onward r w c) f = absurd (omega (arith, f .1, some-rides c))
+
+  -- a first ride is a direct ride
+  first-direct : (c : Connection) → c ∈ firstRides t a u b → c ∈ directs n a u b
+  first-direct c m =
+      let f = first-out′ t a u b c m in
+      let z = f .z in
+      let o = lines-good t (f .line) (f .listed) in
+      let p = f .pair in
+      let k = first-out (leaves t u (f .x)) (f .line) (f .first) in
+      let e = line-length t (f .line) z o (k .0) in
+      let i = p .inside in
+      let z-listed = trip-listed t z (record { line = f .line; listed = f .listed; member = k .0 }) in
+      let from = sym (line-stop t (f .line) z (f .x) o (k .0) .station) ∙ p .board in
+      let to = sym (line-stop t (f .line) z (f .y) o (k .0) .station) ∙ p .alight in
+      let timely = k .1 in
+      Memᴰ·cast
+      (sym (f .is))
+      (direct-in
+      (rideAt (getD t z []) z (f .x) (f .y))
+      (rides-in t z (f .x) (f .y) z-listed (p .later) (omega arith))
+      (search writes))
+
+  record Covered (c : Connection) : Type 0 where
+    one : Connection
+    first : one ∈ firstRides t a u b
+    no-worse : NoWorse (cost u one) (cost u c)
+
+  -- and each direct ride has a first ride that is no worse
+  covered : (c : Connection) → c ∈ directs n a u b → Covered c
+  covered c m = go (rides-out t r (x .1))
+    where
+      x : (r : Ride) × (r ∈ n .rides) × T (wanted r) × (direct r ≡ c)
+      x = direct-out c m
+
+      r : Ride
+      r = x .0
+
+      w : T (wanted r)
+      w = x .2
+
+      go : Taken t r → Covered c
+      go k =
+          let z = k .z in
+          let s = line-of t z (k .listed) in
+          let l = s .line in
+          let o = lines-good t l (s .listed) in
+          let e = line-length t l z o (s .member) in
+          let i = k .inside in
+          let h = w in
+          let from : r .from ≡ a = search reads in
+          let to : r .to ≡ b = search reads in
+          let timely : T (leb u (r .depart)) = search reads in
+          let leaves-z : T (leaves t u (k .x) z) = subst (λ v. T (leb u (v .depart))) (sym (k .is)) timely in
+          let f = first-covers t (leaves t u (k .x)) l (o .ordered) z (s .member) leaves-z in
+          let q = lemma-1 t (f .one) z (k .x) (k .y) (f .before) in
+          let arrives = ap (λ v. v .arrive) (k .is) in
+          let points = ap (λ v. v .points) (k .is) in
+          let arrives-c = ap arrival (x .3) in
+          let points-c = ap penalty (x .3) in
+          record {
+            one = direct (rideAt (getD t (f .one) []) (f .one) (k .x) (k .y));
+            first =
+                first-in
+                t
+                a
+                u
+                b
+                l
+                (k .x)
+                (k .y)
+                (f .one)
+                (s .listed)
+                (record {
+                  later = k .later;
+                  inside = omega arith;
+                  board = line-stop t l z (k .x) o (s .member) .station ∙ ap (λ v. v .from) (k .is) ∙ from;
+                  alight = line-stop t l z (k .y) o (s .member) .station ∙ ap (λ v. v .to) (k .is) ∙ to;
+                })
+                (f .found);
+            no-worse = omega arith;
+          }
+
+  -- the first half of demand 2: the costs of a direct query, from the first trips of the lines
+  pub direct-costs : costs (measure u) (firstRides t a u b) ≡ costs (measure u) (directs n a u b)
+  direct-costs =
+      costs-covered
+      (measure u)
+      (directs n a u b)
+      (firstRides t a u b)
+      first-direct
+      (λ c m. let k = covered c m in (k .one, k .first, k .no-worse))

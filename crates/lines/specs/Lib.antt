@@ -1,0 +1,7 @@
+pub mod Lines
+pub mod Worked
+pub mod Behind
+pub mod Ordered
+pub mod Once
+pub mod Calls
+pub mod Direct

@@ -1,0 +1,119 @@
+-- The lines of a timetable, section 4.1 of the 2010 paper. Document 01: "Take trips by first departure, then trip
+-- number. A trip joins the lowest-numbered line with the same stations and ride penalties whose last trip is nowhere
+-- later than it, in any arrival or departure. Otherwise it founds the next line. Equal times may share a line." Here
+-- trips, lines and positions stand at places from 0; as numbers they "count from 1".
+use mathlib.Core.Bool.{Bool, true, false, _&&_}
+use mathlib.Core.List.{List, [], _∷_, _++_, map}
+use Prim.Native.Nat.{ℕ, suc, _-_}
+use lib.Dec.{leb, eqb}
+use lib.ListN.{length, getD}
+use Rattle.timetable.specs.Timetable.{Stop, Trip}
+use Rattle.lists.specs.Lists.{filter, firstOf, concatMap, range, sort}
+use Rattle.connections.specs.Rides.{noStop, rideAt}
+use Rattle.connections.specs.Connections.{Net, Connection, direct}
+use Rattle.connections.specs.Planner.{boardable, rowsOf}
+
+-- the same station and ride penalty, and s not later than u
+abbrev pub stopBehind : (s u : Stop) → Bool
+stopBehind s u =
+    eqb (s .station) (u .station)
+    && eqb (s .points) (u .points)
+    && leb (s .arrive) (u .arrive)
+    && leb (s .depart) (u .depart)
+
+-- trip v can run behind trip u on one line
+abbrev pub behind : (u v : Trip) → Bool
+behind [] [] = true
+behind [] (s ∷ l) = false
+behind (s ∷ k) [] = false
+behind (s ∷ k) (u ∷ l) = stopBehind s u && behind k l
+
+abbrev pub lastOf : List ℕ → ℕ
+lastOf [] = 0
+lastOf (x ∷ []) = x
+lastOf (x ∷ y ∷ l) = lastOf (y ∷ l)
+
+-- trip z joins line x, or tries the lines behind it, with what comes of that
+abbrev pub enter : Bool → (z : ℕ) (x : List ℕ) (ls r : List (List ℕ)) → List (List ℕ)
+enter true z x ls r = (x ++ (z ∷ [])) ∷ ls
+enter false z x ls r = x ∷ r
+
+-- trip z joins the first line that it can, or founds the next
+abbrev pub addTrip : List Trip → (z : ℕ) → List (List ℕ) → List (List ℕ)
+addTrip t z [] = (z ∷ []) ∷ []
+addTrip t z (x ∷ ls) = enter (behind (getD t (lastOf x) []) (getD t z [])) z x ls (addTrip t z ls)
+
+abbrev pub addTrips : List Trip → (zs : List ℕ) → List (List ℕ) → List (List ℕ)
+addTrips t [] ls = ls
+addTrips t (z ∷ zs) ls = addTrips t zs (addTrip t z ls)
+
+abbrev pub firstDeparture : Trip → ℕ
+firstDeparture [] = 0
+firstDeparture (s ∷ l) = s .depart
+
+-- a trip's first departure, then its place
+abbrev pub tripKey : List Trip → (z : ℕ) → List ℕ
+tripKey t z = firstDeparture (getD t z []) ∷ z ∷ []
+
+-- the trips in the order in which they are taken
+unfoldable pub inOrder : List Trip → List ℕ
+inOrder t = map (λ k. getD k 1 0) (sort (map (tripKey t) (range 0 (length t))))
+
+-- the lines, each with the places of its trips
+unfoldable pub lines : List Trip → List (List ℕ)
+lines t = addTrips t (inOrder t) []
+
+-- the lines with the numbers of their trips
+abbrev pub lineNumbers : List Trip → List (List ℕ)
+lineNumbers t = map (map suc) (lines t)
+
+abbrev pub headOf : List ℕ → ℕ
+headOf [] = 0
+headOf (z ∷ l) = z
+
+-- where a line calls: the stops of its first trip, which has the stations and ride penalties of them all
+abbrev pub course : List Trip → (line : List ℕ) → Trip
+course t l = getD t (headOf l) []
+
+abbrev pub stationOn : List Trip → (line : List ℕ) (p : ℕ) → ℕ
+stationOn t l p = (getD (course t l) p noStop) .station
+
+-- the calls of the line at place i at station s: line number and position
+abbrev pub lineCalls : List Trip → (s i : ℕ) → List (List ℕ)
+lineCalls t s i =
+    let l = getD (lines t) i [] in
+    map (λ p. suc i ∷ suc p ∷ []) (filter (λ p. eqb (stationOn t l p) s) (range 0 (length (course t l))))
+
+-- "For each station the tables list (line, position), rising; a station met twice on a line is listed twice."
+unfoldable pub calls : List Trip → (s : ℕ) → List (List ℕ)
+calls t s = sort (concatMap (lineCalls t s) (range 0 (length (lines t))))
+
+-- every single ride for the query
+unfoldable pub directs : Net → (a t b : ℕ) → List Connection
+directs n a t b = map direct (filter (λ r. boardable a t r && eqb (r .to) b) (n .rides))
+
+-- the rows of a direct query: "The ride shown is chosen by the rule above among all direct rides of that cost, a later
+-- trip of the same line included."
+unfoldable pub directRows : Net → (a t b : ℕ) → List (List ℕ)
+directRows n a t b = rowsOf t (directs n a t b)
+
+-- "A direct query takes, for each position of A before one of B, the first trip of the line that leaves at or after the
+-- minute": for a line l that calls at A at place x, the rides to places y
+abbrev pub leaves : List Trip → (u x z : ℕ) → Bool
+leaves t u x z = leb u ((getD (getD t z []) x noStop) .depart)
+
+abbrev pub firstTo : List Trip → (u : ℕ) (l : List ℕ) (x y : ℕ) → List Connection
+firstTo t u l x y = map (λ z. direct (rideAt (getD t z []) z x y)) (firstOf (leaves t u x) l)
+
+abbrev pub firstFrom : List Trip → (u b : ℕ) (l : List ℕ) (x : ℕ) → List Connection
+firstFrom t u b l x =
+    concatMap
+    (firstTo t u l x)
+    (filter (λ y. eqb (stationOn t l y) b) (range (suc x) (length (course t l) - suc x)))
+
+abbrev pub firstOn : List Trip → (a u b : ℕ) (l : List ℕ) → List Connection
+firstOn t a u b l =
+    concatMap (firstFrom t u b l) (filter (λ x. eqb (stationOn t l x) a) (range 0 (length (course t l))))
+
+unfoldable pub firstRides : List Trip → (a u b : ℕ) → List Connection
+firstRides t a u b = concatMap (firstOn t a u b) (lines t)

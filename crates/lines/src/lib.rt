@@ -1,0 +1,1 @@
+// Lines: which trips share one, where they call, and the direct rides that they answer for.

@@ -1,0 +1,1 @@
+// Lists, what they hold and how they are ordered: the words in which all later definitions are put, with their laws.

@@ -1,0 +1,71 @@
+-- Riders on their way, for a start at station a from minute t on. A rider who has changed at given stations can board
+-- at x at minute u, having paid p: by recursion on the stations of the changes, the last one first, which is the order
+-- in which a stored sequence is read from the arc back to the root. No connection is listed.
+use mathlib.Core.Path.{_≡_}
+use mathlib.Core.List.{List, [], _∷_}
+use Prim.Native.Nat.{ℕ, _+_, _≤_, _<_}
+use Rattle.lists.specs.Lists.{_∈_}
+use Rattle.connections.specs.Rides.{Ride}
+use Rattle.connections.specs.Connections.{Change, Net, Connection, direct, onward, Changes, ready}
+
+module _ (n : Net) (a t : ℕ) where
+  -- by a ride and a change at station y from what was reached before
+  pub record Layer (Below : (x u p : ℕ) → Type 0) (y x u p : ℕ) : Type 0 where
+    pub ride : Ride
+    pub change : Change
+    pub paid : ℕ
+    pub listed : ride ∈ n .rides
+    pub changes : Changes n ride change
+    pub at : change .from ≡ y
+    pub to : change .to ≡ x
+    pub timely : ready ride change ≤ u
+    pub below : Below (ride .from) (ride .depart) paid
+    pub total : p ≡ paid + ride .points + change .points
+
+  -- can board at x at minute u, having paid p and changed at these stations
+  abbrev pub Along : (changed : List ℕ) (x u p : ℕ) → Type 0
+  Along [] x u p = (x ≡ a) × (t ≤ u) × (p ≡ 0)
+  Along (y ∷ rev) x u p = Layer (Along rev) y x u p
+
+  -- arrives at b at minute v, having paid p and changed at these stations
+  pub record Ends (rev : List ℕ) (b v p : ℕ) : Type 0 where
+    pub ride : Ride
+    pub paid : ℕ
+    pub listed : ride ∈ n .rides
+    pub to : ride .to ≡ b
+    pub minute : ride .arrive ≡ v
+    pub below : Along rev (ride .from) (ride .depart) paid
+    pub total : p ≡ paid + ride .points
+
+  -- the same whatever the changes were
+  pub record Reaches (x u p : ℕ) : Type 0 where
+    pub changed : List ℕ
+    pub along : Along changed x u p
+
+  pub record Arrives (b v p : ℕ) : Type 0 where
+    pub changed : List ℕ
+    pub ends : Ends changed b v p
+
+  -- the least that can have been paid
+  pub record LeastAlong (rev : List ℕ) (x u p : ℕ) : Type 0 where
+    pub reached : Along rev x u p
+    pub least : (q : ℕ) → Along rev x u q → p ≤ q
+
+  pub record Least (x u p : ℕ) : Type 0 where
+    pub reached : Reaches x u p
+    pub least : (q : ℕ) → Reaches x u q → p ≤ q
+
+  -- at each boarding of the connection what was paid, p at the first, is the least
+  abbrev pub TightAlong : (rev : List ℕ) (p : ℕ) → Connection → Type 0
+  TightAlong rev p (direct r) = LeastAlong rev (r .from) (r .depart) p
+  TightAlong rev p (onward r w c) =
+      LeastAlong rev (r .from) (r .depart) p × TightAlong (w .from ∷ rev) (p + r .points + w .points) c
+
+  abbrev pub Tight : (p : ℕ) → Connection → Type 0
+  Tight p (direct r) = Least (r .from) (r .depart) p
+  Tight p (onward r w c) = Least (r .from) (r .depart) p × Tight (p + r .points + w .points) c
+
+  -- minute v and penalty p lie on the frontier of b: no one is there by then for less, and earlier only for more
+  pub record Frontier (b v p : ℕ) : Type 0 where
+    pub least : (w q : ℕ) → Arrives b w q → w ≤ v → p ≤ q
+    pub first : (w q : ℕ) → Arrives b w q → w < v → p < q

@@ -1,0 +1,66 @@
+-- Domination as arithmetic: neither part larger and the sum smaller. The sum serves proofs only, where `omega` reads
+-- it; no definition adds the two.
+use mathlib.Core.Path.{_≡_}
+use mathlib.Core.Logic.{inl, inr}
+use Prim.Native.Nat.{_+_, _≤_, _<_}
+use native.Mathlib.Omega.{arith, by-contra}
+use lib.Dec.{T, ltb, ltb→lt, nltb→le, le→leb}
+use Rattle.lists.specs.Tests.{either, both, and-r, or-l, or-r, or-cases, reads, writes}
+use Rattle.results.specs.Results.{Cost, dominates, equal}
+
+pub record NoWorse (x y : Cost) : Type 0 where
+  pub sooner : x .minutes ≤ y .minutes
+  pub cheaper : x .points ≤ y .points
+
+pub record Better (x y : Cost) : Type 0 where
+  pub sooner : x .minutes ≤ y .minutes
+  pub cheaper : x .points ≤ y .points
+  pub strict : x .minutes + x .points < y .minutes + y .points
+
+module _ (x y : Cost) where
+  pub dominates-out : T (dominates x y) → Better x y
+  unfolding dominates
+  dominates-out t =
+      let a : x .minutes ≤ y .minutes = search reads in
+      let b : x .points ≤ y .points = search reads in
+      elim (or-cases (ltb (x .minutes) (y .minutes)) (ltb (x .points) (y .points)) (search and-r)) [
+        | inl s ↦ omega (arith, ltb→lt)
+        | inr s ↦ omega (arith, ltb→lt)
+      ]
+
+  pub dominates-in : Better x y → T (dominates x y)
+  unfolding dominates
+  dominates-in h =
+      either
+      (ltb (x .minutes) (y .minutes))
+      (λ s. search (both, le→leb, or-l))
+      (λ s.
+      let k : x .points < y .points = omega (arith, nltb→le (x .minutes) (y .minutes) s) in
+      search (both, le→leb, or-r))
+
+  -- what is no worse and does not dominate has the same cost
+  pub undominated-same : NoWorse x y → ¬ T (dominates x y) → x ≡ y
+  undominated-same h n = λ i. record { minutes = same-minutes i; points = same-points i }
+    where
+      no-less : y .minutes + y .points ≤ x .minutes + x .points
+      no-less = by-contra (y .minutes + y .points) (x .minutes + x .points) (λ k. n (dominates-in (omega arith)))
+
+      same-minutes : x .minutes ≡ y .minutes
+      same-minutes = omega (arith, no-less)
+
+      same-points : x .points ≡ y .points
+      same-points = omega (arith, no-less)
+
+  pub equal-out : T (equal x y) → x ≡ y
+  unfolding equal
+  equal-out t =
+      let p : x .minutes ≡ y .minutes = search reads in
+      let q : x .points ≡ y .points = search reads in
+      λ i. record { minutes = p i; points = q i }
+
+  pub equal-in : x ≡ y → T (equal x y)
+  unfolding equal
+  equal-in e =
+      let p : x .minutes ≡ y .minutes = cc in
+      let q : x .points ≡ y .points = cc in
+      search writes

@@ -1,0 +1,97 @@
+-- A shorter list with the result of the whole. If it keeps every undominated candidate, the result is the same, rows
+-- and all: whatever beats a candidate on the whole list, an undominated one below it beats it on the shorter. If it
+-- only has one for each that is no worse, the costs are the same.
+use mathlib.Core.Path.{_≡_, refl, sym, _∙_}
+use mathlib.Core.List.{List, [], _∷_, List·Memᴰ·head as here, Memᴰ·cast}
+use native.Mathlib.Omega.{arith}
+use lib.Dec.{T}
+use Rattle.lists.specs.Lists.{_∈_}
+use Rattle.lists.specs.Members.{none}
+use Rattle.lists.specs.Sorting.{Inside, rising-unique}
+use Rattle.results.specs.Results.{Measure, pair, over, result, costs, Undominated, Picked}
+use Rattle.results.specs.Domination.{NoWorse, Better, dominates-in, dominates-out, undominated-same}
+use Rattle.results.specs.Picks.{result-in, result-out, result-rising, costs-in, costs-out, costs-rising}
+use Rattle.results.specs.Picks.{undominated-cost, optimum}
+
+-- one with the cost and row of another has its pair
+pub same-pair : {X : Type 0} (m : Measure X) (c e : X) → m .cost c ≡ m .cost e → pair m c ≡ pair m e
+same-pair m c e q = λ i. (q i) .minutes ∷ (q i) .points ∷ []
+
+module _ {X : Type 0} (m : Measure X) (whole kept : List X) (sub : (c : X) → c ∈ kept → c ∈ whole) where
+  undominated-part : (c : X) → c ∈ kept → Undominated m whole c → Undominated m kept c
+  undominated-part c i u = record { listed = i; free = λ e k. u .free e (sub e k) }
+
+  module _ (keeps : (c : X) → Undominated m whole c → c ∈ kept) where
+    undominated-whole : (c : X) → Undominated m kept c → Undominated m whole c
+    undominated-whole c u = record { listed = sub c (u .listed); free = free }
+      where
+        free : (e : X) → e ∈ whole → ¬ T (over m c e)
+        free e i d =
+            let b = dominates-out (m .cost e) (m .cost c) d in
+            let o = optimum m whole e i in
+            let better : Better (m .cost (o .one)) (m .cost c) = omega (arith, b, o .no-worse) in
+            u .free (o .one) (keeps (o .one) (o .best)) (dominates-in (m .cost (o .one)) (m .cost c) better)
+
+    picked-part : (c : X) → Picked m whole c → Picked m kept c
+    picked-part c p =
+        record {
+          best = undominated-part c (keeps c (p .best)) (p .best);
+          first = λ e i. p .first e (sub e i);
+        }
+
+    picked-whole : (c : X) → Picked m kept c → Picked m whole c
+    picked-whole c p =
+        let u = undominated-whole c (p .best) in
+        record {
+          best = u;
+          first = λ e i q. p .first e (keeps e (undominated-cost m whole c e u i q)) q;
+        }
+
+    pub result-kept : result m kept ≡ result m whole
+    result-kept =
+        rising-unique
+        (result m kept)
+        (result m whole)
+        (result-rising m kept)
+        (result-rising m whole)
+        (λ z i. let r = result-out m kept z i in
+        Memᴰ·cast (sym (r .2)) (result-in m whole (r .0) (picked-whole (r .0) (r .1))))
+        (λ z i. let r = result-out m whole z i in
+        Memᴰ·cast (sym (r .2)) (result-in m kept (r .0) (picked-part (r .0) (r .1))))
+
+    pub empty-kept : kept ≡ [] → whole ≡ []
+    empty-kept e = go whole refl
+      where
+        go : (l : List X) → whole ≡ l → whole ≡ []
+        go [] h = h
+        go (c ∷ l) h = let o = optimum m whole c (rw h (here refl)) in none (rw e at (keeps (o .one) (o .best)))
+
+  -- Lemma 1 of the paper uses this: the first trips of the lines cover all direct rides.
+  module _ (covered : (c : X) → c ∈ whole → (e : X) × (e ∈ kept) × NoWorse (m .cost e) (m .cost c)) where
+    undominated-covered : (c : X) → Undominated m kept c → Undominated m whole c
+    undominated-covered c u = record { listed = sub c (u .listed); free = free }
+      where
+        free : (e : X) → e ∈ whole → ¬ T (over m c e)
+        free e i d =
+            let b = dominates-out (m .cost e) (m .cost c) d in
+            let o = covered e i in
+            let better : Better (m .cost (o .0)) (m .cost c) = omega (arith, b, o .2) in
+            u .free (o .0) (o .1) (dominates-in (m .cost (o .0)) (m .cost c) better)
+
+    pub costs-covered : costs m kept ≡ costs m whole
+    costs-covered = rising-unique (costs m kept) (costs m whole) (costs-rising m kept) (costs-rising m whole) to from
+      where
+        to : Inside (costs m kept) (costs m whole)
+        to z i =
+            let r = costs-out m kept z i in
+            Memᴰ·cast (sym (r .2)) (costs-in m whole (r .0) (undominated-covered (r .0) (r .1)))
+
+        from : Inside (costs m whole) (costs m kept)
+        from z i =
+            let r = costs-out m whole z i in
+            let o = covered (r .0) (r .1 .listed) in
+            let e = o .0 in
+            let i = sub e (o .1) in
+            let q = undominated-same (m .cost e) (m .cost (r .0)) (o .2) (r .1 .free e i) in
+            let u = undominated-part e (o .1) (undominated-cost m whole (r .0) e (r .1) i q) in
+            Memᴰ·cast (sym (r .2) ∙ sym (same-pair m e (r .0) q)) (costs-in m kept e u)

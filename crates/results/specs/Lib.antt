@@ -1,0 +1,6 @@
+pub mod Results
+pub mod Worked
+pub mod Domination
+pub mod Picks
+pub mod Answered
+pub mod Kept
