@@ -115,11 +115,11 @@ module _ (w : List ℕ) (i n : ℕ) where
   starts-none h = ap (map (startAt w)) (numbers-none i n h)
 
 -- ---- the parts come to question 9
-length-numbersFrom : (i n : ℕ) → length (numbersFrom i n) ≡ n
+pub length-numbersFrom : (i n : ℕ) → length (numbersFrom i n) ≡ n
 length-numbersFrom i zero = refl
 length-numbersFrom i (suc n) = ap suc (length-numbersFrom (suc i) n)
 
-length-trip : (w : List ℕ) (k : ℕ) → length (tripAt w k) ≡ startAt w (suc k) - startAt w k
+pub length-trip : (w : List ℕ) (k : ℕ) → length (tripAt w k) ≡ startAt w (suc k) - startAt w k
 unfolding tripAt
 length-trip w k =
     length-map (numbersFrom (startAt w k) (startAt w (k + 1) - startAt w k)) (stopAt w)
@@ -152,22 +152,22 @@ module _ (w : List ℕ) where
   abbrev pub decision : Bool
   decision = headed && eqb (startAt w 0) 0 && stationsTest && allTripsTest
 
-  length-stations : length ((timetableOf w) .stations) ≡ stationCount w
+  pub length-stations : length ((timetableOf w) .stations) ≡ stationCount w
   unfolding timetableOf
   length-stations =
       length-map (numbersFrom 0 (stationCount w)) (stationAt w) ∙ length-numbersFrom 0 (stationCount w)
 
-  length-trips : length ((timetableOf w) .trips) ≡ tripCount w
+  pub length-trips : length ((timetableOf w) .trips) ≡ tripCount w
   unfolding timetableOf
   length-trips = length-map (numbersFrom 0 (tripCount w)) (tripAt w) ∙ length-numbersFrom 0 (tripCount w)
 
-  abbrev zeroed : Bool
+  abbrev pub zeroed : Bool
   zeroed = eqb (startAt w 0) 0
 
-  abbrev rising : Bool
+  abbrev pub rising : Bool
   rising = rise 0 (map (startAt w) (numbersFrom 1 (tripCount w))) (stopCount w)
 
-  length-stops : zeroed ≡ true → rising ≡ true → length (stopsOf ((timetableOf w) .trips)) ≡ stopCount w
+  pub length-stops : zeroed ≡ true → rising ≡ true → length (stopsOf ((timetableOf w) .trips)) ≡ stopCount w
   unfolding timetableOf
   length-stops z r =
       let start = eqb-true (startAt w 0) 0 z in

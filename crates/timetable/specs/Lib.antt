@@ -2,3 +2,4 @@ pub mod Timetable
 pub mod Words
 pub mod WordLaws
 pub mod Check
+pub mod Access

@@ -1,0 +1,193 @@
+-- From words with a yes to question 9 to the timetable that they spell: its bounds, and each of its stations, trips and
+-- stops. Callers use these laws, never the places of words.
+use mathlib.Core.Path.{_≡_, refl, sym, ap, _∙_}
+use mathlib.Core.Bool.{Bool, true, false, _&&_}
+use mathlib.Core.List.{List, [], _∷_, _++_, map}
+use Prim.Native.Nat.{ℕ, zero, suc, _+_, _-_, _≤_, _<_}
+use native.Mathlib.Numerals.{add-one}
+use native.Mathlib.Omega.{arith}
+use borrow.Author.Tests.{leb-true, eqb-true}
+use lib.Dec.{leb, eqb}
+use lib.ListN.{length, getD, length-map, List·getD-map}
+use Rattle.questions.specs.Question.{and-left, and-right}
+use Rattle.timetable.specs.Timetable.{
+    Station,
+    Stop,
+    Trip,
+    Timetable,
+    listed,
+    leaves,
+    validTrip,
+    validTrips,
+    validStations,
+    runs,
+    counted,
+    valid
+}
+use Rattle.timetable.specs.Words.{
+    stationCount,
+    tripCount,
+    stopCount,
+    numbersFrom,
+    stationAt,
+    stopAt,
+    startAt,
+    tripAt,
+    timetableOf,
+    rise,
+    chained,
+    isTimetable
+}
+use Rattle.timetable.specs.Check.{
+    length-trips,
+    length-trip,
+    zeroed,
+    rising,
+    headed,
+    stationsTest,
+    allTripsTest,
+    decided
+}
+
+-- the numbers from k on, one by one
+map-numbers : {A : Type 0} (f : ℕ → A) (k n i : ℕ) (d : A) → i < n → getD (map f (numbersFrom k n)) i d ≡ f (k + i)
+map-numbers f k zero i d h = absurd (omega arith)
+map-numbers f k (suc n) zero d h = ap f (omega arith)
+map-numbers f k (suc n) (suc i) d h = map-numbers f (suc k) n i d (omega arith) ∙ ap f (omega arith)
+
+module _ (w : List ℕ) where
+  -- a station, a trip and a stop of the timetable are those that stand in the words
+  pub station-is : (i : ℕ) (d : Station) → i < stationCount w → getD ((timetableOf w) .stations) i d ≡ stationAt w i
+  unfolding timetableOf
+  station-is i d h = map-numbers (stationAt w) 0 (stationCount w) i d h ∙ ap (stationAt w) (omega arith)
+
+  pub trip-is : (k : ℕ) (d : Trip) → k < tripCount w → getD ((timetableOf w) .trips) k d ≡ tripAt w k
+  unfolding timetableOf
+  trip-is k d h = map-numbers (tripAt w) 0 (tripCount w) k d h ∙ ap (tripAt w) (omega arith)
+
+  pub trip-long : (k : ℕ) → length (tripAt w k) ≡ startAt w (k + 1) - startAt w k
+  trip-long k = length-trip w k ∙ ap (λ j. startAt w j - startAt w k) (sym (add-one k))
+
+  pub stop-is : (k p : ℕ) (d : Stop) → p < startAt w (k + 1) - startAt w k
+      → getD (tripAt w k) p d ≡ stopAt w (startAt w k + p)
+  unfolding tripAt
+  stop-is k p d h = map-numbers (stopAt w) (startAt w k) (startAt w (k + 1) - startAt w k) p d h
+
+-- ---- trips of a valid timetable have two stops at least
+no-truth : false ≡ true → ⊥
+no-truth e = let z : _≡_ {A = ℕ} 0 1 = cc in omega arith
+
+two-stops : (n : ℕ) (t : Trip) → validTrip n t ≡ true → 2 ≤ length t
+unfolding validTrip runs
+two-stops n [] e = absurd (no-truth e)
+two-stops n (s ∷ []) e = absurd (no-truth (and-right (listed n s && eqb (s .arrive) 0 && leaves s) false e))
+two-stops n (s ∷ u ∷ l) e = omega arith
+
+trip-valid : (n : ℕ) (l : List Trip) (k : ℕ) (d : Trip) → validTrips n l ≡ true → k < length l
+    → validTrip n (getD l k d) ≡ true
+unfolding validTrips
+trip-valid n [] k d e h = absurd (omega arith)
+trip-valid n (t ∷ l) zero d e h = and-left (validTrip n t) (validTrips n l) e
+trip-valid n (t ∷ l) (suc k) d e h = trip-valid n l k d (and-right (validTrip n t) (validTrips n l) e) (omega arith)
+
+-- starts that rise to n are at most n, and the last of them is n
+rise-at : (w : List ℕ) (k m n i : ℕ) → rise (startAt w k) (map (startAt w) (numbersFrom (suc k) m)) n ≡ true → i ≤ m
+    → startAt w (k + i) ≤ n
+unfolding rise
+rise-at w k zero n i e h =
+    let here : k + i ≡ k = omega arith in
+    omega (arith, eqb-true (startAt w k) n e, ap (startAt w) here)
+rise-at w k (suc m) n zero e h =
+    let up : Bool = leb (startAt w k) (startAt w (suc k)) in
+    let rest : Bool = rise (startAt w (suc k)) (map (startAt w) (numbersFrom (suc (suc k)) m)) n in
+    let here : k + 0 ≡ k = omega arith in
+    let next : suc k + 0 ≡ suc k = omega arith in
+    let later = rise-at w (suc k) m n 0 (and-right up rest e) (omega arith) in
+    omega (
+        arith,
+        leb-true (startAt w k) (startAt w (suc k)) (and-left up rest e),
+        later,
+        ap (startAt w) here,
+        ap (startAt w) next
+    )
+rise-at w k (suc m) n (suc i) e h =
+    let up : Bool = leb (startAt w k) (startAt w (suc k)) in
+    let rest : Bool = rise (startAt w (suc k)) (map (startAt w) (numbersFrom (suc (suc k)) m)) n in
+    let same : suc k + i ≡ k + suc i = omega arith in
+    omega (arith, ap (startAt w) same, rise-at w (suc k) m n i (and-right up rest e) (omega arith))
+
+rise-last : (w : List ℕ) (k m n : ℕ) → rise (startAt w k) (map (startAt w) (numbersFrom (suc k) m)) n ≡ true
+    → startAt w (k + m) ≡ n
+unfolding rise
+rise-last w k zero n e =
+    let here : k + 0 ≡ k = omega arith in
+    ap (startAt w) here ∙ eqb-true (startAt w k) n e
+rise-last w k (suc m) n e =
+    let up : Bool = leb (startAt w k) (startAt w (suc k)) in
+    let rest : Bool = rise (startAt w (suc k)) (map (startAt w) (numbersFrom (suc (suc k)) m)) n in
+    let same : k + suc m ≡ suc k + m = omega arith in
+    ap (startAt w) same ∙ rise-last w (suc k) m n (and-right up rest e)
+
+-- ---- words with a yes
+module _ (w : List ℕ) (yes : isTimetable w ≡ true) where
+  pub spelled-valid : valid (timetableOf w) ≡ true
+  unfolding isTimetable
+  spelled-valid = and-right (chained w) (valid (timetableOf w)) yes
+
+  is-chained : chained w ≡ true
+  unfolding isTimetable
+  is-chained = and-left (chained w) (valid (timetableOf w)) yes
+
+  pub start-first : startAt w 0 ≡ 0
+  unfolding chained
+  start-first = eqb-true (startAt w 0) 0 (and-left (zeroed w) (rising w) is-chained)
+
+  rises : rise (startAt w 0) (map (startAt w) (numbersFrom 1 (tripCount w))) (stopCount w) ≡ true
+  unfolding chained
+  rises = rw start-first (and-right (zeroed w) (rising w) is-chained)
+
+  pub start-last : startAt w (tripCount w) ≡ stopCount w
+  start-last =
+      let same : 0 + tripCount w ≡ tripCount w = omega arith in
+      sym (ap (startAt w) same) ∙ rise-last w 0 (tripCount w) (stopCount w) rises
+
+  pub start-most : (k : ℕ) → k ≤ tripCount w → startAt w k ≤ stopCount w
+  start-most k h =
+      let same : 0 + k ≡ k = omega arith in
+      omega (arith, ap (startAt w) same, rise-at w 0 (tripCount w) (stopCount w) k rises h)
+
+  is-headed : headed w ≡ true
+  is-headed =
+      and-left (headed w) (zeroed w)
+      (and-left (headed w && zeroed w) (stationsTest w)
+      (and-left (headed w && zeroed w && stationsTest w) (allTripsTest w) (sym (decided w) ∙ yes)))
+
+  pub record Counts : Type 0 where
+    pub some-station : 1 ≤ stationCount w
+    pub stations : stationCount w ≤ 64
+    pub trips : tripCount w ≤ 256
+    pub stops : stopCount w ≤ 2048
+
+  pub counts : Counts
+  counts =
+      let s : Bool = leb 1 (stationCount w) in
+      let m : Bool = leb (stationCount w) 64 in
+      let t : Bool = leb (tripCount w) 256 in
+      let n : Bool = leb (stopCount w) 2048 in
+      let smt = and-left (s && m && t) n is-headed in
+      let sm = and-left (s && m) t smt in
+      record {
+          some-station = leb-true 1 (stationCount w) (and-left s m sm);
+          stations = leb-true (stationCount w) 64 (and-right s m sm);
+          trips = leb-true (tripCount w) 256 (and-right (s && m) t smt);
+          stops = leb-true (stopCount w) 2048 (and-right (s && m && t) n is-headed)
+      }
+
+  pub trip-stops : (k : ℕ) → k < tripCount w → startAt w k + 2 ≤ startAt w (k + 1)
+  unfolding valid
+  trip-stops k h =
+      let t = timetableOf w in
+      let all = and-right (counted t && validStations (t .stations)) _ spelled-valid in
+      let one = trip-valid (length (t .stations)) (t .trips) k [] all (omega (arith, length-trips w)) in
+      let two = two-stops (length (t .stations)) (getD (t .trips) k []) one in
+      omega (arith, two, ap length (trip-is w k [] h), trip-long w k)
