@@ -1,0 +1,6 @@
+pub mod Lists
+pub mod Marks
+pub mod Digits
+pub mod Valid
+pub mod WrittenOut
+pub mod ReadBack

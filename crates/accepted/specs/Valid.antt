@@ -1,0 +1,132 @@
+-- What the tests of a valid timetable say, as facts.
+use mathlib.Core.Path.{_≡_, refl, sym, ap, _∙_}
+use mathlib.Core.Bool.{Bool, true, false, not, _&&_}
+use mathlib.Core.List.{List, [], _∷_, _++_}
+use Prim.Native.Nat.{ℕ, zero, suc, _+_, _≤_, _<_}
+use lib.Dec.{leb, ltb, eqb}
+use lib.ListN.{length}
+use borrow.Author.Tests.{leb-true, ltb-true, eqb-true, eqb-false, not-true, le-leb}
+use Rattle.timetable.specs.Timetable.{
+  Station,
+  Stop,
+  Trip,
+  Timetable,
+  stopsOf,
+  stationsMost,
+  tripsMost,
+  stopsMost,
+  lastMinute,
+  validStation,
+  listed,
+  leaves,
+  ends,
+  follows,
+  runs,
+  validTrip,
+  validStations,
+  validTrips,
+  counted,
+  valid,
+}
+use Rattle.accepted.specs.Lists.{never, and-left, and-right}
+
+pub record ValidStation (s : Station) : Type 0 where
+  pub minutes : s .minutes ≤ 240
+  pub least : 1 ≤ s .points
+  pub points : s .points ≤ 1000
+
+pub record Listed (n : ℕ) (s : Stop) : Type 0 where
+  pub least : 1 ≤ s .station
+  pub most : s .station ≤ n
+
+pub record Leaves (s : Stop) : Type 0 where
+  pub depart : s .depart ≤ lastMinute
+  pub points : s .points ≤ 100
+
+pub record Ends (s : Stop) : Type 0 where
+  pub depart : s .depart ≡ 0
+  pub points : s .points ≡ 0
+
+pub record Follows (n : ℕ) (b s : Stop) : Type 0 where
+  pub station : listed n s ≡ true
+  pub unlike : eqb (s .station) (b .station) ≡ false
+  pub later : b .depart < s .arrive
+  pub arrive : s .arrive ≤ lastMinute
+
+-- a stop between the first and the last, and the stops after it
+pub record RunsOn (n : ℕ) (b s : Stop) (l : List Stop) : Type 0 where
+  pub follows : follows n b s ≡ true
+  pub waits : s .arrive ≤ s .depart
+  pub leaves : leaves s ≡ true
+  pub on : runs n s l ≡ true
+
+pub record Begins (n : ℕ) (b : Stop) (l : List Stop) : Type 0 where
+  pub station : listed n b ≡ true
+  pub arrive : b .arrive ≡ 0
+  pub leaves : leaves b ≡ true
+  pub on : runs n b l ≡ true
+
+pub record Valid (t : Timetable) : Type 0 where
+  pub least : 1 ≤ length (t .stations)
+  pub stations : length (t .stations) ≤ stationsMost
+  pub trips : length (t .trips) ≤ tripsMost
+  pub stops : length (stopsOf (t .trips)) ≤ stopsMost
+  pub each-station : validStations (t .stations) ≡ true
+  pub each-trip : validTrips (length (t .stations)) (t .trips) ≡ true
+
+pub valid-station : (s : Station) → validStation s ≡ true → ValidStation s
+unfolding validStation
+valid-station s v = search (and-left, and-right, leb-true)
+
+pub is-listed : (n : ℕ) (s : Stop) → listed n s ≡ true → Listed n s
+unfolding listed
+is-listed n s v = search (and-left, and-right, leb-true)
+
+pub it-leaves : (s : Stop) → leaves s ≡ true → Leaves s
+unfolding leaves
+it-leaves s v = search (and-left, and-right, leb-true)
+
+pub it-ends : (s : Stop) → ends s ≡ true → Ends s
+unfolding ends
+it-ends s v = search (and-left, and-right, eqb-true)
+
+pub it-follows : (n : ℕ) (b s : Stop) → follows n b s ≡ true → Follows n b s
+unfolding follows
+it-follows n b s v =
+    record {
+      station = search (and-left, and-right);
+      unlike = not-true _ (search (and-left, and-right));
+      later = search (and-left, and-right, ltb-true);
+      arrive = search (and-left, and-right, leb-true);
+    }
+
+pub is-valid : (t : Timetable) → valid t ≡ true → Valid t
+unfolding valid counted
+is-valid t v = search (and-left, and-right, leb-true)
+
+-- ---- a trip, stop by stop
+pub runs-none : (n : ℕ) (b : Stop) → runs n b [] ≡ true → ⊥
+unfolding runs
+runs-none n b v = never v
+
+pub runs-last : (n : ℕ) (b s : Stop) → runs n b (s ∷ []) ≡ true → (follows n b s ≡ true) × (ends s ≡ true)
+unfolding runs
+runs-last n b s v = search (and-left, and-right)
+
+pub runs-more : (n : ℕ) (b s u : Stop) (l : List Stop)
+    → runs n b (s ∷ u ∷ l) ≡ (follows n b s && leb (s .arrive) (s .depart) && leaves s && runs n s (u ∷ l))
+unfolding runs
+runs-more n b s u l = refl
+
+pub runs-on : (n : ℕ) (b s u : Stop) (l : List Stop) → runs n b (s ∷ u ∷ l) ≡ true → RunsOn n b s (u ∷ l)
+runs-on n b s u l v =
+    let w = sym (runs-more n b s u l) ∙ v in
+    search (and-left, and-right, leb-true)
+
+pub begins : (n : ℕ) (b : Stop) (l : List Stop) → validTrip n (b ∷ l) ≡ true → Begins n b l
+unfolding validTrip
+begins n b l v = search (and-left, and-right, eqb-true)
+
+pub trip-not-empty : (n : ℕ) → validTrip n [] ≡ true → ⊥
+unfolding validTrip
+trip-not-empty n v = never v
