@@ -1,6 +1,6 @@
 -- Numbers up to 9,999 written out: "A number has one to four decimal digits and no leading zero, except 0 itself."
 -- What they read back to, and what bytes they have, is computed for each number in turn.
-use mathlib.Core.Path.{_≡_, refl, sym, ap, subst, _∙_}
+use mathlib.Core.Path.{_≡_, refl, sym, subst}
 use mathlib.Core.Bool.{Bool, true, false, cond, _&&_}
 use mathlib.Core.List.{List, [], _∷_}
 use Prim.Native.Nat.{ℕ, zero, suc, _+_, _/_, _%_, _≤_, _<_}

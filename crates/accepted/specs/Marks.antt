@@ -1,10 +1,10 @@
 -- Bytes that stand above a mark hold no mark, so a text that is put together from such bytes and marks falls into the
 -- same pieces again. "Each line ends with byte 10"; fields are "parted by commas" (byte 44).
 use mathlib.Core.Path.{_≡_, refl, sym, ap, _∙_}
-use mathlib.Core.Bool.{Bool, true, false, cond, _&&_}
+use mathlib.Core.Bool.{Bool, true, _&&_}
 use mathlib.Core.List.{List, [], _∷_, _++_, append-assoc}
-use Prim.Native.Nat.{ℕ, zero, suc, _+_, _≤_, _<_}
-use lib.Dec.{ltb, eqb}
+use Prim.Native.Nat.{ℕ, _≤_, _<_}
+use lib.Dec.{ltb}
 use native.Mathlib.Omega.{arith}
 use borrow.Author.Tests.{ltb-true, lt-ltb, ne-eqb, eq-eqb}
 use Rattle.text.specs.Piece.{pieces, joined}

@@ -1,9 +1,9 @@
 -- The lines written out from a valid timetable have their shapes, and read back to the values that were written. None
 -- holds a byte 10; a station's line has at most 14 bytes, a stop's at most 28.
-use mathlib.Core.Path.{_≡_, refl, sym, ap, _∙_}
+use mathlib.Core.Path.{_≡_, refl, sym, _∙_}
 use mathlib.Core.Bool.{Bool, true, false, cond}
 use mathlib.Core.List.{List, [], _∷_, _++_, map, map-append}
-use Prim.Native.Nat.{ℕ, zero, suc, _+_, _*_, _≤_, _<_}
+use Prim.Native.Nat.{ℕ, suc, _+_, _*_, _≤_, _<_}
 use lib.Dec.{leb, eqb}
 use lib.ListN.{length, length-append}
 use native.Mathlib.Omega.{arith}
@@ -11,57 +11,17 @@ use borrow.Author.Tests.{le-leb, eqb-true, ne-eqb}
 use Rattle.text.specs.Number.{fieldValue, fieldValues, emptyField}
 use Rattle.text.specs.Shape.{stationOf, stationShape, arriveFits, departFits, filled, stopOf, stopShape, shapeOf}
 use Rattle.text.specs.declared.Line.{Line}
-use Rattle.text.specs.declared.Line.the-variants.{Station as StationIn, Stop as StopIn, Shapeless}
-use Rattle.timetable.specs.Timetable.{Station, Stop, Trip, Timetable, stopsOf}
-use Rattle.timetable.specs.Timetable.{
-  validStation,
-  leaves,
-  ends,
-  follows,
-  runs,
-  validTrip,
-  validStations,
-  validTrips,
-  valid,
-}
-use Rattle.accepted.specs.Valid.{
-  ValidStation,
-  Begins,
-  valid-station,
-  is-listed,
-  it-leaves,
-  it-ends,
-  it-follows,
-  is-valid,
-  runs-none,
-  runs-last,
-  runs-on,
-  begins,
-  trip-not-empty,
-}
+use Rattle.text.specs.declared.Line.the-variants.{Station as StationIn, Stop as StopIn}
+use Rattle.timetable.specs.Timetable.{Station, Stop, Trip, Timetable, stopsOf, validStation, leaves, ends, follows}
+use Rattle.timetable.specs.Timetable.{runs, validTrip, validStations, validTrips, valid}
+use Rattle.accepted.specs.Valid.{ValidStation, Begins, valid-station, is-listed, it-leaves, it-ends, it-follows}
+use Rattle.accepted.specs.Valid.{is-valid, runs-none, runs-last, runs-on, begins, trip-not-empty}
 use Rattle.accepted.specs.Lists.{never, both, and-left, and-right}
-use Rattle.accepted.specs.Marks.{
-  above,
-  allAbove,
-  lined,
-  fielded,
-  lined-append,
-  above-fielded,
-  allAbove-append,
-  pieces-fielded,
-}
+use Rattle.accepted.specs.Marks.{above, allAbove, lined, fielded, lined-append, above-fielded, allAbove-append}
+use Rattle.accepted.specs.Marks.{pieces-fielded}
 use Rattle.accepted.specs.Digits.{digits, digits-value, digits-above, four-bytes, three-bytes, two-bytes}
-use Rattle.accepted.specs.WrittenOut.{
-  stationLine,
-  emptyOr,
-  stopLine,
-  stationLines,
-  none,
-  stopLines,
-  tripLines,
-  linesOf,
-  textOf,
-}
+use Rattle.accepted.specs.WrittenOut.{stationLine, emptyOr, stopLine, stationLines, none, stopLines, tripLines}
+use Rattle.accepted.specs.WrittenOut.{linesOf, textOf}
 
 -- ---- what reading sees in a written line
 abbrev pub stationRead : ℕ → Station → Line

@@ -1,33 +1,14 @@
 -- What the tests of a valid timetable say, as facts.
-use mathlib.Core.Path.{_≡_, refl, sym, ap, _∙_}
-use mathlib.Core.Bool.{Bool, true, false, not, _&&_}
-use mathlib.Core.List.{List, [], _∷_, _++_}
-use Prim.Native.Nat.{ℕ, zero, suc, _+_, _≤_, _<_}
-use lib.Dec.{leb, ltb, eqb}
+use mathlib.Core.Path.{_≡_, refl, sym, _∙_}
+use mathlib.Core.Bool.{true, false, _&&_}
+use mathlib.Core.List.{List, [], _∷_}
+use Prim.Native.Nat.{ℕ, _≤_, _<_}
+use lib.Dec.{leb, eqb}
 use lib.ListN.{length}
-use borrow.Author.Tests.{leb-true, ltb-true, eqb-true, eqb-false, not-true, le-leb}
-use Rattle.timetable.specs.Timetable.{
-  Station,
-  Stop,
-  Trip,
-  Timetable,
-  stopsOf,
-  stationsMost,
-  tripsMost,
-  stopsMost,
-  lastMinute,
-  validStation,
-  listed,
-  leaves,
-  ends,
-  follows,
-  runs,
-  validTrip,
-  validStations,
-  validTrips,
-  counted,
-  valid,
-}
+use borrow.Author.Tests.{leb-true, ltb-true, eqb-true, not-true}
+use Rattle.timetable.specs.Timetable.{Station, Stop, Timetable, stopsOf, stationsMost, tripsMost, stopsMost, lastMinute}
+use Rattle.timetable.specs.Timetable.{validStation, listed, leaves, ends, follows, runs, validTrip, validStations}
+use Rattle.timetable.specs.Timetable.{validTrips, counted, valid}
 use Rattle.accepted.specs.Lists.{never, and-left, and-right}
 
 pub record ValidStation (s : Station) : Type 0 where

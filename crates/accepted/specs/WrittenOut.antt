@@ -3,9 +3,8 @@
 -- "Arrive is empty exactly at stop 1. Depart and ride penalty are empty together, only at a trip's last stop".
 use mathlib.Core.Bool.{Bool, true, false, cond}
 use mathlib.Core.List.{List, [], _∷_, _++_}
-use Prim.Native.Nat.{ℕ, zero, suc, _+_}
+use Prim.Native.Nat.{ℕ, _+_}
 use lib.Dec.{eqb}
-use lib.ListN.{length}
 use Rattle.timetable.specs.Timetable.{Station, Stop, Trip, Timetable}
 use Rattle.accepted.specs.Marks.{lined, fielded}
 use Rattle.accepted.specs.Digits.{digits}
