@@ -6,3 +6,5 @@ pub mod Passes
 pub mod WrittenOut
 pub mod ReadBack
 pub mod Taken
+pub mod Shaped
+pub mod Sound

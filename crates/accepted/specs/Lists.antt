@@ -1,7 +1,10 @@
 -- Laws of tests and of lists that the kit does not have.
 use mathlib.Core.Path.{_≡_, refl, sym, subst}
 use mathlib.Core.Bool.{Bool, true, false, _&&_, _||_}
+use mathlib.Core.List.{List, [], _∷_, _++_}
+use Prim.Native.Nat.{_+_}
 use lib.Dec.{T}
+use lib.ListN.{length, length-append}
 
 -- ---- tests together and apart
 pub never : false ≡ true → ⊥
@@ -30,3 +33,7 @@ or-right false b e = e
 pub or-other : (a b : Bool) → (a || b) ≡ true → a ≡ false → b ≡ true
 or-other true b e f = cc
 or-other false b e f = e
+
+-- ---- one more at the end
+pub snoc-length : {A : Type 0} (done : List A) (x : A) → length (done ++ (x ∷ [])) ≡ length done + 1
+snoc-length done x = length-append done (x ∷ [])

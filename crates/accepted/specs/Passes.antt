@@ -1,15 +1,18 @@
 -- When a line has a yes to each question put to it, as facts, in both directions.
 use mathlib.Core.Path.{_≡_, refl}
 use mathlib.Core.Bool.{Bool, true, false, not, cond, _&&_, _||_}
+use mathlib.Core.List.{List, _∷_}
 use Prim.Native.Nat.{ℕ, suc, _+_, _≤_, _<_}
 use lib.Dec.{leb, ltb, eqb}
 use native.Mathlib.Omega.{arith}
 use borrow.Author.Tests.{not-true, leb-true, ltb-true, eqb-true, le-leb, lt-ltb, eq-eqb, ne-eqb}
 use Rattle.text.specs.Range.{inRange}
+use Rattle.text.specs.Shape.{shapeOf}
 use Rattle.text.specs.declared.StationLine.{StationLine}
 use Rattle.text.specs.declared.StopLine.{StopLine}
 use Rattle.timetable.specs.Timetable.{lastMinute, stationsMost, tripsMost, stopsMost}
-use Rattle.reading.specs.Draft.{stationNumber, stopFits, stopNumber}
+use Rattle.reading.specs.Draft.{Draft, progress, stationNumber, stopFits, stopNumber, lineNumber, withLine}
+use Rattle.reading.specs.Reading.{Refused, readFrom}
 use Rattle.reading.specs.declared.Progress.{Progress}
 use Rattle.accepted.specs.Lists.{or-right, or-other, and-left, and-right}
 
@@ -184,3 +187,10 @@ module _ (p : Progress) (l : StopLine) where
         later = search (and-left, and-right, ltb-true);
         waits = search (and-left, and-right);
       }
+
+-- ---- reading goes on behind such a line
+pub read-more : (d : Draft) (k : ℕ) (s u : List ℕ) (l : List (List ℕ)) → readFrom d k (s ∷ u ∷ l)
+    ≡ cond (eqb (lineNumber (progress d) (shapeOf s)) 0) (readFrom (withLine d (shapeOf s)) (k + 1) (u ∷ l))
+    (Refused (lineNumber (progress d) (shapeOf s)) k)
+unfolding readFrom
+read-more d k s u l = refl

@@ -2,7 +2,7 @@
 -- the draft grows by the station or stop that was written, until it is the timetable.
 use mathlib.Core.Path.{_≡_, refl, sym, ap, subst, _∙_}
 use mathlib.Core.Bool.{Bool, true, false, _||_}
-use mathlib.Core.List.{List, [], _∷_, _++_, map, append-assoc, append-nil}
+use mathlib.Core.List.{List, [], _∷_, _++_, map, append-nil}
 use Prim.Native.Nat.{ℕ, _+_, _-_, _≤_, _<_}
 use lib.Dec.{leb}
 use lib.ListN.{length, length-append}
@@ -16,11 +16,11 @@ use Rattle.timetable.specs.Timetable.{Station, Stop, Trip, Timetable, stopsOf, 
 use Rattle.timetable.specs.Timetable.{validTrip, validStations, validTrips, valid}
 use Rattle.reading.specs.Draft.{Draft, blank, final, progress, lineNumber, withLine}
 use Rattle.reading.specs.Reading.{Accepted, ended, readFrom, readLines, reading}
-use Rattle.accepted.specs.Lists.{and-left, and-right}
+use Rattle.accepted.specs.Lists.{snoc-length, and-left, and-right}
 use Rattle.accepted.specs.Marks.{pieces-lined}
 use Rattle.accepted.specs.Valid.{valid-station, is-listed, it-leaves, it-ends, it-follows, is-valid, runs-none}
-use Rattle.accepted.specs.Valid.{runs-last, runs-on, begins, trip-not-empty}
-use Rattle.accepted.specs.Passes.{station-passes, stop-passes, first-fits, later-fits}
+use Rattle.accepted.specs.Valid.{runs-last, runs-on, begins, trip-not-empty, stopsOf-append}
+use Rattle.accepted.specs.Passes.{station-passes, stop-passes, first-fits, later-fits, read-more}
 use Rattle.accepted.specs.WrittenOut.{linesOf, textOf}
 use Rattle.accepted.specs.ReadBack.{stopRead, stationsRead, stopsRead, tripsRead, linesRead, timetable-spelled}
 use Rattle.accepted.specs.ReadBack.{text-short}
@@ -37,8 +37,7 @@ takes-append d e f (l ∷ a) b x y = (x .0, takes-append (withLine d l) e f a b 
 -- ---- reading, line by line
 read-line : (d : Draft) (k : ℕ) (s u : List ℕ) (l : List (List ℕ)) → lineNumber (progress d) (shapeOf s) ≡ 0
     → readFrom d k (s ∷ u ∷ l) ≡ readFrom (withLine d (shapeOf s)) (k + 1) (u ∷ l)
-unfolding readFrom
-read-line d k s u l e = rw e
+read-line d k s u l e = rw (read-more d k s u l, e)
 
 -- the lines given, and then nothing behind the last byte 10
 read-on : (d : Draft) (k : ℕ) (s : List ℕ) (l : List (List ℕ)) → lineNumber (progress d) (shapeOf s) ≡ 0
@@ -58,10 +57,6 @@ taken-read d e k (s ∷ l) x =
 -- ---- stations
 abbrev draft : List Station → List Trip → Trip → Draft
 draft stations trips begun = record { stations = stations; trips = trips; begun = begun }
-
--- one more at the end of what is done
-snoc-length : {A : Type 0} (done : List A) (x : A) → length (done ++ (x ∷ [])) ≡ length done + 1
-snoc-length done x = length-append done (x ∷ [])
 
 stations-taken : (n : ℕ) (done l : List Station) → n ≡ length done + 1 → validStations l ≡ true
     → length done + length l ≤ 64 → Takes (draft done [] []) (stationsRead n l) (draft (done ++ l) [] [])
@@ -157,10 +152,6 @@ module _ (stations : List Station) (trips : List Trip) (trip : ℕ) (this : trip
       )
 
 -- ---- all trips, and the whole
-stopsOf-append : (a b : List Trip) → stopsOf (a ++ b) ≡ stopsOf a ++ stopsOf b
-stopsOf-append [] b = refl
-stopsOf-append (t ∷ a) b = ap (λ l. t ++ l) (stopsOf-append a b) ∙ sym (append-assoc t (stopsOf a) (stopsOf b))
-
 trips-taken : (stations : List Station) (n : ℕ) (done l : List Trip) → n ≡ length done + 1
     → validTrips (length stations) l ≡ true → length done + length l ≤ 256
     → length (stopsOf done) + length (stopsOf l) ≤ 2048

@@ -1,14 +1,14 @@
 -- What the tests of a valid timetable say, as facts.
-use mathlib.Core.Path.{_≡_, refl, sym, _∙_}
+use mathlib.Core.Path.{_≡_, refl, sym, ap, _∙_}
 use mathlib.Core.Bool.{true, false, _&&_}
-use mathlib.Core.List.{List, [], _∷_}
+use mathlib.Core.List.{List, [], _∷_, _++_, append-assoc}
 use Prim.Native.Nat.{ℕ, _≤_, _<_}
 use lib.Dec.{leb, eqb}
 use lib.ListN.{length}
 use borrow.Author.Tests.{leb-true, ltb-true, eqb-true, not-true}
-use Rattle.timetable.specs.Timetable.{Station, Stop, Timetable, stopsOf, stationsMost, tripsMost, stopsMost, lastMinute}
-use Rattle.timetable.specs.Timetable.{validStation, listed, leaves, ends, follows, runs, validTrip, validStations}
-use Rattle.timetable.specs.Timetable.{validTrips, counted, valid}
+use Rattle.timetable.specs.Timetable.{Station, Stop, Trip, Timetable, stopsOf, stationsMost, tripsMost, stopsMost}
+use Rattle.timetable.specs.Timetable.{lastMinute, validStation, listed, leaves, ends, follows, runs, validTrip}
+use Rattle.timetable.specs.Timetable.{validStations, validTrips, counted, valid}
 use Rattle.accepted.specs.Lists.{never, and-left, and-right}
 
 pub record ValidStation (s : Station) : Type 0 where
@@ -90,6 +90,10 @@ pub runs-none : (n : ℕ) (b : Stop) → runs n b [] ≡ true → ⊥
 unfolding runs
 runs-none n b v = never v
 
+pub runs-one : (n : ℕ) (b s : Stop) → runs n b (s ∷ []) ≡ (follows n b s && ends s)
+unfolding runs
+runs-one n b s = refl
+
 pub runs-last : (n : ℕ) (b s : Stop) → runs n b (s ∷ []) ≡ true → (follows n b s ≡ true) × (ends s ≡ true)
 unfolding runs
 runs-last n b s v = search (and-left, and-right)
@@ -111,3 +115,8 @@ begins n b l v = search (and-left, and-right, eqb-true)
 pub trip-not-empty : (n : ℕ) → validTrip n [] ≡ true → ⊥
 unfolding validTrip
 trip-not-empty n v = never v
+
+-- ---- the stops of all trips
+pub stopsOf-append : (a b : List Trip) → stopsOf (a ++ b) ≡ stopsOf a ++ stopsOf b
+stopsOf-append [] b = refl
+stopsOf-append (t ∷ a) b = ap (λ l. t ++ l) (stopsOf-append a b) ∙ sym (append-assoc t (stopsOf a) (stopsOf b))
