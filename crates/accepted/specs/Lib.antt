@@ -8,3 +8,6 @@ pub mod ReadBack
 pub mod Taken
 pub mod Shaped
 pub mod Sound
+pub mod Spelled
+pub mod Fits
+pub mod OwnWords

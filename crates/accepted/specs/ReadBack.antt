@@ -14,8 +14,9 @@ use Rattle.text.specs.declared.Line.{Line}
 use Rattle.text.specs.declared.Line.the-variants.{Station as StationIn, Stop as StopIn}
 use Rattle.timetable.specs.Timetable.{Station, Stop, Trip, Timetable, stopsOf, validStation, leaves, ends, follows}
 use Rattle.timetable.specs.Timetable.{runs, validTrip, validStations, validTrips, valid}
-use Rattle.accepted.specs.Valid.{ValidStation, Begins, valid-station, is-listed, it-leaves, it-ends, it-follows}
-use Rattle.accepted.specs.Valid.{is-valid, runs-none, runs-last, runs-on, begins, trip-not-empty}
+use Rattle.accepted.specs.Valid.{ValidStation, Ends, StopRanges, Begins, first-ranges, inner-ranges, last-ranges}
+use Rattle.accepted.specs.Valid.{valid-station, it-ends, is-valid, runs-none, runs-last, runs-on, begins}
+use Rattle.accepted.specs.Valid.{trip-not-empty}
 use Rattle.accepted.specs.Lists.{never, both, and-left, and-right}
 use Rattle.accepted.specs.Marks.{above, allAbove, lined, fielded, lined-append, above-fielded, allAbove-append}
 use Rattle.accepted.specs.Marks.{pieces-fielded}
@@ -108,16 +109,13 @@ module _ (n : ℕ) (s : Station) (h : n ≤ 64) (v : validStation s ≡ true) wh
 
 -- ---- a stop's line
 -- what a valid timetable says of stop k of a trip, which is the last stop or is not
-pub record Writable (trip k : ℕ) (s : Stop) (last : Bool) : Type 0 where
+record Writable (trip k : ℕ) (s : Stop) (last : Bool) : Type 0 where
   trips : trip ≤ 256
   stops : k ≤ 2048
-  station : s .station ≤ 64
-  arrive : s .arrive ≤ 2879
-  depart : s .depart ≤ 2879
-  points : s .points ≤ 100
+  ranges : StopRanges 64 s
   first : k ≡ 1 → s .arrive ≡ 0
-  final : last ≡ true → (s .depart ≡ 0) × (s .points ≡ 0)
-  unlike : last ≡ true → k ≡ 1 → ⊥
+  final : last ≡ true → Ends s
+  inner : last ≡ true → k ≡ 1 → ⊥
 
 -- an empty field reads as 0, which is what the timetable has there
 filled-back : (empty : Bool) (n : ℕ) → n ≤ 9999 → (empty ≡ true → n ≡ 0) → filled (cond empty emptyField n) ≡ n
@@ -181,10 +179,10 @@ module _ (trip k : ℕ) (s : Stop) (last : Bool) (w : Writable trip k s last) wh
         le-leb k 9999 (omega arith),
         le-leb (s .station) 9999 (omega arith),
         arrive-fits k (s .arrive) (omega arith),
-        depart-fits k (s .depart) (s .points) last (omega arith) (omega arith) (w .unlike),
+        depart-fits k (s .depart) (s .points) last (omega arith) (omega arith) (w .inner),
         filled-back (eqb k 1) (s .arrive) (omega arith) (λ e. w .first (eqb-true k 1 e)),
-        filled-back last (s .depart) (omega arith) (λ e. w .final e .0),
-        filled-back last (s .points) (omega arith) (λ e. w .final e .1),
+        filled-back last (s .depart) (omega arith) (λ e. w .final e .depart),
+        filled-back last (s .points) (omega arith) (λ e. w .final e .points),
         last-empty last (s .depart) (omega arith),
       ))
 
@@ -278,53 +276,36 @@ module _ (n trip : ℕ) (few : n ≤ 64) (in-trips : trip ≤ 256) where
   last-writable : (k : ℕ) (b s : Stop) → 1 < k → k ≤ 2048 → follows n b s ≡ true → ends s ≡ true
       → Writable trip k s true
   last-writable k b s h g f e =
-      let came = it-follows n b s f in
-      let at = is-listed n s (came .station) in
-      let none-left = it-ends s e in
       record {
         trips = in-trips;
         stops = g;
-        station = omega arith;
-        arrive = came .arrive;
-        depart = omega arith;
-        points = omega arith;
+        ranges = omega (arith, last-ranges n b s f e);
         first = λ one. absurd (omega arith);
-        final = λ _. (none-left .depart, none-left .points);
-        unlike = λ _ one. omega arith;
+        final = λ _. it-ends s e;
+        inner = λ _ one. omega arith;
       }
 
   inner-writable : (k : ℕ) (b s : Stop) → 1 < k → k ≤ 2048 → follows n b s ≡ true → leaves s ≡ true
       → Writable trip k s false
   inner-writable k b s h g f e =
-      let came = it-follows n b s f in
-      let at = is-listed n s (came .station) in
-      let goes = it-leaves s e in
       record {
         trips = in-trips;
         stops = g;
-        station = omega arith;
-        arrive = came .arrive;
-        depart = goes .depart;
-        points = goes .points;
+        ranges = omega (arith, inner-ranges n b s f e);
         first = λ one. absurd (omega arith);
         final = λ z. absurd (never z);
-        unlike = λ z one. never z;
+        inner = λ z one. never z;
       }
 
   first-writable : (b : Stop) (l : List Stop) → Begins n b l → Writable trip 1 b false
   first-writable b l v =
-      let at = is-listed n b (v .station) in
-      let goes = it-leaves b (v .leaves) in
       record {
         trips = in-trips;
         stops = omega arith;
-        station = omega arith;
-        arrive = omega arith;
-        depart = goes .depart;
-        points = goes .points;
+        ranges = omega (arith, first-ranges n b l v);
         first = λ _. v .arrive;
         final = λ z. absurd (never z);
-        unlike = λ z one. never z;
+        inner = λ z one. never z;
       }
 
   later-spelled : (k : ℕ) (b : Stop) (l : List Stop) → runs n b l ≡ true → 1 < k → k + length l ≤ 2049

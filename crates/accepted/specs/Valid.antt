@@ -5,6 +5,7 @@ use mathlib.Core.List.{List, [], _∷_, _++_, append-assoc}
 use Prim.Native.Nat.{ℕ, _≤_, _<_}
 use lib.Dec.{leb, eqb}
 use lib.ListN.{length}
+use native.Mathlib.Omega.{arith}
 use borrow.Author.Tests.{leb-true, ltb-true, eqb-true, not-true}
 use Rattle.timetable.specs.Timetable.{Station, Stop, Trip, Timetable, stopsOf, stationsMost, tripsMost, stopsMost}
 use Rattle.timetable.specs.Timetable.{lastMinute, validStation, listed, leaves, ends, follows, runs, validTrip}
@@ -115,6 +116,27 @@ begins n b l v = search (and-left, and-right, eqb-true)
 pub trip-not-empty : (n : ℕ) → validTrip n [] ≡ true → ⊥
 unfolding validTrip
 trip-not-empty n v = never v
+
+-- ---- what every stop keeps to, wherever it stands in its trip
+pub record StopRanges (n : ℕ) (s : Stop) : Type 0 where
+  pub station : s .station ≤ n
+  pub arrive : s .arrive ≤ lastMinute
+  pub depart : s .depart ≤ lastMinute
+  pub points : s .points ≤ 100
+
+pub first-ranges : (n : ℕ) (b : Stop) (l : List Stop) → Begins n b l → StopRanges n b
+first-ranges n b l v = omega (arith, is-listed n b (v .station), it-leaves b (v .leaves))
+
+module _ (n : ℕ) (b s : Stop) (f : follows n b s ≡ true) where
+  pub inner-ranges : leaves s ≡ true → StopRanges n s
+  inner-ranges g =
+      let came = it-follows n b s f in
+      omega (arith, is-listed n s (came .station), it-leaves s g)
+
+  pub last-ranges : ends s ≡ true → StopRanges n s
+  last-ranges e =
+      let came = it-follows n b s f in
+      omega (arith, is-listed n s (came .station), it-ends s e)
 
 -- ---- the stops of all trips
 pub stopsOf-append : (a b : List Trip) → stopsOf (a ++ b) ≡ stopsOf a ++ stopsOf b

@@ -1,0 +1,107 @@
+-- How many words a valid timetable takes, and that each is a word of 16 bits: so it fits the slice that is lent for it.
+use mathlib.Core.Path.{_≡_}
+use mathlib.Core.Bool.{true}
+use mathlib.Core.List.{List, [], _∷_, _++_}
+use Prim.Native.Nat.{ℕ, zero, suc, _+_, _*_, _≤_, _<_}
+use lib.ListN.{length, getD, length-append}
+use native.Mathlib.Omega.{arith}
+use Rattle.timetable.specs.Timetable.{Station, Stop, Trip, Timetable, stopsOf, runs, validStation, validStations}
+use Rattle.timetable.specs.Timetable.{validTrip, validTrips, valid}
+use Rattle.timetable.specs.Words.{stationWords, stopWords, startWords, words}
+use Rattle.accepted.specs.Lists.{and-left, and-right}
+use Rattle.accepted.specs.Valid.{valid-station, is-valid, StopRanges, first-ranges, inner-ranges, last-ranges}
+use Rattle.accepted.specs.Valid.{runs-none, runs-last, runs-on, begins, trip-not-empty}
+use Rattle.accepted.specs.Spelled.{length-stationWords, length-stopWords, length-startWords, stopWords-append}
+
+-- the words of so many stations, trips and stops
+abbrev pub wordsCount : (stations trips stops : ℕ) → ℕ
+wordsCount stations trips stops = 3 + 2 * stations + 4 * stops + suc trips
+
+pub length-words : (t : Timetable)
+    → length (words t) ≡ wordsCount (length (t .stations)) (length (t .trips)) (length (stopsOf (t .trips)))
+unfolding words
+length-words t =
+    simp (length-append, length-stationWords, length-stopWords, length-startWords) (omega arith)
+
+pub words-most : (t : Timetable) → valid t ≡ true → length (words t) ≤ 8580
+words-most t v = let w = is-valid t v in omega (arith, length-words t)
+
+-- ---- 16 bits
+-- each number of the list is below m
+abbrev pub Below : ℕ → List ℕ → Type 0
+Below m [] = Unit {0}
+Below m (x ∷ l) = (x < m) × Below m l
+
+pub below-at : (m : ℕ) (l : List ℕ) → 0 < m → Below m l → (i : ℕ) → getD l i 0 < m
+below-at m [] h b i = h
+below-at m (x ∷ l) h b zero = b .0
+below-at m (x ∷ l) h b (suc i) = below-at m l h (b .1) i
+
+below-append : (m : ℕ) (a b : List ℕ) → Below m a → Below m b → Below m (a ++ b)
+below-append m [] b x y = y
+below-append m (z ∷ a) b x y = (x .0, below-append m a b (x .1) y)
+
+stations-fit : (l : List Station) → validStations l ≡ true → Below 65536 (stationWords l)
+unfolding validStations stationWords
+stations-fit [] v = tt
+stations-fit (s ∷ l) v =
+    let here = valid-station s (and-left (validStation s) (validStations l) v) in
+    (omega arith, (omega arith, stations-fit l (and-right (validStation s) (validStations l) v)))
+
+starts-fit : (k : ℕ) (l : List Trip) → k + length (stopsOf l) < 65536 → Below 65536 (startWords k l)
+unfolding startWords
+starts-fit k [] h = (omega arith, tt)
+starts-fit k (t ∷ l) h =
+    (omega arith, starts-fit (k + length t) l (omega (arith, length-append t (stopsOf l))))
+
+no-stops : Below 65536 (stopWords [])
+unfolding stopWords
+no-stops = tt
+
+stop-fits : (n : ℕ) (s : Stop) (l : List Stop) → n ≤ 64 → StopRanges n s → Below 65536 (stopWords l)
+    → Below 65536 (stopWords (s ∷ l))
+unfolding stopWords
+stop-fits n s l few r rest = (omega arith, (omega arith, (omega arith, (omega arith, rest))))
+
+module _ (n : ℕ) (few : n ≤ 64) where
+  later-fit : (b : Stop) (l : List Stop) → runs n b l ≡ true → Below 65536 (stopWords l)
+  later-fit b [] v = absurd (runs-none n b v)
+  later-fit b (s ∷ []) v =
+      let r = runs-last n b s v in
+      stop-fits n s [] few (last-ranges n b s (r .0) (r .1)) no-stops
+  later-fit b (s ∷ u ∷ l) v =
+      let r = runs-on n b s u l v in
+      stop-fits n s (u ∷ l) few (inner-ranges n b s (r .follows) (r .leaves)) (later-fit s (u ∷ l) (r .on))
+
+  trip-fits : (t : Trip) → validTrip n t ≡ true → Below 65536 (stopWords t)
+  trip-fits [] v = absurd (trip-not-empty n v)
+  trip-fits (b ∷ l) v =
+      let w = begins n b l v in
+      stop-fits n b l few (first-ranges n b l w) (later-fit b l (w .on))
+
+  trips-fit : (l : List Trip) → validTrips n l ≡ true → Below 65536 (stopWords (stopsOf l))
+  unfolding validTrips stopWords
+  trips-fit [] v = tt
+  trips-fit (t ∷ l) v =
+      rw (stopWords-append t (stopsOf l))
+      (below-append 65536 (stopWords t) (stopWords (stopsOf l))
+      (trip-fits t (and-left (validTrip n t) (validTrips n l) v))
+      (trips-fit l (and-right (validTrip n t) (validTrips n l) v)))
+
+pub words-fit : (t : Timetable) → valid t ≡ true → Below 65536 (words t)
+unfolding words
+words-fit t v =
+    let w = is-valid t v in
+    let stations = stations-fit (t .stations) (w .each-station) in
+    let stops = trips-fit (length (t .stations)) (w .stations) (t .trips) (w .each-trip) in
+    let starts = starts-fit 0 (t .trips) (omega arith) in (
+      omega arith,
+      (
+        omega arith,
+        (
+          omega arith,
+          below-append 65536 (stationWords (t .stations) ++ stopWords (stopsOf (t .trips))) (startWords 0 (t .trips))
+              (below-append 65536 (stationWords (t .stations)) (stopWords (stopsOf (t .trips))) stations stops) starts,
+        ),
+      ),
+    )
