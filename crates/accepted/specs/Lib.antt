@@ -11,3 +11,5 @@ pub mod Sound
 pub mod Spelled
 pub mod Fits
 pub mod OwnWords
+pub mod Question9
+pub mod Cases
