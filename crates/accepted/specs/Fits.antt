@@ -2,13 +2,13 @@
 use mathlib.Core.Path.{_≡_}
 use mathlib.Core.Bool.{true}
 use mathlib.Core.List.{List, [], _∷_, _++_}
-use Prim.Native.Nat.{ℕ, zero, suc, _+_, _*_, _≤_, _<_}
-use lib.ListN.{length, getD, length-append}
+use Prim.Native.Nat.{ℕ, suc, _+_, _*_, _≤_, _<_}
+use lib.ListN.{length, length-append}
 use native.Mathlib.Omega.{arith}
-use Rattle.timetable.specs.Timetable.{Station, Stop, Trip, Timetable, stopsOf, runs, validStation, validStations}
-use Rattle.timetable.specs.Timetable.{validTrip, validTrips, valid}
+use Rattle.timetable.specs.Timetable.{stationsMost, tripsMost, stopsMost, Station, Stop, Trip, Timetable, stopsOf, runs}
+use Rattle.timetable.specs.Timetable.{validStation, validStations, validTrip, validTrips, valid}
 use Rattle.timetable.specs.Words.{stationWords, stopWords, startWords, words}
-use Rattle.accepted.specs.Lists.{and-left, and-right}
+use Rattle.accepted.specs.Lists.{and-left, and-right, Below, below-append}
 use Rattle.accepted.specs.Valid.{valid-station, is-valid, StopRanges, first-ranges, inner-ranges, last-ranges}
 use Rattle.accepted.specs.Valid.{runs-none, runs-last, runs-on, begins, trip-not-empty}
 use Rattle.accepted.specs.Spelled.{length-stationWords, length-stopWords, length-startWords, stopWords-append}
@@ -17,30 +17,20 @@ use Rattle.accepted.specs.Spelled.{length-stationWords, length-stopWords
 abbrev pub wordsCount : (stations trips stops : ℕ) → ℕ
 wordsCount stations trips stops = 3 + 2 * stations + 4 * stops + suc trips
 
+-- 8,580
+abbrev pub wordsMost : ℕ
+wordsMost = wordsCount stationsMost tripsMost stopsMost
+
 pub length-words : (t : Timetable)
     → length (words t) ≡ wordsCount (length (t .stations)) (length (t .trips)) (length (stopsOf (t .trips)))
 unfolding words
 length-words t =
     simp (length-append, length-stationWords, length-stopWords, length-startWords) (omega arith)
 
-pub words-most : (t : Timetable) → valid t ≡ true → length (words t) ≤ 8580
+pub words-most : (t : Timetable) → valid t ≡ true → length (words t) ≤ wordsMost
 words-most t v = let w = is-valid t v in omega (arith, length-words t)
 
 -- ---- 16 bits
--- each number of the list is below m
-abbrev pub Below : ℕ → List ℕ → Type 0
-Below m [] = Unit {0}
-Below m (x ∷ l) = (x < m) × Below m l
-
-pub below-at : (m : ℕ) (l : List ℕ) → 0 < m → Below m l → (i : ℕ) → getD l i 0 < m
-below-at m [] h b i = h
-below-at m (x ∷ l) h b zero = b .0
-below-at m (x ∷ l) h b (suc i) = below-at m l h (b .1) i
-
-below-append : (m : ℕ) (a b : List ℕ) → Below m a → Below m b → Below m (a ++ b)
-below-append m [] b x y = y
-below-append m (z ∷ a) b x y = (x .0, below-append m a b (x .1) y)
-
 stations-fit : (l : List Station) → validStations l ≡ true → Below 65536 (stationWords l)
 unfolding validStations stationWords
 stations-fit [] v = tt
@@ -58,12 +48,12 @@ no-stops : Below 65536 (stopWords [])
 unfolding stopWords
 no-stops = tt
 
-stop-fits : (n : ℕ) (s : Stop) (l : List Stop) → n ≤ 64 → StopRanges n s → Below 65536 (stopWords l)
+stop-fits : (n : ℕ) (s : Stop) (l : List Stop) → n ≤ stationsMost → StopRanges n s → Below 65536 (stopWords l)
     → Below 65536 (stopWords (s ∷ l))
 unfolding stopWords
 stop-fits n s l few r rest = (omega arith, (omega arith, (omega arith, (omega arith, rest))))
 
-module _ (n : ℕ) (few : n ≤ 64) where
+module _ (n : ℕ) (few : n ≤ stationsMost) where
   later-fit : (b : Stop) (l : List Stop) → runs n b l ≡ true → Below 65536 (stopWords l)
   later-fit b [] v = absurd (runs-none n b v)
   later-fit b (s ∷ []) v =

@@ -2,7 +2,7 @@
 use mathlib.Core.Path.{_≡_, refl, sym, ap, subst, _∙_}
 use mathlib.Core.Bool.{Bool, true, false, _&&_, _||_}
 use mathlib.Core.List.{List, [], _∷_, _++_}
-use Prim.Native.Nat.{ℕ, _+_}
+use Prim.Native.Nat.{ℕ, zero, suc, _+_, _<_}
 use lib.Dec.{T}
 use lib.ListN.{length, getD, drop, length-append}
 use lib.Seq.{getD-drop, drop-drop, drop-at}
@@ -24,10 +24,6 @@ pub and-right : (a b : Bool) → (a && b) ≡ true → b ≡ true
 and-right true b e = e
 and-right false b e = cc
 
-pub or-left : (a b : Bool) → a ≡ true → (a || b) ≡ true
-or-left true b e = refl
-or-left false b e = cc
-
 pub or-right : (a b : Bool) → b ≡ true → (a || b) ≡ true
 or-right true b e = refl
 or-right false b e = e
@@ -47,3 +43,17 @@ module _ (w : List ℕ) (i : ℕ) where
 
   pub past-at : (n : ℕ) (a b : List ℕ) → length a ≡ n → drop i w ≡ a ++ b → drop (i + n) w ≡ b
   past-at n a b h e = sym (drop-drop n i w) ∙ ap (drop n) e ∙ drop-at a b n h
+
+-- ---- each number of the list is below m
+abbrev pub Below : ℕ → List ℕ → Type 0
+Below m [] = Unit {0}
+Below m (x ∷ l) = (x < m) × Below m l
+
+pub below-at : (m : ℕ) (l : List ℕ) → 0 < m → Below m l → (i : ℕ) → getD l i 0 < m
+below-at m [] h b i = h
+below-at m (x ∷ l) h b zero = b .0
+below-at m (x ∷ l) h b (suc i) = below-at m l h (b .1) i
+
+pub below-append : (m : ℕ) (a b : List ℕ) → Below m a → Below m b → Below m (a ++ b)
+below-append m [] b x y = y
+below-append m (z ∷ a) b x y = (x .0, below-append m a b (x .1) y)

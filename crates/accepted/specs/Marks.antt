@@ -8,11 +8,12 @@ use lib.Dec.{ltb}
 use native.Mathlib.Omega.{arith}
 use borrow.Author.Tests.{ltb-true, lt-ltb, ne-eqb, eq-eqb}
 use Rattle.text.specs.Piece.{pieces, joined}
-use Rattle.accepted.specs.Lists.{both, and-left, and-right}
+use Rattle.accepted.specs.Lists.{both, and-left, and-right, Below, below-append}
 
+-- each is a byte, and above the mark
 unfoldable pub above : ℕ → List ℕ → Bool
 above mark [] = true
-above mark (b ∷ s) = ltb mark b && above mark s
+above mark (b ∷ s) = ltb mark b && ltb b 256 && above mark s
 
 unfoldable pub allAbove : ℕ → List (List ℕ) → Bool
 allAbove mark [] = true
@@ -36,20 +37,39 @@ lined-append (s ∷ l) m =
     ap (λ r. s ++ 10 ∷ r) (lined-append l m) ∙ sym (append-assoc s (10 ∷ lined l) (lined m))
 
 -- ---- above a mark
-pub above-append : (mark : ℕ) (s t : List ℕ) → above mark s ≡ true → above mark t ≡ true → above mark (s ++ t) ≡ true
+module _ (mark b : ℕ) (s : List ℕ) (e : above mark (b ∷ s) ≡ true) where
+  above-first : mark < b
+  unfolding above
+  above-first = search (and-left, and-right, ltb-true)
+
+  byte-first : b < 256
+  unfolding above
+  byte-first = search (and-left, and-right, ltb-true)
+
+  above-rest : above mark s ≡ true
+  unfolding above
+  above-rest = search (and-right)
+
+above-more : (mark b : ℕ) (s : List ℕ) → mark < b → b < 256 → above mark s ≡ true → above mark (b ∷ s) ≡ true
 unfolding above
+above-more mark b s h g e = search (both, lt-ltb)
+
+pub above-append : (mark : ℕ) (s t : List ℕ) → above mark s ≡ true → above mark t ≡ true → above mark (s ++ t) ≡ true
 above-append mark [] t e f = f
 above-append mark (b ∷ s) t e f =
-    both (ltb mark b) (above mark (s ++ t)) (and-left (ltb mark b) (above mark s) e)
-    (above-append mark s t (and-right (ltb mark b) (above mark s) e) f)
+    above-more mark b (s ++ t) (above-first mark b s e) (byte-first mark b s e)
+    (above-append mark s t (above-rest mark b s e) f)
 
 pub above-lower : (low high : ℕ) (s : List ℕ) → low ≤ high → above high s ≡ true → above low s ≡ true
 unfolding above
 above-lower low high [] h e = refl
 above-lower low high (b ∷ s) h e =
-    let large : high < b = ltb-true high b (and-left (ltb high b) (above high s) e) in
-    both (ltb low b) (above low s) (lt-ltb low b (omega arith))
-    (above-lower low high s h (and-right (ltb high b) (above high s) e))
+    above-more low b s (omega (arith, above-first high b s e)) (byte-first high b s e)
+    (above-lower low high s h (above-rest high b s e))
+
+above-bytes : (mark : ℕ) (s : List ℕ) → above mark s ≡ true → Below 256 s
+above-bytes mark [] e = tt
+above-bytes mark (b ∷ s) e = (byte-first mark b s e, above-bytes mark s (above-rest mark b s e))
 
 pub allAbove-append : (mark : ℕ) (l m : List (List ℕ)) → allAbove mark l ≡ true → allAbove mark m ≡ true
     → allAbove mark (l ++ m) ≡ true
@@ -71,19 +91,25 @@ above-fielded (f ∷ g ∷ l) e =
 
 -- ---- the pieces
 pub one-piece : (mark : ℕ) (s : List ℕ) → above mark s ≡ true → pieces mark s ≡ s ∷ []
-unfolding above pieces
+unfolding pieces
 one-piece mark [] e = refl
 one-piece mark (b ∷ s) e =
-    let large : mark < b = ltb-true mark b (and-left (ltb mark b) (above mark s) e) in
-    rw (ne-eqb b mark (omega arith)) (ap (joined b) (one-piece mark s (and-right (ltb mark b) (above mark s) e)))
+    rw (ne-eqb b mark (omega (arith, above-first mark b s e)))
+    (ap (joined b) (one-piece mark s (above-rest mark b s e)))
 
 pub piece-before : (mark : ℕ) (s t : List ℕ) → above mark s ≡ true → pieces mark (s ++ mark ∷ t) ≡ s ∷ pieces mark t
-unfolding above pieces
+unfolding pieces
 piece-before mark [] t e = rw (eq-eqb mark mark refl)
 piece-before mark (b ∷ s) t e =
-    let large : mark < b = ltb-true mark b (and-left (ltb mark b) (above mark s) e) in
-    rw (ne-eqb b mark (omega arith))
-    (ap (joined b) (piece-before mark s t (and-right (ltb mark b) (above mark s) e)))
+    rw (ne-eqb b mark (omega (arith, above-first mark b s e)))
+    (ap (joined b) (piece-before mark s t (above-rest mark b s e)))
+
+pub bytes-lined : (l : List (List ℕ)) → allAbove 10 l ≡ true → Below 256 (lined l)
+unfolding allAbove lined
+bytes-lined [] e = tt
+bytes-lined (s ∷ l) e =
+    below-append 256 s (10 ∷ lined l) (above-bytes 10 s (and-left (above 10 s) (allAbove 10 l) e))
+    (omega arith, bytes-lined l (and-right (above 10 s) (allAbove 10 l) e))
 
 pub pieces-lined : (l : List (List ℕ)) → allAbove 10 l ≡ true → pieces 10 (lined l) ≡ l ++ ([] ∷ [])
 unfolding allAbove lined pieces

@@ -17,7 +17,7 @@ use Rattle.timetable.specs.Words.{stopCount, stationAt, stopPlace, stopAt, star
 use Rattle.timetable.specs.Words.{isTimetable}
 use Rattle.accepted.specs.Lists.{and-left, and-right}
 use Rattle.accepted.specs.Valid.{is-valid}
-use Rattle.accepted.specs.Fits.{wordsCount}
+use Rattle.accepted.specs.Fits.{wordsCount, wordsMost}
 
 -- ---- runs of numbers
 length-numbersFrom : (k n : ℕ) → length (numbersFrom k n) ≡ n
@@ -220,12 +220,12 @@ module _ (w : List ℕ) (y : isTimetable w ≡ true) where
   unfolding isTimetable
   yes-chained = and-left (chained w) (valid (timetableOf w)) y
 
-  yes-fits : wordsCount (stationCount w) (tripCount w) (stopCount w) ≤ 8580
+  yes-fits : wordsCount (stationCount w) (tripCount w) (stopCount w) ≤ wordsMost
   yes-fits =
       let v = is-valid (timetableOf w) yes-valid in
       omega (arith, station-count w yes-chained, trip-count w yes-chained, stop-count w yes-chained)
 
-  pub yes-begins : 8580 ≤ length w → take (length (words (timetableOf w))) w ≡ words (timetableOf w)
+  pub yes-begins : wordsMost ≤ length w → take (length (words (timetableOf w))) w ≡ words (timetableOf w)
   yes-begins h =
       let count : ℕ = wordsCount (stationCount w) (tripCount w) (stopCount w) in
       let own : words (timetableOf w) ≡ take count w = own-words w yes-chained (omega (arith, yes-fits)) in
@@ -233,7 +233,7 @@ module _ (w : List ℕ) (y : isTimetable w ≡ true) where
       ap length own ∙ length-take-le count w (omega (arith, yes-fits)) in
       rw long (sym own)
 
-  pub yes-whole : 8580 ≤ length w → w ≡ words (timetableOf w) ++ drop (length (words (timetableOf w))) w
+  pub yes-whole : wordsMost ≤ length w → w ≡ words (timetableOf w) ++ drop (length (words (timetableOf w))) w
   yes-whole h =
       sym (take-append-drop (length (words (timetableOf w))) w)
       ∙ ap (λ r. r ++ drop (length (words (timetableOf w))) w) (yes-begins h)

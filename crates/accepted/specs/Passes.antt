@@ -1,9 +1,9 @@
--- When a line has a yes to each question put to it, as facts, in both directions.
+-- When a line has a yes to each question put to it: the facts that the questions ask for, in both directions.
 use mathlib.Core.Path.{_≡_, refl}
 use mathlib.Core.Bool.{Bool, true, false, not, cond, _&&_, _||_}
 use mathlib.Core.List.{List, _∷_}
 use Prim.Native.Nat.{ℕ, suc, _+_, _≤_, _<_}
-use lib.Dec.{leb, ltb, eqb}
+use lib.Dec.{leb, ltb, eqb, leb·zero}
 use native.Mathlib.Omega.{arith}
 use borrow.Author.Tests.{not-true, leb-true, ltb-true, eqb-true, le-leb, lt-ltb, eq-eqb, ne-eqb}
 use Rattle.text.specs.Range.{inRange}
@@ -16,6 +16,7 @@ use Rattle.reading.specs.Reading.{Refused, readFrom}
 use Rattle.reading.specs.declared.Progress.{Progress}
 use Rattle.accepted.specs.Lists.{or-right, or-other, and-left, and-right}
 
+-- "In range? 3. In place: .. ? 4. Within the three counts? 5"
 pub record StationPasses (p : Progress) (l : StationLine) : Type 0 where
   pub minutes : l .minutes ≤ 240
   pub least : 1 ≤ l .points
@@ -24,6 +25,7 @@ pub record StationPasses (p : Progress) (l : StationLine) : Type 0 where
   pub number : l .number ≡ p .stations + 1
   pub count : p .stations < stationsMost
 
+-- .. and "For stops: ..? 6"
 pub record StopPasses (p : Progress) (l : StopLine) : Type 0 where
   pub arrive : l .arrive ≤ lastMinute
   pub depart : l .depart ≤ lastMinute
@@ -34,7 +36,7 @@ pub record StopPasses (p : Progress) (l : StopLine) : Type 0 where
   pub stops : p .stops < stopsMost
   pub fits : stopFits p l ≡ true
 
--- ---- no question has a no: question k has its yes, and so do those after it
+-- ---- no question has a no: this one has its yes, and so do those after it. Its number is `suc before`.
 this-yes : (before : ℕ) (answer : Bool) (rest : ℕ) → cond answer rest (suc before) ≡ 0 → answer ≡ true
 this-yes before true rest e = refl
 this-yes before false rest e = absurd (omega arith)
@@ -43,104 +45,59 @@ later-yes : (before : ℕ) (answer : Bool) (rest : ℕ) → cond answer rest (su
 later-yes before true rest e = e
 later-yes before false rest e = absurd (omega arith)
 
-in-range : (answer : Bool) (rest : ℕ) → cond answer rest 3 ≡ 0 → answer ≡ true
-in-range = this-yes 2
-
-past-range : (answer : Bool) (rest : ℕ) → cond answer rest 3 ≡ 0 → rest ≡ 0
-past-range = later-yes 2
-
-in-place : (answer : Bool) (rest : ℕ) → cond answer rest 4 ≡ 0 → answer ≡ true
-in-place = this-yes 3
-
-past-place : (answer : Bool) (rest : ℕ) → cond answer rest 4 ≡ 0 → rest ≡ 0
-past-place = later-yes 3
-
-in-counts : (answer : Bool) (rest : ℕ) → cond answer rest 5 ≡ 0 → answer ≡ true
-in-counts = this-yes 4
-
-past-counts : (answer : Bool) (rest : ℕ) → cond answer rest 5 ≡ 0 → rest ≡ 0
-past-counts = later-yes 4
-
-as-stop : (answer : Bool) (rest : ℕ) → cond answer rest 6 ≡ 0 → answer ≡ true
-as-stop = this-yes 5
-
-ruleset yes-to-all =
-    (in-range, past-range, in-place, past-place, in-counts, past-counts, as-stop, and-left, and-right)
-
--- ---- the ranges, by kind
-module _ (v : ℕ) where
-  within-minutes : v ≤ 240 → inRange 1 v ≡ true
-  unfolding inRange
-  within-minutes h = simp (le-leb 0 v (omega arith), le-leb v 240 h)
-
-  minutes-within : inRange 1 v ≡ true → v ≤ 240
-  unfolding inRange
-  minutes-within e = search (and-left, and-right, leb-true)
-
-  within-points : 1 ≤ v → v ≤ 1000 → inRange 2 v ≡ true
-  unfolding inRange
-  within-points g h = simp (le-leb 1 v g, le-leb v 1000 h)
-
-  least-within : inRange 2 v ≡ true → 1 ≤ v
-  unfolding inRange
-  least-within e = search (and-left, leb-true)
-
-  points-within : inRange 2 v ≡ true → v ≤ 1000
-  unfolding inRange
-  points-within e = search (and-left, and-right, leb-true)
-
-  within-times : v ≤ lastMinute → inRange 3 v ≡ true
-  unfolding inRange
-  within-times h = simp (le-leb 0 v (omega arith), le-leb v 2879 h)
-
-  times-within : inRange 3 v ≡ true → v ≤ lastMinute
-  unfolding inRange
-  times-within e = search (and-left, and-right, leb-true)
-
-  within-ride : v ≤ 100 → inRange 4 v ≡ true
-  unfolding inRange
-  within-ride h = simp (le-leb 0 v (omega arith), le-leb v 100 h)
-
-  ride-within : inRange 4 v ≡ true → v ≤ 100
-  unfolding inRange
-  ride-within e = search (and-left, and-right, leb-true)
-
 -- ---- a station line
 module _ (p : Progress) (l : StationLine) where
   pub station-passes : StationPasses p l → stationNumber p l ≡ 0
-  unfolding stationNumber
+  unfolding stationNumber inRange
   station-passes h =
       simp (
-        within-minutes (l .minutes) (h .minutes),
-        within-points (l .points) (h .least) (h .points),
+        leb·zero,
+        le-leb (l .minutes) 240 (h .minutes),
+        le-leb 1 (l .points) (h .least),
+        le-leb (l .points) 1000 (h .points),
         eq-eqb (p .stops) 0 (h .first),
         eq-eqb (l .number) (p .stations + 1) (h .number),
-        lt-ltb (p .stations) 64 (h .count),
+        lt-ltb (p .stations) stationsMost (h .count),
       )
 
   pub station-passed : stationNumber p l ≡ 0 → StationPasses p l
-  unfolding stationNumber
-  station-passed e = search (yes-to-all, minutes-within, least-within, points-within, eqb-true, ltb-true)
+  unfolding stationNumber inRange
+  station-passed e =
+      search (this-yes 2, later-yes 2, this-yes 3, later-yes 3, this-yes 4, and-left, and-right, leb-true, eqb-true)
 
 -- ---- a stop line
 module _ (p : Progress) (l : StopLine) where
   pub stop-passes : StopPasses p l → stopNumber p l ≡ 0
-  unfolding stopNumber
+  unfolding stopNumber inRange
   stop-passes h =
       simp (
-        within-times (l .arrive) (h .arrive),
-        within-times (l .depart) (h .depart),
-        within-ride (l .points) (h .points),
+        leb·zero,
+        le-leb (l .arrive) lastMinute (h .arrive),
+        le-leb (l .depart) lastMinute (h .depart),
+        le-leb (l .points) 100 (h .points),
         eq-eqb (l .trip) (p .trips + 1) (h .trip),
         eq-eqb (l .stop) (p .begun + 1) (h .stop),
-        lt-ltb (p .trips) 256 (h .trips),
-        lt-ltb (p .stops) 2048 (h .stops),
+        lt-ltb (p .trips) tripsMost (h .trips),
+        lt-ltb (p .stops) stopsMost (h .stops),
         h .fits,
       )
 
   pub stop-passed : stopNumber p l ≡ 0 → StopPasses p l
-  unfolding stopNumber
-  stop-passed e = search (yes-to-all, times-within, ride-within, eqb-true, ltb-true)
+  unfolding stopNumber inRange
+  stop-passed e =
+      search (
+        this-yes 2,
+        later-yes 2,
+        this-yes 3,
+        later-yes 3,
+        this-yes 4,
+        later-yes 4,
+        this-yes 5,
+        and-left,
+        and-right,
+        leb-true,
+        eqb-true,
+      )
 
 -- ---- "For stops: station listed, unlike the stop before, arrival after the previous departure, departure not before
 -- arrival?"

@@ -1,11 +1,12 @@
--- Question 9: "Could the timetable words come from an accepted text?" The test isTimetable has a yes exactly for the words
--- that do, and what reading wrote, with number 0, always has its yes.
+-- Question 9: "Could the timetable words come from an accepted text?" The test isTimetable has a yes exactly for the
+-- words that do, and what reading wrote, with number 0, always has its yes.
 use mathlib.Core.Path.{_≡_, sym, ap, _∙_}
 use mathlib.Core.Bool.{true}
 use mathlib.Core.Logic.{_↔_}
 use mathlib.Core.List.{List, _++_}
 use Prim.Native.Nat.{ℕ, _≤_}
 use lib.ListN.{length, take, drop, take-append-drop}
+use lib.Seq.{take-append-seam}
 use native.Mathlib.Nat.{zero-add}
 use native.Mathlib.Omega.{arith}
 use borrow.Author.Tests.{le-leb}
@@ -13,18 +14,19 @@ use Rattle.words.specs.Put.{put}
 use Rattle.timetable.specs.Timetable.{Timetable, valid}
 use Rattle.timetable.specs.Words.{words, timetableOf, isTimetable}
 use Rattle.reading.specs.Reading.{Accepted, textMost, reading, slicesLeast, readWords}
-use Rattle.accepted.specs.Lists.{both}
+use Rattle.accepted.specs.Lists.{both, Below}
 use Rattle.accepted.specs.WrittenOut.{linesOf, textOf}
-use Rattle.accepted.specs.ReadBack.{text-short}
+use Rattle.accepted.specs.TextReadBack.{text-bytes, text-short}
 use Rattle.accepted.specs.Taken.{valid-accepted}
-use Rattle.accepted.specs.Sound.{accepted-valid}
-use Rattle.accepted.specs.Spelled.{timetable-spelled, words-chained}
+use Rattle.accepted.specs.Sound.{accepted-valid, accepted-short}
+use Rattle.accepted.specs.Spelled.{words-spell, words-chained}
 use Rattle.accepted.specs.OwnWords.{yes-valid, yes-begins}
 
 -- Some text of at most 65,536 bytes is accepted by reading, and the words w begin with those of its timetable: "no
 -- question judges the words past a table".
 pub record ComesFromText (w : List ℕ) : Type 0 where
   pub text : List ℕ
+  pub bytes : Below 256 text
   pub short : length text ≤ textMost
   pub timetable : Timetable
   pub lines : ℕ
@@ -37,6 +39,7 @@ yes-comes w h y =
     let v = yes-valid w y in
     record {
       text = textOf (timetableOf w);
+      bytes = text-bytes (timetableOf w) v;
       short = text-short (timetableOf w) v;
       timetable = timetableOf w;
       lines = length (linesOf (timetableOf w));
@@ -47,7 +50,7 @@ yes-comes w h y =
 -- ---- from a text to the test
 valid-yes : (t : Timetable) (rest : List ℕ) → valid t ≡ true → isTimetable (words t ++ rest) ≡ true
 unfolding isTimetable
-valid-yes t rest v = both _ _ (words-chained t rest) (rw (timetable-spelled t rest) v)
+valid-yes t rest v = both _ _ (words-chained t rest) (rw (words-spell t rest) v)
 
 behind : (w : List ℕ) → ComesFromText w → List ℕ
 behind w c = drop (length (words (c .timetable))) w
@@ -72,13 +75,25 @@ module _ (text : List ℕ) (t : Timetable) (n : ℕ) (e : reading text ≡ Accep
   unfolding readWords put
   read-writes old h = rw (le-leb 16384 (length old) h, e, zero-add)
 
-  -- it has its yes
-  pub read-has-yes : (old : List ℕ) → slicesLeast ≤ length old → isTimetable (readWords text old) ≡ true
-  read-has-yes old h = rw (read-writes old h) (valid-yes t _ (accepted-valid text t n e))
+  module _ (old : List ℕ) (h : slicesLeast ≤ length old) where
+    pub read-comes : Below 256 text → ComesFromText (readWords text old)
+    read-comes b =
+        record {
+          text = text;
+          bytes = b;
+          short = accepted-short text t n e;
+          timetable = t;
+          lines = n;
+          accepted = e;
+          leads = rw (read-writes old h) (take-append-seam (words t) (drop (length (words t)) old));
+        }
 
-  -- and spells the timetable of the text
-  pub read-spells : (old : List ℕ) → slicesLeast ≤ length old → timetableOf (readWords text old) ≡ t
-  read-spells old h = rw (read-writes old h) (timetable-spelled t _)
+    pub read-has-yes : isTimetable (readWords text old) ≡ true
+    read-has-yes = rw (read-writes old h) (valid-yes t (drop (length (words t)) old) (accepted-valid text t n e))
+
+    -- it spells the timetable of the text
+    pub read-spells : timetableOf (readWords text old) ≡ t
+    read-spells = rw (read-writes old h) (words-spell t (drop (length (words t)) old))
 
 -- words that come from a text are those that reading it writes: read into them, it leaves them as they are
 pub read-again : (w : List ℕ) (c : ComesFromText w) → slicesLeast ≤ length w → readWords (c .text) w ≡ w

@@ -16,94 +16,26 @@ use Rattle.text.specs.declared.Line.{Line}
 use Rattle.text.specs.declared.Line.the-variants.{Station as StationIn, Stop as StopIn, Shapeless}
 use Rattle.text.specs.declared.StationLine.{StationLine}
 use Rattle.text.specs.declared.StopLine.{StopLine}
-use Rattle.timetable.specs.Timetable.{Station, Stop, Trip, Timetable, stopsOf, validStation, listed, leaves, ends}
-use Rattle.timetable.specs.Timetable.{follows, runs, validTrip, validStations, validTrips, counted, valid}
+use Rattle.timetable.specs.Timetable.{stationsMost, tripsMost, stopsMost, lastMinute, Trip, Timetable, stopsOf}
+use Rattle.timetable.specs.Timetable.{validStation, listed, leaves, ends, follows, validTrip, validStations, validTrips}
+use Rattle.timetable.specs.Timetable.{counted, valid}
 use Rattle.reading.specs.Draft.{Draft, blank, final, progress, lineNumber, stationOfLine, stopOfLine, withStop}
 use Rattle.reading.specs.Draft.{withLine}
-use Rattle.reading.specs.Reading.{Outcome, Accepted, Refused, ended, readFrom, readLines, reading}
-use Rattle.accepted.specs.Lists.{snoc-length, both, and-left, and-right, or-other}
-use Rattle.accepted.specs.Valid.{runs-one, runs-more, trip-not-empty, stopsOf-append}
+use Rattle.reading.specs.Reading.{textMost, Outcome, Accepted, Refused, ended, readFrom, readLines, reading}
+use Rattle.accepted.specs.Lists.{snoc-length, and-left, or-other}
+use Rattle.accepted.specs.Valid.{trip-not-empty, stopsOf-append}
 use Rattle.accepted.specs.Passes.{StopPasses, station-passed, stop-passed, fits-least, fits-most, fits-after}
 use Rattle.accepted.specs.Passes.{read-more}
+use Rattle.accepted.specs.SoFar.{validSoFar, stations-more, trips-more, trip-so-far, first-so-far, trip-to-end}
 use Rattle.accepted.specs.Shaped.{ShapedStop, Shaped, shaped}
 
--- the stops after stop b, of a trip that has not ended
-runsSoFar : ℕ → Stop → List Stop → Bool
-runsSoFar n b [] = true
-runsSoFar n b (s ∷ l) = follows n b s && leb (s .arrive) (s .depart) && leaves s && runsSoFar n s l
-
--- a trip that has begun, or none
-validSoFar : ℕ → Trip → Bool
-validSoFar n [] = true
-validSoFar n (b ∷ l) = listed n b && eqb (b .arrive) 0 && leaves b && runsSoFar n b l
-
 record Sound (d : Draft) : Type 0 where
-  stations : length (d .stations) ≤ 64
-  trips : length (d .trips) ≤ 256
-  stops : length (stopsOf (d .trips) ++ d .begun) ≤ 2048
+  stations : length (d .stations) ≤ stationsMost
+  trips : length (d .trips) ≤ tripsMost
+  stops : length (stopsOf (d .trips) ++ d .begun) ≤ stopsMost
   each-station : validStations (d .stations) ≡ true
   each-trip : validTrips (length (d .stations)) (d .trips) ≡ true
   begun : validSoFar (length (d .stations)) (d .begun) ≡ true
-
--- ---- one more at the end
-stations-more : (l : List Station) (s : Station) → validStations l ≡ true → validStation s ≡ true
-    → validStations (l ++ (s ∷ [])) ≡ true
-unfolding validStations
-stations-more [] s v w = both (validStation s) true w refl
-stations-more (x ∷ l) s v w =
-    let rest = stations-more l s (search (and-right)) w in
-    search (both, and-left)
-
-trips-more : (n : ℕ) (l : List Trip) (t : Trip) → validTrips n l ≡ true → validTrip n t ≡ true
-    → validTrips n (l ++ (t ∷ [])) ≡ true
-unfolding validTrips
-trips-more n [] t v w = both (validTrip n t) true w refl
-trips-more n (x ∷ l) t v w =
-    let rest = trips-more n l t (search (and-right)) w in
-    search (both, and-left)
-
-module _ (n : ℕ) (s : Stop) where
-  runs-so-far : (b : Stop) (l : List Stop) → runsSoFar n b l ≡ true → follows n (final (b ∷ l)) s ≡ true
-      → leb (s .arrive) (s .depart) ≡ true → leaves s ≡ true → runsSoFar n b (l ++ (s ∷ [])) ≡ true
-  unfolding runsSoFar
-  runs-so-far b [] v f w g = simp (f, w, g)
-  runs-so-far b (u ∷ l) v f w g =
-      let rest : runsSoFar n u (l ++ (s ∷ [])) ≡ true = runs-so-far u l (search (and-right)) f w g in
-      search (both, and-left)
-
-  runs-to-end : (b : Stop) (l : List Stop) → runsSoFar n b l ≡ true → follows n (final (b ∷ l)) s ≡ true
-      → ends s ≡ true → runs n b (l ++ (s ∷ [])) ≡ true
-  unfolding runsSoFar
-  runs-to-end b [] v f e = rw (runs-one n b s) (search both)
-  runs-to-end b (u ∷ []) v f e =
-      let rest = runs-to-end u [] refl f e in
-      rw (runs-more n b u s []) (search (both, and-left))
-  runs-to-end b (u ∷ x ∷ l) v f e =
-      let rest = runs-to-end u (x ∷ l) (search (and-right)) f e in
-      rw (runs-more n b u x (l ++ (s ∷ []))) (search (both, and-left))
-
-  -- a trip that has begun goes on, or ends, with stop s
-  trip-so-far : (t : Trip) → 0 < length t → validSoFar n t ≡ true → follows n (final t) s ≡ true
-      → leb (s .arrive) (s .depart) ≡ true → leaves s ≡ true → validSoFar n (t ++ (s ∷ [])) ≡ true
-  unfolding validSoFar
-  trip-so-far [] h v f w g = absurd (omega arith)
-  trip-so-far (b ∷ l) h v f w g =
-      let rest = runs-so-far b l (search (and-right)) f w g in
-      search (both, and-left)
-
-  first-so-far : (t : Trip) → length t ≡ 0 → listed n s ≡ true → eqb (s .arrive) 0 ≡ true → leaves s ≡ true
-      → validSoFar n (t ++ (s ∷ [])) ≡ true
-  unfolding validSoFar runsSoFar
-  first-so-far [] e a b c = simp (a, b, c)
-  first-so-far (x ∷ t) e a b c = absurd (omega arith)
-
-  trip-to-end : (t : Trip) → 0 < length t → validSoFar n t ≡ true → follows n (final t) s ≡ true → ends s ≡ true
-      → validTrip n (t ++ (s ∷ [])) ≡ true
-  unfolding validSoFar validTrip
-  trip-to-end [] h v f e = absurd (omega arith)
-  trip-to-end (b ∷ l) h v f e =
-      let rest = runs-to-end b l (search (and-right)) f e in
-      search (both, and-left)
 
 -- ---- a station line: no trip has begun, so that the stations may still change
 no-trips : (n m : ℕ) (l : List Trip) → length (stopsOf l) ≡ 0 → validTrips n l ≡ true → validTrips m l ≡ true
@@ -151,7 +83,7 @@ module _ (d : Draft) (l : StopLine) (e : lineNumber (progress d) (StopIn l) ≡ 
 
     stop-leaves : leaves (stopOfLine l) ≡ true
     unfolding leaves
-    stop-leaves = simp (le-leb (l .depart) 2879 (passes .depart), le-leb (l .points) 100 (passes .points))
+    stop-leaves = simp (le-leb (l .depart) lastMinute (passes .depart), le-leb (l .points) 100 (passes .points))
 
     stop-ends : l .last ≡ true → ends (stopOfLine l) ≡ true
     unfolding ends
@@ -169,7 +101,7 @@ module _ (d : Draft) (l : StopLine) (e : lineNumber (progress d) (StopIn l) ≡ 
           stop-listed,
           after .unlike,
           lt-ltb ((final (d .begun)) .depart) (l .arrive) (after .later),
-          le-leb (l .arrive) 2879 (passes .arrive),
+          le-leb (l .arrive) lastMinute (passes .arrive),
         )
 
     goes-on : l .last ≡ false → validSoFar (length (d .stations)) (d .begun ++ (stopOfLine l ∷ [])) ≡ true
@@ -190,7 +122,7 @@ module _ (d : Draft) (l : StopLine) (e : lineNumber (progress d) (StopIn l) ≡ 
           | inr some ↦ trip-to-end _ _ (d .begun) some (h .begun) (stop-follows some) (stop-ends last)
         ]
 
-    one-more : length (stopsOf (d .trips)) + (length (d .begun) + 1) ≤ 2048
+    one-more : length (stopsOf (d .trips)) + (length (d .begun) + 1) ≤ stopsMost
     one-more = omega (arith, length-append (stopsOf (d .trips)) (d .begun), passes .stops)
 
     with-stop : (last : Bool) → l .last ≡ last → Sound (withStop d (stopOfLine l) last)
@@ -252,9 +184,9 @@ draft-valid d h some =
     let all = length-append (stopsOf (d .trips)) (d .begun) in
     simp (
       le-leb 1 (length (d .stations)) some,
-      le-leb (length (d .stations)) 64 (h .stations),
-      le-leb (length (d .trips)) 256 (h .trips),
-      le-leb (length (stopsOf (d .trips))) 2048 (omega arith),
+      le-leb (length (d .stations)) stationsMost (h .stations),
+      le-leb (length (d .trips)) tripsMost (h .trips),
+      le-leb (length (stopsOf (d .trips))) stopsMost (omega arith),
       h .each-station,
       h .each-trip,
     )
@@ -288,10 +220,10 @@ pub accepted-valid : (text : List ℕ) (t : Timetable) (n : ℕ) → reading tex
 unfolding reading readLines
 accepted-valid text t n e =
     accepted-from blank 1 (pieces 10 text) t n sound-blank
-    (accepted-yes (leb (length text) 65536) (readFrom blank 1 (pieces 10 text)) 1 0 t n e)
+    (accepted-yes (leb (length text) textMost) (readFrom blank 1 (pieces 10 text)) 1 0 t n e)
 
 -- "at most .. 65,536 bytes? 1"
-pub accepted-short : (text : List ℕ) (t : Timetable) (n : ℕ) → reading text ≡ Accepted t n → length text ≤ 65536
+pub accepted-short : (text : List ℕ) (t : Timetable) (n : ℕ) → reading text ≡ Accepted t n → length text ≤ textMost
 unfolding reading
 accepted-short text t n e =
-    leb-true (length text) 65536 (accepted-test (leb (length text) 65536) (readLines text) 1 0 t n e)
+    leb-true (length text) textMost (accepted-test (leb (length text) textMost) (readLines text) 1 0 t n e)

@@ -154,9 +154,9 @@ module _ (t : Timetable) (rest : List ℕ) where
       omega arith in
       ap (λ n. drop n (words t ++ rest)) place ∙ stops-past (words t ++ rest) 0 (stopsOf (t .trips)) _ from-stops
 
-  pub timetable-spelled : timetableOf (words t ++ rest) ≡ t
+  pub words-spell : timetableOf (words t ++ rest) ≡ t
   unfolding timetableOf words
-  timetable-spelled =
+  words-spell =
       λ i. record {
         stations = stations-at (words t ++ rest) 0 (t .stations) _ from-stations i;
         trips = trips-at (words t ++ rest) 0 0 (t .trips) _ rest from-stops from-starts i;

@@ -12,21 +12,22 @@ use native.Mathlib.Omega.{arith}
 use borrow.Author.Tests.{le-leb}
 use Rattle.text.specs.Shape.{shapeOf}
 use Rattle.text.specs.declared.Line.{Line}
-use Rattle.timetable.specs.Timetable.{Station, Stop, Trip, Timetable, stopsOf, validStation, leaves, follows, runs}
-use Rattle.timetable.specs.Timetable.{validTrip, validStations, validTrips, valid}
+use Rattle.timetable.specs.Timetable.{stationsMost, tripsMost, stopsMost, lastMinute, Station, Stop, Trip, Timetable}
+use Rattle.timetable.specs.Timetable.{stopsOf, validStation, leaves, follows, runs, validTrip, validStations}
+use Rattle.timetable.specs.Timetable.{validTrips, valid}
 use Rattle.reading.specs.Draft.{Draft, blank, final, progress, lineNumber, withLine}
-use Rattle.reading.specs.Reading.{Accepted, ended, readFrom, readLines, reading}
+use Rattle.reading.specs.Reading.{textMost, Accepted, ended, readFrom, readLines, reading}
 use Rattle.accepted.specs.Lists.{snoc-length, and-left, and-right}
 use Rattle.accepted.specs.Marks.{pieces-lined}
 use Rattle.accepted.specs.Valid.{valid-station, is-listed, it-leaves, it-ends, it-follows, is-valid, runs-none}
 use Rattle.accepted.specs.Valid.{runs-last, runs-on, begins, trip-not-empty, stopsOf-append}
 use Rattle.accepted.specs.Passes.{station-passes, stop-passes, first-fits, later-fits, read-more}
 use Rattle.accepted.specs.WrittenOut.{linesOf, textOf}
-use Rattle.accepted.specs.ReadBack.{stopRead, stationsRead, stopsRead, tripsRead, linesRead, timetable-spelled}
-use Rattle.accepted.specs.ReadBack.{text-short}
+use Rattle.accepted.specs.LineReadBack.{stopRead}
+use Rattle.accepted.specs.TextReadBack.{stationsRead, stopsRead, tripsRead, linesRead, lines-written, text-short}
 
 -- draft d has a yes to each of the lines given, and with them it is e
-abbrev pub Takes : Draft → List Line → Draft → Type 0
+abbrev Takes : Draft → List Line → Draft → Type 0
 Takes d [] e = d ≡ e
 Takes d (l ∷ more) e = (lineNumber (progress d) l ≡ 0) × Takes (withLine d l) more e
 
@@ -59,7 +60,7 @@ abbrev draft : List Station → List Trip → Trip → Draft
 draft stations trips begun = record { stations = stations; trips = trips; begun = begun }
 
 stations-taken : (n : ℕ) (done l : List Station) → n ≡ length done + 1 → validStations l ≡ true
-    → length done + length l ≤ 64 → Takes (draft done [] []) (stationsRead n l) (draft (done ++ l) [] [])
+    → length done + length l ≤ stationsMost → Takes (draft done [] []) (stationsRead n l) (draft (done ++ l) [] [])
 unfolding stationsRead validStations
 stations-taken n done [] e v h = ap (λ s. draft s [] []) (sym (append-nil done))
 stations-taken n done (s ∷ l) e v h =
@@ -85,11 +86,11 @@ final-snoc (b ∷ []) s = refl
 final-snoc (b ∷ u ∷ l) s = final-snoc (u ∷ l) s
 
 module _ (stations : List Station) (trips : List Trip) (trip : ℕ) (this : trip ≡ length trips + 1)
-    (few : length trips < 256) where
+    (few : length trips < tripsMost) where
   -- stop s, which comes after those begun
   stop-taken : (begun : Trip) (k : ℕ) (s : Stop) (last : Bool) → k ≡ length begun + 1 → 0 < length begun
-      → length (stopsOf trips ++ begun) < 2048 → follows (length stations) (final begun) s ≡ true
-      → s .depart ≤ 2879 → s .points ≤ 100 → (last || leb (s .arrive) (s .depart)) ≡ true
+      → length (stopsOf trips ++ begun) < stopsMost → follows (length stations) (final begun) s ≡ true
+      → s .depart ≤ lastMinute → s .points ≤ 100 → (last || leb (s .arrive) (s .depart)) ≡ true
       → lineNumber (progress (draft stations trips begun)) (stopRead trip k s last) ≡ 0
   stop-taken begun k s last e h g f d p w =
       let came = it-follows _ _ s f in
@@ -106,7 +107,7 @@ module _ (stations : List Station) (trips : List Trip) (trip : ℕ) (this : trip
       })
 
   later-taken : (begun : Trip) (k : ℕ) (l : List Stop) → k ≡ length begun + 1 → 0 < length begun
-      → length (stopsOf trips ++ begun) + length l ≤ 2048 → runs (length stations) (final begun) l ≡ true
+      → length (stopsOf trips ++ begun) + length l ≤ stopsMost → runs (length stations) (final begun) l ≡ true
       → Takes (draft stations trips begun) (stopsRead trip k l) (draft stations (trips ++ ((begun ++ l) ∷ [])) [])
   unfolding stopsRead
   later-taken begun k [] e h g v = absurd (runs-none _ _ v)
@@ -127,7 +128,7 @@ module _ (stations : List Station) (trips : List Trip) (trip : ℕ) (this : trip
             (rw (final-snoc begun s) (r .on))),
       )
 
-  trip-taken : (t : Trip) → length (stopsOf trips) + length t ≤ 2048 → validTrip (length stations) t ≡ true
+  trip-taken : (t : Trip) → length (stopsOf trips) + length t ≤ stopsMost → validTrip (length stations) t ≡ true
       → Takes (draft stations trips []) (stopsRead trip 1 t) (draft stations (trips ++ (t ∷ [])) [])
   unfolding stopsRead
   trip-taken [] g v = absurd (trip-not-empty _ v)
@@ -153,8 +154,8 @@ module _ (stations : List Station) (trips : List Trip) (trip : ℕ) (this : trip
 
 -- ---- all trips, and the whole
 trips-taken : (stations : List Station) (n : ℕ) (done l : List Trip) → n ≡ length done + 1
-    → validTrips (length stations) l ≡ true → length done + length l ≤ 256
-    → length (stopsOf done) + length (stopsOf l) ≤ 2048
+    → validTrips (length stations) l ≡ true → length done + length l ≤ tripsMost
+    → length (stopsOf done) + length (stopsOf l) ≤ stopsMost
     → Takes (draft stations done []) (tripsRead n l) (draft stations (done ++ l) [])
 unfolding tripsRead validTrips
 trips-taken stations n done [] e v h g = ap (λ t. draft stations t []) (sym (append-nil done))
@@ -189,12 +190,12 @@ ended-accepted t n h =
 pub valid-accepted : (t : Timetable) → valid t ≡ true → reading (textOf t) ≡ Accepted t (length (linesOf t))
 unfolding reading readLines textOf
 valid-accepted t v =
-    let spelled = timetable-spelled t v in
+    let lines = lines-written t v in
     let taken : Takes blank (map shapeOf (linesOf t)) (draft (t .stations) (t .trips) []) =
-    rw (spelled .shapes) (timetable-taken t v) in
+    rw (lines .shapes) (timetable-taken t v) in
     rw (
-      le-leb (length (textOf t)) 65536 (text-short t v),
-      pieces-lined (linesOf t) (spelled .plain),
+      le-leb (length (textOf t)) textMost (text-short t v),
+      pieces-lined (linesOf t) (lines .plain),
       taken-read blank _ 1 (linesOf t) taken,
     )
     (ended-accepted t (length (linesOf t)) (is-valid t v .least))

@@ -1,4 +1,5 @@
--- What the tests of a valid timetable say, as facts.
+-- What the tests of a valid timetable say, as facts: the ranges and counts that document 01 sets, and how the stops of
+-- a trip follow one another.
 use mathlib.Core.Path.{_≡_, refl, sym, ap, _∙_}
 use mathlib.Core.Bool.{true, false, _&&_}
 use mathlib.Core.List.{List, [], _∷_, _++_, append-assoc}
@@ -12,6 +13,7 @@ use Rattle.timetable.specs.Timetable.{lastMinute, validStation, listed, leaves,
 use Rattle.timetable.specs.Timetable.{validStations, validTrips, counted, valid}
 use Rattle.accepted.specs.Lists.{never, and-left, and-right}
 
+-- ---- the facts
 pub record ValidStation (s : Station) : Type 0 where
   pub minutes : s .minutes ≤ 240
   pub least : 1 ≤ s .points
@@ -56,6 +58,7 @@ pub record Valid (t : Timetable) : Type 0 where
   pub each-station : validStations (t .stations) ≡ true
   pub each-trip : validTrips (length (t .stations)) (t .trips) ≡ true
 
+-- ---- from the tests to the facts
 pub valid-station : (s : Station) → validStation s ≡ true → ValidStation s
 unfolding validStation
 valid-station s v = search (and-left, and-right, leb-true)

@@ -9,25 +9,29 @@ use Rattle.timetable.specs.Timetable.{Station, Stop, Trip, Timetable}
 use Rattle.accepted.specs.Marks.{lined, fielded}
 use Rattle.accepted.specs.Digits.{digits}
 
+abbrev pub stationFields : ℕ → Station → List (List ℕ)
+stationFields n s = digits n ∷ digits (s .minutes) ∷ digits (s .points) ∷ []
+
 unfoldable pub stationLine : ℕ → Station → List ℕ
-stationLine n s = 83 ∷ 44 ∷ fielded (digits n ∷ digits (s .minutes) ∷ digits (s .points) ∷ [])
+stationLine n s = 83 ∷ 44 ∷ fielded (stationFields n s)
 
 -- a field that may be empty
 abbrev pub emptyOr : Bool → ℕ → List ℕ
 emptyOr empty n = cond empty [] (digits n)
 
-unfoldable pub stopLine : (trip stop : ℕ) → Stop → (last : Bool) → List ℕ
-stopLine trip stop s last =
-    84
-    ∷ 44
-    ∷ fielded
-    (digits trip
-    ∷ digits stop
+abbrev pub stopFields : (trip k : ℕ) → Stop → (last : Bool) → List (List ℕ)
+stopFields trip k s last =
+    digits trip
+    ∷ digits k
     ∷ digits (s .station)
-    ∷ emptyOr (eqb stop 1) (s .arrive)
+    ∷ emptyOr (eqb k 1) (s .arrive)
     ∷ emptyOr last (s .depart)
     ∷ emptyOr last (s .points)
-    ∷ [])
+    ∷ []
+
+-- stop k of a trip
+unfoldable pub stopLine : (trip k : ℕ) → Stop → (last : Bool) → List ℕ
+stopLine trip k s last = 84 ∷ 44 ∷ fielded (stopFields trip k s last)
 
 -- the lines of stations, the first of which has number n
 unfoldable pub stationLines : ℕ → List Station → List (List ℕ)
