@@ -23,12 +23,13 @@ unfoldable pub digits : ℕ → List ℕ
 unfolding digitsBefore
 digits n = digitsBefore 4 n []
 
--- n reads back to itself; its bytes stand above the comma; they are at most 4, and below 1,000 at most 3, below 100 at
--- most 2
+-- n reads back to itself; its bytes stand above the comma; there is one and there are at most 4, below 1,000 at most 3,
+-- below 100 at most 2
 wellWritten : ℕ → Bool
 wellWritten n =
     eqb (fieldValue (digits n)) n
     && above 44 (digits n)
+    && leb 1 (length (digits n))
     && leb (length (digits n)) 4
     && leb (length (digits n)) (cond (ltb n 1000) 3 4)
     && leb (length (digits n)) (cond (ltb n 100) 2 4)
@@ -63,6 +64,10 @@ module _ (n : ℕ) (h : n ≤ 9999) where
   pub digits-above : above 44 (digits n) ≡ true
   unfolding wellWritten
   digits-above = let w = well-written in search (and-left, and-right)
+
+  pub some-byte : 1 ≤ length (digits n)
+  unfolding wellWritten
+  some-byte = let w = well-written in search (and-left, and-right, leb-true)
 
   pub four-bytes : length (digits n) ≤ 4
   unfolding wellWritten

@@ -15,6 +15,7 @@ use Rattle.timetable.specs.Timetable.{Timetable, valid}
 use Rattle.timetable.specs.Words.{words, timetableOf, isTimetable}
 use Rattle.reading.specs.Reading.{Accepted, textMost, reading, slicesLeast, readWords}
 use Rattle.accepted.specs.Lists.{both, Below}
+use Rattle.accepted.specs.Valid.{Valid, is-valid}
 use Rattle.accepted.specs.WrittenOut.{linesOf, textOf}
 use Rattle.accepted.specs.TextReadBack.{text-bytes, text-short}
 use Rattle.accepted.specs.Taken.{valid-accepted}
@@ -67,6 +68,10 @@ comes-yes w c =
 -- ---- the theorem
 pub question9 : (w : List ℕ) → slicesLeast ≤ length w → isTimetable w ≡ true ↔ ComesFromText w
 question9 w h = (yes-comes w h, comes-yes w)
+
+-- what callers go by: words with a yes spell a timetable within its bounds
+pub yes-bounds : (w : List ℕ) → isTimetable w ≡ true → Valid (timetableOf w)
+yes-bounds w y = is-valid (timetableOf w) (yes-valid w y)
 
 -- ---- what reading wrote, with number 0
 module _ (text : List ℕ) (t : Timetable) (n : ℕ) (e : reading text ≡ Accepted t n) where

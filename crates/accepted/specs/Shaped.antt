@@ -14,12 +14,14 @@ use Rattle.text.specs.declared.StationLine.{StationLine}
 use Rattle.text.specs.declared.StopLine.{StopLine}
 use Rattle.accepted.specs.Lists.{and-left, and-right}
 
+-- a stop line
 pub record ShapedStop (l : StopLine) : Type 0 where
   pub first : l .stop ≡ 1 → l .arrive ≡ 0
   pub inner : l .last ≡ true → l .stop ≡ 1 → ⊥
   pub depart : l .last ≡ true → l .depart ≡ 0
   pub points : l .last ≡ true → l .points ≡ 0
 
+-- any line; only a stop line has fields that may be empty
 unfoldable pub Shaped : Line → Type 0
 Shaped (StationIn l) = Unit {0}
 Shaped (StopIn l) = ShapedStop l

@@ -18,13 +18,13 @@ use Rattle.timetable.specs.Timetable.{validTrips, valid}
 use Rattle.reading.specs.Draft.{Draft, blank, final, progress, lineNumber, withLine}
 use Rattle.reading.specs.Reading.{textMost, Accepted, ended, readFrom, readLines, reading}
 use Rattle.accepted.specs.Lists.{snoc-length, and-left, and-right}
-use Rattle.accepted.specs.Marks.{pieces-lined}
 use Rattle.accepted.specs.Valid.{valid-station, is-listed, it-leaves, it-ends, it-follows, is-valid, runs-none}
 use Rattle.accepted.specs.Valid.{runs-last, runs-on, begins, trip-not-empty, stopsOf-append}
 use Rattle.accepted.specs.Passes.{station-passes, stop-passes, first-fits, later-fits, read-more}
 use Rattle.accepted.specs.WrittenOut.{linesOf, textOf}
 use Rattle.accepted.specs.LineReadBack.{stopRead}
-use Rattle.accepted.specs.TextReadBack.{stationsRead, stopsRead, tripsRead, linesRead, lines-written, text-short}
+use Rattle.accepted.specs.TextReadBack.{stationsRead, stopsRead, tripsRead, linesRead, lines-written, text-pieces}
+use Rattle.accepted.specs.TextReadBack.{text-short}
 
 -- draft d has a yes to each of the lines given, and with them it is e
 abbrev Takes : Draft → List Line → Draft → Type 0
@@ -188,14 +188,13 @@ ended-accepted t n h =
 
 -- the text written out from a valid timetable is accepted and leads to it
 pub valid-accepted : (t : Timetable) → valid t ≡ true → reading (textOf t) ≡ Accepted t (length (linesOf t))
-unfolding reading readLines textOf
+unfolding reading readLines
 valid-accepted t v =
-    let lines = lines-written t v in
     let taken : Takes blank (map shapeOf (linesOf t)) (draft (t .stations) (t .trips) []) =
-    rw (lines .shapes) (timetable-taken t v) in
+    rw (lines-written t v .shapes) (timetable-taken t v) in
     rw (
       le-leb (length (textOf t)) textMost (text-short t v),
-      pieces-lined (linesOf t) (lines .plain),
+      text-pieces t v,
       taken-read blank _ 1 (linesOf t) taken,
     )
     (ended-accepted t (length (linesOf t)) (is-valid t v .least))

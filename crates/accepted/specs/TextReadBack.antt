@@ -6,6 +6,7 @@ use mathlib.Core.List.{List, [], _∷_, _++_, map, map-append}
 use Prim.Native.Nat.{ℕ, suc, _+_, _*_, _≤_, _<_}
 use lib.ListN.{length, length-append}
 use native.Mathlib.Omega.{arith}
+use Rattle.text.specs.Piece.{pieces}
 use Rattle.text.specs.Shape.{shapeOf}
 use Rattle.text.specs.declared.Line.{Line}
 use Rattle.timetable.specs.Timetable.{stationsMost, tripsMost, stopsMost, Station, Stop, Trip, Timetable, stopsOf}
@@ -15,8 +16,8 @@ use Rattle.reading.specs.Reading.{textMost}
 use Rattle.accepted.specs.Valid.{Begins, first-ranges, inner-ranges, last-ranges, it-ends, is-valid, runs-none}
 use Rattle.accepted.specs.Valid.{runs-last, runs-on, begins, trip-not-empty}
 use Rattle.accepted.specs.Lists.{Below, never, both, and-left, and-right}
-use Rattle.accepted.specs.Marks.{bytes-lined, above, allAbove, lined, lined-append, allAbove-append}
-use Rattle.accepted.specs.WrittenOut.{stationLines, none, stopLines, tripLines, linesOf, textOf}
+use Rattle.accepted.specs.Marks.{bytes-lined, pieces-lined, above, allAbove, lined, lined-append, allAbove-append}
+use Rattle.accepted.specs.WrittenOut.{stationLines, noneAfter, stopLines, tripLines, linesOf, textOf}
 use Rattle.accepted.specs.LineReadBack.{stationRead, stopRead, station-shape, station-above, station-short}
 use Rattle.accepted.specs.LineReadBack.{Writable, stop-shape, stop-above, stop-short}
 
@@ -50,14 +51,14 @@ written-append a b r q m n all x y h =
       short = simp (lined-append a b, length-append) (omega arith);
     }
 
--- ---- the lines of a valid timetable
+-- ---- the lines of a valid timetable, as reading sees them
 unfoldable pub stationsRead : ℕ → List Station → List Line
 stationsRead n [] = []
 stationsRead n (s ∷ l) = stationRead n s ∷ stationsRead (n + 1) l
 
 unfoldable pub stopsRead : (trip k : ℕ) → List Stop → List Line
 stopsRead trip k [] = []
-stopsRead trip k (s ∷ l) = stopRead trip k s (none l) ∷ stopsRead trip (k + 1) l
+stopsRead trip k (s ∷ l) = stopRead trip k s (noneAfter l) ∷ stopsRead trip (k + 1) l
 
 unfoldable pub tripsRead : ℕ → List Trip → List Line
 tripsRead n [] = []
@@ -76,13 +77,13 @@ stations-written n (s ∷ l) v h =
     (station-above n s (omega arith) here) (station-short n s (omega arith) here)
     (stations-written (n + 1) l (and-right (validStation s) (validStations l) v) (omega arith)) (omega arith)
 
-stop-written : (trip k : ℕ) (s : Stop) (l : List Stop) → Writable trip k s (none l)
+stop-written : (trip k : ℕ) (s : Stop) (l : List Stop) → Writable trip k s (noneAfter l)
     → Written (stopLines trip (k + 1) l) (stopsRead trip (k + 1) l) (28 * length l)
     → Written (stopLines trip k (s ∷ l)) (stopsRead trip k (s ∷ l)) (28 * suc (length l))
 unfolding stopLines stopsRead
 stop-written trip k s l w rest =
-    written-more _ _ _ _ 28 (28 * length l) (28 * suc (length l)) (stop-shape trip k s (none l) w)
-    (stop-above trip k s (none l) w) (stop-short trip k s (none l) w) rest (omega arith)
+    written-more _ _ _ _ 28 (28 * length l) (28 * suc (length l)) (stop-shape trip k s (noneAfter l) w)
+    (stop-above trip k s (noneAfter l) w) (stop-short trip k s (noneAfter l) w) rest (omega arith)
 
 no-stops : (trip k : ℕ) → Written (stopLines trip k []) (stopsRead trip k []) 0
 unfolding stopLines stopsRead
@@ -164,6 +165,11 @@ lines-written t v =
     (stations-written 1 (t .stations) (w .each-station) (omega arith))
     (trips-written (length (t .stations)) 1 (t .trips) (w .stations) (w .each-trip) (omega arith) (w .stops))
     (omega arith)
+
+-- they are its pieces, and behind the last byte 10 stands nothing
+pub text-pieces : (t : Timetable) → valid t ≡ true → pieces 10 (textOf t) ≡ linesOf t ++ ([] ∷ [])
+unfolding textOf
+text-pieces t v = pieces-lined (linesOf t) (lines-written t v .plain)
 
 -- "65,536 bytes": no timetable's text is too long
 pub text-short : (t : Timetable) → valid t ≡ true → length (textOf t) ≤ textMost

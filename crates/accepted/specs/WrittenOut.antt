@@ -9,6 +9,7 @@ use Rattle.timetable.specs.Timetable.{Station, Stop, Trip, Timetable}
 use Rattle.accepted.specs.Marks.{lined, fielded}
 use Rattle.accepted.specs.Digits.{digits}
 
+-- S is byte 83, T byte 84, the comma byte 44
 abbrev pub stationFields : ℕ → Station → List (List ℕ)
 stationFields n s = digits n ∷ digits (s .minutes) ∷ digits (s .points) ∷ []
 
@@ -39,14 +40,14 @@ stationLines n [] = []
 stationLines n (s ∷ l) = stationLine n s ∷ stationLines (n + 1) l
 
 -- no stop comes after
-abbrev pub none : List Stop → Bool
-none [] = true
-none (s ∷ l) = false
+abbrev pub noneAfter : List Stop → Bool
+noneAfter [] = true
+noneAfter (s ∷ l) = false
 
 -- the lines of a trip's stops, the first of which has number k
 unfoldable pub stopLines : (trip k : ℕ) → List Stop → List (List ℕ)
 stopLines trip k [] = []
-stopLines trip k (s ∷ l) = stopLine trip k s (none l) ∷ stopLines trip (k + 1) l
+stopLines trip k (s ∷ l) = stopLine trip k s (noneAfter l) ∷ stopLines trip (k + 1) l
 
 -- the lines of trips, the first of which has number n
 unfoldable pub tripLines : ℕ → List Trip → List (List ℕ)
@@ -56,5 +57,6 @@ tripLines n (t ∷ l) = stopLines n 1 t ++ tripLines (n + 1) l
 unfoldable pub linesOf : Timetable → List (List ℕ)
 linesOf t = stationLines 1 (t .stations) ++ tripLines 1 (t .trips)
 
+-- "Each line ends with byte 10"
 unfoldable pub textOf : Timetable → List ℕ
 textOf t = lined (linesOf t)
