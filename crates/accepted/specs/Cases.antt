@@ -1,0 +1,132 @@
+-- Case k and timetable M of document 01, and its "run only" cases of reading, by computation.
+use mathlib.Core.Path.{_≡_, refl}
+use mathlib.Core.List.{List, [], _∷_, _++_}
+use Prim.Native.Nat.{ℕ, zero, suc, _+_}
+use Prim.Native.Char.{code}
+use Prim.Native.String.{String, len, charAt}
+use lib.ListN.{replicate}
+use Rattle.text.specs.Number.{digitValue, decimal, fieldValue, fieldValues}
+use Rattle.text.specs.Piece.{pieces}
+use Rattle.text.specs.Range.{inRange}
+use Rattle.text.specs.Shape.{stationOf, stationShape, arriveFits, departFits, filled, stopOf, stopShape, shapeOf}
+use Rattle.timetable.specs.Timetable.{Station, Stop, Timetable}
+use Rattle.timetable.specs.Words.{stationWords, stopWords, startWords, words}
+use Rattle.reading.specs.Draft.{stationNumber, stopFits, stopNumber}
+use Rattle.reading.specs.Reading.{Outcome, Accepted, Refused, ended, readFrom, readLines, reading}
+use Rattle.accepted.specs.Marks.{lined, fielded}
+use Rattle.accepted.specs.Digits.{digits}
+use Rattle.accepted.specs.WrittenOut.{stationLine, stationLines, stopLine, stopLines, tripLines, linesOf, textOf}
+
+-- ---- a text's bytes, and what reading makes of them
+bytesFrom : String → (i n : ℕ) → List ℕ
+bytesFrom s i zero = []
+bytesFrom s i (suc n) = code (charAt s i) ∷ bytesFrom s (i + 1) n
+
+unfoldable pub bytes : String → List ℕ
+unfolding bytesFrom
+bytes s = bytesFrom s 0 (len s)
+
+-- reading, with all that it computes with
+readAll : List ℕ → Outcome
+unfolding
+    reading
+    readLines
+    readFrom
+    ended
+    pieces
+    shapeOf
+    stationShape
+    stationOf
+    stopShape
+    stopOf
+    arriveFits
+    departFits
+    filled
+    fieldValues
+    fieldValue
+    decimal
+    digitValue
+    stationNumber
+    stopNumber
+    stopFits
+    inRange
+readAll text = reading text
+
+-- ---- case k
+pub case-k : reading [] ≡ Refused 7 1
+unfolding readAll
+case-k = refl
+
+-- ---- timetable M
+unfoldable pub textM : List ℕ
+textM =
+    bytes "S,1,2,10\nS,2,3,10\nS,3,5,10\n"
+    ++ bytes "T,1,1,1,,480,0\nT,1,2,2,500,501,0\nT,1,3,3,560,,\n"
+    ++ bytes "T,2,1,2,,503,0\nT,2,2,3,520,,\n"
+    ++ bytes "T,3,1,2,,502,0\nT,3,2,3,515,,\n"
+
+abbrev station : (minutes points : ℕ) → Station
+station minutes points = record { minutes = minutes; points = points }
+
+abbrev stop : (station arrive depart points : ℕ) → Stop
+stop station arrive depart points =
+    record { station = station; arrive = arrive; depart = depart; points = points }
+
+unfoldable pub M : Timetable
+M =
+    record {
+      stations = station 2 10 ∷ station 3 10 ∷ station 5 10 ∷ [];
+      trips =
+          (stop 1 0 480 0 ∷ stop 2 500 501 0 ∷ stop 3 560 0 0 ∷ [])
+          ∷ (stop 2 0 503 0 ∷ stop 3 520 0 0 ∷ [])
+          ∷ (stop 2 0 502 0 ∷ stop 3 515 0 0 ∷ [])
+          ∷ [];
+    }
+
+pub M-accepted : reading textM ≡ Accepted M 10
+unfolding readAll bytes textM M
+M-accepted = refl
+
+-- the text of M is the one that is written out from it
+pub M-written : textOf M ≡ textM
+unfolding textOf linesOf stationLines tripLines stopLines stationLine stopLine digits lined fielded bytes textM M
+M-written = refl
+
+-- three stations, three trips, seven stops; stations; the stops of each trip; where the trips begin, and the end
+pub M-words : words M
+    ≡ (3 ∷ 3 ∷ 7 ∷ [])
+    ++ (2 ∷ 10 ∷ 3 ∷ 10 ∷ 5 ∷ 10 ∷ [])
+    ++ (1 ∷ 0 ∷ 480 ∷ 0 ∷ 2 ∷ 500 ∷ 501 ∷ 0 ∷ 3 ∷ 560 ∷ 0 ∷ 0 ∷ [])
+    ++ (2 ∷ 0 ∷ 503 ∷ 0 ∷ 3 ∷ 520 ∷ 0 ∷ 0 ∷ [])
+    ++ (2 ∷ 0 ∷ 502 ∷ 0 ∷ 3 ∷ 515 ∷ 0 ∷ 0 ∷ [])
+    ++ (0 ∷ 3 ∷ 5 ∷ 7 ∷ [])
+unfolding words stationWords stopWords startWords M
+M-words = refl
+
+-- ---- "Run only": time 2,879 passes, 2,880 gives 3
+pub last-minute-passes : reading (bytes "S,1,2,10\nS,2,3,10\nT,1,1,1,,480,0\nT,1,2,2,2879,,\n")
+    ≡ Accepted (record {
+      stations = station 2 10 ∷ station 3 10 ∷ [];
+      trips = (stop 1 0 480 0 ∷ stop 2 2879 0 0 ∷ []) ∷ [];
+    }) 4
+unfolding readAll bytes
+last-minute-passes = refl
+
+pub minute-past-range : reading (bytes "S,1,2,10\nS,2,3,10\nT,1,1,1,,480,0\nT,1,2,2,2880,,\n") ≡ Refused 3 4
+unfolding readAll bytes
+minute-past-range = refl
+
+-- "change penalty 0 gives 3"
+pub penalty-below-range : reading (bytes "S,1,2,0\n") ≡ Refused 3 1
+unfolding readAll bytes
+penalty-below-range = refl
+
+-- "arrival equal to the previous departure gives 6"
+pub arrival-not-after : reading (bytes "S,1,2,10\nS,2,3,10\nT,1,1,1,,480,0\nT,1,2,2,480,,\n") ≡ Refused 6 4
+unfolding readAll bytes
+arrival-not-after = refl
+
+-- "a 65th station gives 5"
+pub station-past-count : reading (lined (stationLines 1 (replicate 65 (station 2 10)))) ≡ Refused 5 65
+unfolding readAll lined fielded stationLines stationLine digits
+station-past-count = refl

@@ -1,0 +1,153 @@
+-- When a line has a yes to each question put to it: the facts that the questions ask for, in both directions.
+use mathlib.Core.Path.{_≡_, refl}
+use mathlib.Core.Bool.{Bool, true, false, not, cond, _&&_, _||_}
+use mathlib.Core.List.{List, _∷_}
+use Prim.Native.Nat.{ℕ, suc, _+_, _≤_, _<_}
+use lib.Dec.{leb, ltb, eqb, leb·zero}
+use native.Mathlib.Omega.{arith}
+use borrow.Author.Tests.{not-true, leb-true, ltb-true, eqb-true, le-leb, lt-ltb, eq-eqb, ne-eqb}
+use Rattle.text.specs.Range.{inRange}
+use Rattle.text.specs.Shape.{shapeOf}
+use Rattle.text.specs.declared.StationLine.{StationLine}
+use Rattle.text.specs.declared.StopLine.{StopLine}
+use Rattle.timetable.specs.Timetable.{lastMinute, stationsMost, tripsMost, stopsMost}
+use Rattle.reading.specs.Draft.{Draft, progress, stationNumber, stopFits, stopNumber, lineNumber, withLine}
+use Rattle.reading.specs.Reading.{Refused, readFrom}
+use Rattle.reading.specs.declared.Progress.{Progress}
+use Rattle.accepted.specs.Lists.{or-right, or-other, and-left, and-right}
+
+-- "In range? 3. In place: .. ? 4. Within the three counts? 5"
+pub record StationPasses (p : Progress) (l : StationLine) : Type 0 where
+  pub minutes : l .minutes ≤ 240
+  pub least : 1 ≤ l .points
+  pub points : l .points ≤ 1000
+  pub first : p .stops ≡ 0
+  pub number : l .number ≡ p .stations + 1
+  pub count : p .stations < stationsMost
+
+-- .. and "For stops: ..? 6"
+pub record StopPasses (p : Progress) (l : StopLine) : Type 0 where
+  pub arrive : l .arrive ≤ lastMinute
+  pub depart : l .depart ≤ lastMinute
+  pub points : l .points ≤ 100
+  pub trip : l .trip ≡ p .trips + 1
+  pub stop : l .stop ≡ p .begun + 1
+  pub trips : p .trips < tripsMost
+  pub stops : p .stops < stopsMost
+  pub fits : stopFits p l ≡ true
+
+-- ---- no question has a no: this one has its yes, and so do those after it. Its number is `suc before`.
+this-yes : (before : ℕ) (answer : Bool) (rest : ℕ) → cond answer rest (suc before) ≡ 0 → answer ≡ true
+this-yes before true rest e = refl
+this-yes before false rest e = absurd (omega arith)
+
+later-yes : (before : ℕ) (answer : Bool) (rest : ℕ) → cond answer rest (suc before) ≡ 0 → rest ≡ 0
+later-yes before true rest e = e
+later-yes before false rest e = absurd (omega arith)
+
+-- ---- a station line
+module _ (p : Progress) (l : StationLine) where
+  pub station-passes : StationPasses p l → stationNumber p l ≡ 0
+  unfolding stationNumber inRange
+  station-passes h =
+      simp (
+        leb·zero,
+        le-leb (l .minutes) 240 (h .minutes),
+        le-leb 1 (l .points) (h .least),
+        le-leb (l .points) 1000 (h .points),
+        eq-eqb (p .stops) 0 (h .first),
+        eq-eqb (l .number) (p .stations + 1) (h .number),
+        lt-ltb (p .stations) stationsMost (h .count),
+      )
+
+  pub station-passed : stationNumber p l ≡ 0 → StationPasses p l
+  unfolding stationNumber inRange
+  station-passed e =
+      search (this-yes 2, later-yes 2, this-yes 3, later-yes 3, this-yes 4, and-left, and-right, leb-true, eqb-true)
+
+-- ---- a stop line
+module _ (p : Progress) (l : StopLine) where
+  pub stop-passes : StopPasses p l → stopNumber p l ≡ 0
+  unfolding stopNumber inRange
+  stop-passes h =
+      simp (
+        leb·zero,
+        le-leb (l .arrive) lastMinute (h .arrive),
+        le-leb (l .depart) lastMinute (h .depart),
+        le-leb (l .points) 100 (h .points),
+        eq-eqb (l .trip) (p .trips + 1) (h .trip),
+        eq-eqb (l .stop) (p .begun + 1) (h .stop),
+        lt-ltb (p .trips) tripsMost (h .trips),
+        lt-ltb (p .stops) stopsMost (h .stops),
+        h .fits,
+      )
+
+  pub stop-passed : stopNumber p l ≡ 0 → StopPasses p l
+  unfolding stopNumber inRange
+  stop-passed e =
+      search (
+        this-yes 2,
+        later-yes 2,
+        this-yes 3,
+        later-yes 3,
+        this-yes 4,
+        later-yes 4,
+        this-yes 5,
+        and-left,
+        and-right,
+        leb-true,
+        eqb-true,
+      )
+
+-- ---- "For stops: station listed, unlike the stop before, arrival after the previous departure, departure not before
+-- arrival?"
+-- a stop after another of its trip
+comesAfter : Progress → StopLine → Bool
+comesAfter p l =
+    not (eqb (l .station) (p .station))
+    && ltb (p .depart) (l .arrive)
+    && (l .last || leb (l .arrive) (l .depart))
+
+pub record After (p : Progress) (l : StopLine) : Type 0 where
+  pub unlike : eqb (l .station) (p .station) ≡ false
+  pub later : p .depart < l .arrive
+  pub waits : (l .last || leb (l .arrive) (l .depart)) ≡ true
+
+module _ (p : Progress) (l : StopLine) where
+  pub first-fits : p .begun ≡ 0 → 1 ≤ l .station → l .station ≤ p .stations → stopFits p l ≡ true
+  unfolding stopFits
+  first-fits z h g = simp (le-leb 1 (l .station) h, le-leb (l .station) (p .stations) g, eq-eqb (p .begun) 0 z)
+
+  pub later-fits : 1 ≤ l .station → l .station ≤ p .stations → After p l → stopFits p l ≡ true
+  unfolding stopFits comesAfter
+  later-fits h g a =
+      let after : comesAfter p l ≡ true =
+      simp (a .unlike, lt-ltb (p .depart) (l .arrive) (a .later), a .waits) in
+      simp (le-leb 1 (l .station) h, le-leb (l .station) (p .stations) g)
+      (or-right (eqb (p .begun) 0) (comesAfter p l) after)
+
+  pub fits-least : stopFits p l ≡ true → 1 ≤ l .station
+  unfolding stopFits
+  fits-least e = search (and-left, and-right, leb-true)
+
+  pub fits-most : stopFits p l ≡ true → l .station ≤ p .stations
+  unfolding stopFits
+  fits-most e = search (and-left, and-right, leb-true)
+
+  pub fits-after : stopFits p l ≡ true → 0 < p .begun → After p l
+  unfolding stopFits comesAfter
+  fits-after e h =
+      let after : comesAfter p l ≡ true =
+      or-other (eqb (p .begun) 0) (comesAfter p l) (search (and-right)) (ne-eqb (p .begun) 0 (omega arith)) in
+      record {
+        unlike = not-true _ (search (and-left, and-right));
+        later = search (and-left, and-right, ltb-true);
+        waits = search (and-left, and-right);
+      }
+
+-- ---- reading goes on behind such a line
+pub read-more : (d : Draft) (k : ℕ) (s u : List ℕ) (l : List (List ℕ)) → readFrom d k (s ∷ u ∷ l)
+    ≡ cond (eqb (lineNumber (progress d) (shapeOf s)) 0) (readFrom (withLine d (shapeOf s)) (k + 1) (u ∷ l))
+    (Refused (lineNumber (progress d) (shapeOf s)) k)
+unfolding readFrom
+read-more d k s u l = refl

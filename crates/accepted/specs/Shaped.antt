@@ -1,0 +1,96 @@
+-- What a line's shape says of its empty fields: "Arrive is empty exactly at stop 1. Depart and ride penalty are empty
+-- together, only at a trip's last stop and never at stop 1." An empty field is 0.
+use mathlib.Core.Path.{_≡_, refl}
+use mathlib.Core.Bool.{Bool, true, false, not, cond, _&&_}
+use mathlib.Core.List.{List}
+use Prim.Native.Nat.{ℕ}
+use lib.Dec.{eqb}
+use borrow.Author.Tests.{eq-eqb, eqb-false, not-true}
+use Rattle.text.specs.Number.{emptyField}
+use Rattle.text.specs.Shape.{stationOf, stationShape, arriveFits, departFits, filled, stopOf, stopShape, shapeOf}
+use Rattle.text.specs.declared.Line.{Line}
+use Rattle.text.specs.declared.Line.the-variants.{Station as StationIn, Stop as StopIn, Shapeless}
+use Rattle.text.specs.declared.StationLine.{StationLine}
+use Rattle.text.specs.declared.StopLine.{StopLine}
+use Rattle.accepted.specs.Lists.{and-left, and-right}
+
+-- a stop line
+pub record ShapedStop (l : StopLine) : Type 0 where
+  pub first : l .stop ≡ 1 → l .arrive ≡ 0
+  pub inner : l .last ≡ true → l .stop ≡ 1 → ⊥
+  pub depart : l .last ≡ true → l .depart ≡ 0
+  pub points : l .last ≡ true → l .points ≡ 0
+
+-- any line; only a stop line has fields that may be empty
+unfoldable pub Shaped : Line → Type 0
+Shaped (StationIn l) = Unit {0}
+Shaped (StopIn l) = ShapedStop l
+Shaped Shapeless = Unit {0}
+
+-- ---- the empty fields of a stop line
+filled-empty : (v : ℕ) → eqb v emptyField ≡ true → filled v ≡ 0
+unfolding filled
+filled-empty v e = rw e
+
+arrive-empty : (stop arrive : ℕ) → arriveFits stop arrive ≡ true → stop ≡ 1 → filled arrive ≡ 0
+unfolding arriveFits
+arrive-empty stop arrive e h = filled-empty arrive (rw (eq-eqb stop 1 h) at e)
+
+module _ (stop depart points : ℕ) (e : departFits stop depart points ≡ true) (h : eqb depart emptyField ≡ true) where
+  depart-empty : (not (eqb stop 1) && eqb points emptyField) ≡ true
+  unfolding departFits
+  depart-empty = rw h at e
+
+  depart-inner : stop ≡ 1 → ⊥
+  depart-inner = let w = depart-empty in eqb-false stop 1 (not-true _ (search (and-left)))
+
+  points-empty : filled points ≡ 0
+  points-empty = let w = depart-empty in filled-empty points (search (and-right))
+
+fields-shaped : (trip stop station arrive depart points : ℕ) (other : Bool)
+    → (other && arriveFits stop arrive && departFits stop depart points) ≡ true
+    → ShapedStop (record {
+      trip = trip;
+      stop = stop;
+      station = station;
+      arrive = filled arrive;
+      depart = filled depart;
+      points = filled points;
+      last = eqb depart emptyField;
+    })
+fields-shaped trip stop station arrive depart points other e =
+    record {
+      first = arrive-empty stop arrive (search (and-left, and-right));
+      inner = λ h. depart-inner stop depart points (search (and-left, and-right)) h;
+      depart = λ h. filled-empty depart h;
+      points = λ h. points-empty stop depart points (search (and-left, and-right)) h;
+    }
+
+-- ---- all lines
+a-station : (l : StationLine) → Shaped (StationIn l)
+unfolding Shaped
+a-station l = tt
+
+a-stop : (l : StopLine) → ShapedStop l → Shaped (StopIn l)
+unfolding Shaped
+a-stop l h = h
+
+shapeless : Shaped Shapeless
+unfolding Shaped
+shapeless = tt
+
+either-shaped : (b : Bool) (x y : Line) → (b ≡ true → Shaped x) → Shaped y → Shaped (cond b x y)
+either-shaped true x y f g = f refl
+either-shaped false x y f g = g
+
+station-shaped : (number minutes points : ℕ) → Shaped (stationOf number minutes points)
+unfolding stationOf
+station-shaped number minutes points = search (either-shaped, a-station, shapeless)
+
+stop-shaped : (trip stop station arrive depart points : ℕ) → Shaped (stopOf trip stop station arrive depart points)
+unfolding stopOf
+stop-shaped trip stop station arrive depart points = search (either-shaped, a-stop, shapeless, fields-shaped)
+
+pub shaped : (s : List ℕ) → Shaped (shapeOf s)
+unfolding shapeOf stationShape stopShape
+shaped s = search (either-shaped, shapeless, station-shaped, stop-shaped)

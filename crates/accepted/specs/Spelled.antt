@@ -1,0 +1,201 @@
+-- A timetable's words, whatever stands behind them, spell this timetable: what the words hold is read off from the
+-- index where it stands, station by station, stop by stop and trip by trip.
+use mathlib.Core.Path.{_≡_, refl, ap, _∙_}
+use mathlib.Core.Bool.{true}
+use mathlib.Core.List.{List, [], _∷_, _++_, map, append-assoc}
+use Prim.Native.Nat.{ℕ, suc, _+_, _-_, _*_}
+use lib.Dec.{eqb}
+use lib.ListN.{length, drop, length-append}
+use native.Mathlib.Nat.{zero-add, add-assoc}
+use native.Mathlib.Numerals.{add-one}
+use native.Mathlib.Omega.{arith}
+use borrow.Author.Tests.{le-leb, eq-eqb}
+use Rattle.timetable.specs.Timetable.{Station, Stop, Trip, Timetable, stopsOf}
+use Rattle.timetable.specs.Words.{stationWords, stopWords, startWords, words, numbersFrom, stopCount, stationAt}
+use Rattle.timetable.specs.Words.{stopPlace, stopAt, startAt, tripAt, timetableOf, rise, chained}
+use Rattle.accepted.specs.Lists.{both, head-at, past-at}
+
+-- ---- how many words
+pub length-stationWords : (l : List Station) → length (stationWords l) ≡ 2 * length l
+unfolding stationWords
+length-stationWords [] = refl
+length-stationWords (s ∷ l) = omega (arith, length-stationWords l)
+
+pub length-stopWords : (l : List Stop) → length (stopWords l) ≡ 4 * length l
+unfolding stopWords
+length-stopWords [] = refl
+length-stopWords (s ∷ l) = omega (arith, length-stopWords l)
+
+pub length-startWords : (k : ℕ) (l : List Trip) → length (startWords k l) ≡ length l + 1
+unfolding startWords
+length-startWords k [] = refl
+length-startWords k (t ∷ l) = omega (arith, length-startWords (k + length t) l)
+
+pub stopWords-append : (a b : List Stop) → stopWords (a ++ b) ≡ stopWords a ++ stopWords b
+unfolding stopWords
+stopWords-append [] b = refl
+stopWords-append (s ∷ a) b = ap (λ r. s .station ∷ s .arrive ∷ s .depart ∷ s .points ∷ r) (stopWords-append a b)
+
+-- where the trips end
+laterStarts : ℕ → List Trip → List ℕ
+laterStarts k [] = []
+laterStarts k (t ∷ l) = (k + length t) ∷ laterStarts (k + length t) l
+
+starts-later : (k : ℕ) (l : List Trip) → startWords k l ≡ k ∷ laterStarts k l
+unfolding startWords laterStarts
+starts-later k [] = refl
+starts-later k (t ∷ l) = ap (λ r. k ∷ r) (starts-later (k + length t) l)
+
+-- ---- read off
+module _ (w : List ℕ) where
+  stations-at : (k : ℕ) (l : List Station) (more : List ℕ) → drop (3 + 2 * k) w ≡ stationWords l ++ more
+      → map (stationAt w) (numbersFrom k (length l)) ≡ l
+  unfolding stationWords stationAt
+  stations-at k [] more e = refl
+  stations-at k (s ∷ l) more e =
+      let next = past-at w (3 + 2 * k) 1 (s .minutes ∷ []) (s .points ∷ stationWords l ++ more) refl e in
+      let last = past-at w (3 + 2 * k) 2 (s .minutes ∷ s .points ∷ []) (stationWords l ++ more) refl e in
+      let place : 3 + 2 * suc k ≡ 3 + 2 * k + 2 = omega arith in
+      λ i. record {
+        minutes = head-at w (3 + 2 * k) (s .minutes) (s .points ∷ stationWords l ++ more) e i;
+        points = head-at w (3 + 2 * k + 1) (s .points) (stationWords l ++ more) next i;
+      } ∷ stations-at (suc k) l more (ap (λ n. drop n w) place ∙ last) i
+
+  stops-at : (k : ℕ) (l : List Stop) (more : List ℕ) → drop (stopPlace w k) w ≡ stopWords l ++ more
+      → map (stopAt w) (numbersFrom k (length l)) ≡ l
+  unfolding stopWords stopAt
+  stops-at k [] more e = refl
+  stops-at k (s ∷ l) more e =
+      let at = stopPlace w k in
+      let rest = stopWords l ++ more in
+      let one = past-at w at 1 (s .station ∷ []) (s .arrive ∷ s .depart ∷ s .points ∷ rest) refl e in
+      let two = past-at w at 2 (s .station ∷ s .arrive ∷ []) (s .depart ∷ s .points ∷ rest) refl e in
+      let three = past-at w at 3 (s .station ∷ s .arrive ∷ s .depart ∷ []) (s .points ∷ rest) refl e in
+      let four = past-at w at 4 (s .station ∷ s .arrive ∷ s .depart ∷ s .points ∷ []) rest refl e in
+      let place : stopPlace w (suc k) ≡ at + 4 = omega arith in
+      λ i. record {
+        station = head-at w at (s .station) (s .arrive ∷ s .depart ∷ s .points ∷ rest) e i;
+        arrive = head-at w (at + 1) (s .arrive) (s .depart ∷ s .points ∷ rest) one i;
+        depart = head-at w (at + 2) (s .depart) (s .points ∷ rest) two i;
+        points = head-at w (at + 3) (s .points) rest three i;
+      } ∷ stops-at (suc k) l more (ap (λ n. drop n w) place ∙ four) i
+
+  -- where the starts stand
+  abbrev startsPlace : ℕ
+  startsPlace = stopPlace w (stopCount w)
+
+  start-at : (j k : ℕ) (l : List ℕ) → drop (startsPlace + j) w ≡ k ∷ l → startAt w j ≡ k
+  unfolding startAt
+  start-at j k l e = head-at w (startsPlace + j) k l e
+
+  starts-at : (j : ℕ) (l more : List ℕ) → drop (startsPlace + j) w ≡ l ++ more
+      → map (startAt w) (numbersFrom j (length l)) ≡ l
+  starts-at j [] more e = refl
+  starts-at j (k ∷ l) more e =
+      let place : startsPlace + suc j ≡ startsPlace + j + 1 = omega arith in
+      let next = past-at w (startsPlace + j) 1 (k ∷ []) (l ++ more) refl e in
+      λ i. start-at j k (l ++ more) e i ∷ starts-at (suc j) l more (ap (λ n. drop n w) place ∙ next) i
+
+  stops-past : (k : ℕ) (t : Trip) (more : List ℕ) → drop (stopPlace w k) w ≡ stopWords t ++ more
+      → drop (stopPlace w (k + length t)) w ≡ more
+  stops-past k t more e =
+      let place : stopPlace w (k + length t) ≡ stopPlace w k + 4 * length t = omega arith in
+      ap (λ n. drop n w) place
+      ∙ past-at w (stopPlace w k) (4 * length t) (stopWords t) more (length-stopWords t) e
+
+  first-start : (j k : ℕ) (l : List Trip) (past : List ℕ) → drop (startsPlace + j) w ≡ startWords k l ++ past
+      → startAt w j ≡ k
+  first-start j k l past f = start-at j k (laterStarts k l ++ past) (f ∙ ap (λ r. r ++ past) (starts-later k l))
+
+  trip-at : (k j : ℕ) (t : Trip) (more : List ℕ) → startAt w j ≡ k → startAt w (j + 1) ≡ k + length t
+      → drop (stopPlace w k) w ≡ stopWords t ++ more → tripAt w j ≡ t
+  unfolding tripAt
+  trip-at k j t more here there e =
+      let count : k + length t - k ≡ length t = omega arith in
+      rw (here, there, count) (stops-at k t more e)
+
+  trips-at : (k j : ℕ) (l : List Trip) (more past : List ℕ) → drop (stopPlace w k) w ≡ stopWords (stopsOf l) ++ more
+      → drop (startsPlace + j) w ≡ startWords k l ++ past → map (tripAt w) (numbersFrom j (length l)) ≡ l
+  unfolding startWords
+  trips-at k j [] more past e f = refl
+  trips-at k j (t ∷ l) more past e f =
+      let rest : List ℕ = stopWords (stopsOf l) ++ more in
+      let apart : drop (stopPlace w k) w ≡ stopWords t ++ rest =
+      e
+      ∙ ap (λ r. r ++ more) (stopWords-append t (stopsOf l))
+      ∙ append-assoc (stopWords t) (stopWords (stopsOf l)) more in
+      let next : drop (startsPlace + (j + 1)) w ≡ startWords (k + length t) l ++ past =
+      rw (← add-assoc) (past-at w (startsPlace + j) 1 (k ∷ []) (startWords (k + length t) l ++ past) refl f) in
+      let this = trip-at k j t rest (start-at j k _ f) (first-start (j + 1) (k + length t) l past next) apart in
+      λ i. this i
+      ∷ trips-at (k + length t) (suc j) l more past (stops-past k t rest apart) (rw (← add-one j) next) i
+
+-- ---- the whole
+module _ (t : Timetable) (rest : List ℕ) where
+  -- the stations' words stand behind the three counts, the stops' words behind those, and then the starts
+  from-stations : drop 3 (words t ++ rest)
+      ≡ stationWords (t .stations) ++ (stopWords (stopsOf (t .trips)) ++ (startWords 0 (t .trips) ++ rest))
+  unfolding words
+  from-stations = simp append-assoc
+
+  from-stops : drop (stopPlace (words t ++ rest) 0) (words t ++ rest)
+      ≡ stopWords (stopsOf (t .trips)) ++ (startWords 0 (t .trips) ++ rest)
+  unfolding words
+  from-stops =
+      let place : stopPlace (words t ++ rest) 0 ≡ 3 + 2 * length (t .stations) = omega arith in
+      ap (λ n. drop n (words t ++ rest)) place
+      ∙ past-at (words t ++ rest) 3 (2 * length (t .stations)) (stationWords (t .stations)) _
+      (length-stationWords (t .stations)) from-stations
+
+  from-starts : drop (startsPlace (words t ++ rest) + 0) (words t ++ rest) ≡ startWords 0 (t .trips) ++ rest
+  unfolding words
+  from-starts =
+      let place : startsPlace (words t ++ rest) + 0 ≡ stopPlace (words t ++ rest) (0 + length (stopsOf (t .trips))) =
+      omega arith in
+      ap (λ n. drop n (words t ++ rest)) place ∙ stops-past (words t ++ rest) 0 (stopsOf (t .trips)) _ from-stops
+
+  pub words-spell : timetableOf (words t ++ rest) ≡ t
+  unfolding timetableOf words
+  words-spell =
+      λ i. record {
+        stations = stations-at (words t ++ rest) 0 (t .stations) _ from-stations i;
+        trips = trips-at (words t ++ rest) 0 0 (t .trips) _ rest from-stops from-starts i;
+      }
+
+-- ---- the trips follow one another
+length-later : (k : ℕ) (l : List Trip) → length (laterStarts k l) ≡ length l
+unfolding laterStarts
+length-later k [] = refl
+length-later k (t ∷ l) = ap suc (length-later (k + length t) l)
+
+rises : (k : ℕ) (l : List Trip) → rise k (laterStarts k l) (k + length (stopsOf l)) ≡ true
+unfolding rise laterStarts
+rises k [] = eq-eqb k (k + 0) (omega arith)
+rises k (t ∷ l) =
+    let all : k + length (t ++ stopsOf l) ≡ k + length t + length (stopsOf l) =
+    omega (arith, length-append t (stopsOf l)) in
+    rw all (both _ _ (le-leb k (k + length t) (omega arith)) (rises (k + length t) l))
+
+module _ (t : Timetable) (rest : List ℕ) where
+  from-later : drop (startsPlace (words t ++ rest) + 1) (words t ++ rest) ≡ laterStarts 0 (t .trips) ++ rest
+  from-later =
+      let at = startsPlace (words t ++ rest) in
+      let place : at + 1 ≡ at + 0 + 1 = omega arith in
+      ap (λ n. drop n (words t ++ rest)) place
+      ∙ past-at (words t ++ rest) (at + 0) 1 (0 ∷ []) (laterStarts 0 (t .trips) ++ rest) refl
+      (from-starts t rest ∙ ap (λ r. r ++ rest) (starts-later 0 (t .trips)))
+
+  later-spelled : map (startAt (words t ++ rest)) (numbersFrom 1 (length (t .trips))) ≡ laterStarts 0 (t .trips)
+  later-spelled =
+      rw (← length-later 0 (t .trips)) (starts-at (words t ++ rest) 1 (laterStarts 0 (t .trips)) rest from-later)
+
+  later-rises :
+      rise 0 (map (startAt (words t ++ rest)) (numbersFrom 1 (length (t .trips)))) (length (stopsOf (t .trips))) ≡ true
+  later-rises = rw later-spelled (rw zero-add at (rises 0 (t .trips)))
+
+  pub words-chained : chained (words t ++ rest) ≡ true
+  unfolding chained words
+  words-chained =
+      both (eqb (startAt (words t ++ rest) 0) 0) _
+      (eq-eqb (startAt (words t ++ rest) 0) 0 (first-start (words t ++ rest) 0 0 (t .trips) rest (from-starts t rest)))
+      later-rises

@@ -1,0 +1,62 @@
+-- The text written out from a timetable: a line for each station, then a line for each stop, trip by trip.
+-- "Station: `S,station,change minutes,change penalty`", "Stop: `T,trip,stop,station,arrive,depart,ride penalty`".
+-- "Arrive is empty exactly at stop 1. Depart and ride penalty are empty together, only at a trip's last stop".
+use mathlib.Core.Bool.{Bool, true, false, cond}
+use mathlib.Core.List.{List, [], _∷_, _++_}
+use Prim.Native.Nat.{ℕ, _+_}
+use lib.Dec.{eqb}
+use Rattle.timetable.specs.Timetable.{Station, Stop, Trip, Timetable}
+use Rattle.accepted.specs.Marks.{lined, fielded}
+use Rattle.accepted.specs.Digits.{digits}
+
+-- S is byte 83, T byte 84, the comma byte 44
+abbrev pub stationFields : ℕ → Station → List (List ℕ)
+stationFields n s = digits n ∷ digits (s .minutes) ∷ digits (s .points) ∷ []
+
+unfoldable pub stationLine : ℕ → Station → List ℕ
+stationLine n s = 83 ∷ 44 ∷ fielded (stationFields n s)
+
+-- a field that may be empty
+abbrev pub emptyOr : Bool → ℕ → List ℕ
+emptyOr empty n = cond empty [] (digits n)
+
+abbrev pub stopFields : (trip k : ℕ) → Stop → (last : Bool) → List (List ℕ)
+stopFields trip k s last =
+    digits trip
+    ∷ digits k
+    ∷ digits (s .station)
+    ∷ emptyOr (eqb k 1) (s .arrive)
+    ∷ emptyOr last (s .depart)
+    ∷ emptyOr last (s .points)
+    ∷ []
+
+-- stop k of a trip
+unfoldable pub stopLine : (trip k : ℕ) → Stop → (last : Bool) → List ℕ
+stopLine trip k s last = 84 ∷ 44 ∷ fielded (stopFields trip k s last)
+
+-- the lines of stations, the first of which has number n
+unfoldable pub stationLines : ℕ → List Station → List (List ℕ)
+stationLines n [] = []
+stationLines n (s ∷ l) = stationLine n s ∷ stationLines (n + 1) l
+
+-- no stop comes after
+abbrev pub noneAfter : List Stop → Bool
+noneAfter [] = true
+noneAfter (s ∷ l) = false
+
+-- the lines of a trip's stops, the first of which has number k
+unfoldable pub stopLines : (trip k : ℕ) → List Stop → List (List ℕ)
+stopLines trip k [] = []
+stopLines trip k (s ∷ l) = stopLine trip k s (noneAfter l) ∷ stopLines trip (k + 1) l
+
+-- the lines of trips, the first of which has number n
+unfoldable pub tripLines : ℕ → List Trip → List (List ℕ)
+tripLines n [] = []
+tripLines n (t ∷ l) = stopLines n 1 t ++ tripLines (n + 1) l
+
+unfoldable pub linesOf : Timetable → List (List ℕ)
+linesOf t = stationLines 1 (t .stations) ++ tripLines 1 (t .trips)
+
+-- "Each line ends with byte 10"
+unfoldable pub textOf : Timetable → List ℕ
+textOf t = lined (linesOf t)
