@@ -191,3 +191,12 @@ module _ (w : List ℕ) (yes : isTimetable w ≡ true) where
       let one = trip-valid (length (t .stations)) (t .trips) k [] all (omega (arith, length-trips w)) in
       let two = two-stops (length (t .stations)) (getD (t .trips) k []) one in
       omega (arith, two, ap length (trip-is w k [] h), trip-long w k)
+
+  pub stations-few : stationCount w ≤ 64
+  stations-few = counts .stations
+
+  pub stops-few : stopCount w ≤ 2048
+  stops-few = counts .stops
+
+  pub trips-few : tripCount w ≤ 256
+  trips-few = counts .trips

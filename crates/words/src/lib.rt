@@ -37,6 +37,16 @@ pub fn put_two(dst: &mut [u16], at: usize, a: u32, b: u32)
     dst[at + 1] = b as u16;
 }
 
+// Writes two numbers as words of 32 bits, from index at on.
+pub fn put_pair(dst: &mut [u32], at: usize, a: u32, b: u32)
+    requires { ⌜ at + 2 ≤ length (now dst) ⌝ }
+    ensures { λ _. ⌜ now (dst .exit) ≡ put at (a ∷ b ∷ []) (now (dst .entry)) ⌝ }
+    ensures { λ _. ⌜ length (now (dst .exit)) ≡ length (now (dst .entry)) ⌝ }
+{
+    dst[at] = a;
+    dst[at + 1] = b;
+}
+
 // Writes three numbers as words, from index at on.
 pub fn put_three(dst: &mut [u16], at: usize, a: u32, b: u32, c: u32)
     requires { ⌜ (at + 3 ≤ length (now dst)) × (a < 65536) × (b < 65536) × (c < 65536) ⌝ }

@@ -1,0 +1,91 @@
+-- What the code writes into line tables, by the words of the timetable. No reader of the promise needs this file;
+-- Tables says what line tables hold, and laws beside it show that these are the same words.
+use mathlib.Core.Path.{_≡_, refl, sym, ap, _∙_}
+use mathlib.Core.Bool.{Bool, true, false, cond}
+use mathlib.Core.List.{List, [], _∷_, _++_, map}
+use Prim.Native.Nat.{ℕ, zero, suc, _+_, _-_, _*_, _≤_, _<_}
+use lib.ListN.{length, getD, take, drop}
+use Rattle.lists.specs.Lists.{concatMap, range}
+use Rattle.timetable.specs.Timetable.{Stop}
+use Rattle.timetable.specs.Words.{tripCount, stopAt, startAt, timetableOf}
+use Rattle.lines.specs.Lines.{lines, headOf}
+use Rattle.lines.specs.Once.{onLines}
+use Rattle.grouping.specs.Grouped.{endsFrom}
+
+-- the stop at place p of trip z
+abbrev pub callAt : List ℕ → (z p : ℕ) → Stop
+callAt w z p = stopAt w (startAt w z + p)
+
+abbrev pub timeOf : Bool → Stop → ℕ
+timeOf departs s = cond departs (s .depart) (s .arrive)
+
+-- how many stops trip z has
+abbrev pub callsOf : List ℕ → ℕ → ℕ
+callsOf w z = startAt w (z + 1) - startAt w z
+
+-- arrivals, or departures, of the trips of a line at place p
+unfoldable pub rowAt : List ℕ → (departs : Bool) (p : ℕ) (line : List ℕ) → List ℕ
+rowAt w departs p line = map (λ z. timeOf departs (callAt w z p)) line
+
+-- both, for n places from k on
+unfoldable pub timesAt : List ℕ → (line : List ℕ) (k n : ℕ) → List ℕ
+timesAt w line k n = concatMap (λ p. rowAt w false p line ++ rowAt w true p line) (range k n)
+
+-- station and ride penalty of trip z, for n places from k on
+unfoldable pub courseAt : List ℕ → (z k n : ℕ) → List ℕ
+courseAt w z k n = concatMap (λ p. (callAt w z p) .station ∷ (callAt w z p) .points ∷ []) (range k n)
+
+unfoldable pub numbersAt : List ℕ → List ℕ
+numbersAt line = map suc line
+
+-- all words of one line
+unfoldable pub blockAt : List ℕ → (line : List ℕ) → List ℕ
+blockAt w line =
+    callsOf w (headOf line)
+    ∷ length line
+    ∷ (numbersAt line
+        ++ courseAt w (headOf line) 0 (callsOf w (headOf line))
+        ++ timesAt w line 0 (callsOf w (headOf line)))
+
+-- every trip of the line is a trip of the timetable and has a stop at place p
+pub record Calls (w line : List ℕ) (p : ℕ) : Type 0 where
+  pub trips : (j : ℕ) → j < length line → getD line j 0 < tripCount w
+  pub stops : (j : ℕ) → j < length line → startAt w (getD line j 0) + p < startAt w (getD line j 0 + 1)
+
+-- every trip of the line is a trip of the timetable and has n stops at least
+pub record Reaches (w line : List ℕ) (n : ℕ) : Type 0 where
+  pub trips : (j : ℕ) → j < length line → getD line j 0 < tripCount w
+  pub stops : (j : ℕ) → j < length line → startAt w (getD line j 0) + n ≤ startAt w (getD line j 0 + 1)
+
+-- a line: some trips of the timetable, each of which has as many stops as the first
+pub record LineOf (w line : List ℕ) : Type 0 where
+  pub some : 0 < length line
+  pub first : headOf line < tripCount w
+  pub reaches : Reaches w line (callsOf w (headOf line))
+
+-- count trips from begin on
+abbrev pub lineOf : List ℕ → (begin count : ℕ) → List ℕ
+lineOf numbers begin count = take count (drop begin numbers)
+
+-- the lines of the timetable that words spell
+unfoldable pub linesAt : List ℕ → List (List ℕ)
+linesAt w = lines ((timetableOf w) .trips)
+
+-- all blocks, and where each begins, the first at index k
+unfoldable pub blocksAt : List ℕ → List (List ℕ) → List ℕ
+blocksAt w ls = concatMap (blockAt w) ls
+
+unfoldable pub placesFrom : List ℕ → (k : ℕ) → List (List ℕ) → List ℕ
+placesFrom w k [] = []
+placesFrom w k (l ∷ ls) = k ∷ placesFrom w (k + length (blockAt w l)) ls
+
+-- two arrays hold the lines: their trips, line by line, and where each line ends
+pub record Holds (numbers ends : List ℕ) (ls : List (List ℕ)) : Type 0 where
+  pub is-numbers : take (length (onLines ls)) numbers ≡ onLines ls
+  pub is-ends : take (length ls) ends ≡ endsFrom 0 ls
+  pub numbers-inside : length (onLines ls) ≤ length numbers
+  pub ends-inside : length ls ≤ length ends
+
+-- each of them is a line of the timetable
+pub record AllLines (w : List ℕ) (ls : List (List ℕ)) : Type 0 where
+  pub at : (i : ℕ) → i < length ls → LineOf w (getD ls i [])
