@@ -4,3 +4,4 @@ pub mod CourseLaws
 pub mod BlockLaws
 pub mod HoldLaws
 pub mod BlocksLaws
+pub mod CallLaws

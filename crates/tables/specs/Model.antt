@@ -4,6 +4,7 @@ use mathlib.Core.Path.{_≡_, refl, sym, ap, _∙_}
 use mathlib.Core.Bool.{Bool, true, false, cond}
 use mathlib.Core.List.{List, [], _∷_, _++_, map}
 use Prim.Native.Nat.{ℕ, zero, suc, _+_, _-_, _*_, _≤_, _<_}
+use lib.Dec.{eqb}
 use lib.ListN.{length, getD, take, drop}
 use Rattle.lists.specs.Lists.{concatMap, range}
 use Rattle.timetable.specs.Timetable.{Stop}
@@ -89,3 +90,27 @@ pub record Holds (numbers ends : List ℕ) (ls : List (List ℕ)) : Type 0 where
 -- each of them is a line of the timetable
 pub record AllLines (w : List ℕ) (ls : List (List ℕ)) : Type 0 where
   pub at : (i : ℕ) → i < length ls → LineOf w (getD ls i [])
+
+-- ---- where lines call at a station: line and position, from 1
+abbrev pub callWords : (found station line position : ℕ) → List ℕ
+callWords found station line position = cond (eqb found station) (line ∷ position ∷ []) []
+
+-- of trip z, for n places from k on
+unfoldable pub lineCallsAt : List ℕ → (z line station k n : ℕ) → List ℕ
+lineCallsAt w z line station k n =
+    concatMap (λ p. callWords ((callAt w z p) .station) station line (p + 1)) (range k n)
+
+-- of the lines given, the first of which stands at place i
+unfoldable pub callsAt : List ℕ → (station i : ℕ) → List (List ℕ) → List ℕ
+callsAt w station i [] = []
+callsAt w station i (l ∷ ls) =
+    lineCallsAt w (headOf l) (i + 1) station 0 (callsOf w (headOf l)) ++ callsAt w station (i + 1) ls
+
+-- of n stations from s on, and where each station's begin, the first at index k
+unfoldable pub pairsAt : List ℕ → List (List ℕ) → (s n : ℕ) → List ℕ
+pairsAt w ls s zero = []
+pairsAt w ls s (suc n) = callsAt w s 0 ls ++ pairsAt w ls (s + 1) n
+
+unfoldable pub pairPlaces : List ℕ → List (List ℕ) → (k s n : ℕ) → List ℕ
+pairPlaces w ls k s zero = k ∷ []
+pairPlaces w ls k s (suc n) = k ∷ pairPlaces w ls (k + length (callsAt w s 0 ls)) (s + 1) n
