@@ -80,13 +80,21 @@ module _ (s : Stop) (l : Trip) where
   unfolding ridePoints
   points-next x y = refl
 
+-- A ride's points part at any stop on the way; so they are the difference of two totals from the trip's first stop.
+pub points-split : (l : Trip) (x w y : ℕ) → x ≤ w → w ≤ y → ridePoints l x y ≡ ridePoints l x w + ridePoints l w y
+unfolding ridePoints
+points-split [] x w y h g = refl
+points-split (s ∷ l) x zero y h g = let e : x ≡ 0 = omega arith in rw e (omega arith)
+points-split (s ∷ l) x (suc w) zero h g = absurd (omega arith)
+points-split (s ∷ l) zero (suc w) (suc y) h g = omega (arith, points-split l 0 w y (omega arith) (omega arith))
+points-split (s ∷ l) (suc x) (suc w) (suc y) h g = points-split l x w y (omega arith) (omega arith)
+
 -- one stop further
 pub points-more : (l : Trip) (x y : ℕ) → x ≤ y → y < length l
     → ridePoints l x (suc y) ≡ ridePoints l x y + (getD l y noStop) .points
+unfolding ridePoints
 points-more [] x y h g = absurd (omega arith)
-points-more (s ∷ l) zero zero h g = omega (arith, points-first s l 0, points-none l 0, points-none (s ∷ l) 0)
+points-more (s ∷ l) zero zero h g = omega (arith, points-none l 0)
 points-more (s ∷ l) (suc x) zero h g = absurd (omega arith)
-points-more (s ∷ l) zero (suc y) h g =
-    omega (arith, points-first s l (suc y), points-first s l y, points-more l 0 y (omega arith) (omega arith))
-points-more (s ∷ l) (suc x) (suc y) h g =
-    omega (arith, points-next s l x (suc y), points-next s l x y, points-more l x y (omega arith) (omega arith))
+points-more (s ∷ l) zero (suc y) h g = omega (arith, points-more l 0 y (omega arith) (omega arith))
+points-more (s ∷ l) (suc x) (suc y) h g = points-more l x y (omega arith) (omega arith)

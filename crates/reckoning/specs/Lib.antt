@@ -6,3 +6,6 @@ pub mod Aboard
 pub mod Stops
 pub mod Sets
 pub mod Reckoned
+pub mod Bounds
+pub mod FrontierValues
+pub mod StoredSets

@@ -149,11 +149,11 @@ module _ (n : Net) (ok : Sound n) where
   boards-departs a t r b =
       Memᴰ·map (λ r. r .depart) (filter-in (λ r. eqb (r .from) a) (b .listed) (eq→eqb (r .from) a (b .here)))
 
-  departs : (a t b : ℕ) (c : Connection) → Feasible n a t b c → departure c ∈ departures n a
+  pub departs : (a t b : ℕ) (c : Connection) → Feasible n a t b c → departure c ∈ departures n a
   departs a t b (direct r) f = boards-departs a t r (f .0)
   departs a t b (onward r w c) f = boards-departs a t r (f .0)
 
-  departures-in-time : (a t : ℕ) → t ∈ departures n a → t ∈ minutes
+  pub departures-in-time : (a t : ℕ) → t ∈ departures n a → t ∈ minutes
   unfolding departures
   departures-in-time a t m =
       let r = Memᴰ·of-map (λ r. r .depart) (filter (λ r. eqb (r .from) a) (n .rides)) m in
