@@ -174,7 +174,8 @@ use Rattle.connections.specs.Planner.{connections, plannerList, tieKey, rowsOf}
 use Rattle.connections.specs.Worked.{station, stop, planned}
 use Rattle.stores.specs.Stored.{optimals, optimalStations, stored}
 use Rattle.stores.specs.Words.{nodes, arcs, encode, storeWords, readable, wellMade, keptList, answer}
-use Rattle.lines.specs.Lines.{inOrder, lines, lineNumbers, calls, directs, directRows}
+use Rattle.lines.specs.Lines.{inOrder, lines, lineNumbers, calls}
+use Rattle.lines.specs.DirectRides.{directs, directRows}
 """
 
 OPENED = """validStation listed leaves ends follows runs validTrip validStations validTrips counted valid dominates equal result

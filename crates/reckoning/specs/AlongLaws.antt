@@ -6,11 +6,10 @@ use mathlib.Core.Logic.{_↔_}
 use mathlib.Core.List.{List, [], _∷_, reverseAux}
 use Prim.Native.Nat.{ℕ, _+_, _≤_}
 use native.Mathlib.Omega.{arith}
-use Rattle.lists.specs.Lists.{_∈_}
+use Rattle.lists.specs.Lists.{_∈_, tail}
 use Rattle.connections.specs.Rides.{Ride}
 use Rattle.connections.specs.Connections.{Change, Net, Connection, direct, onward, Boards, Changes, Feasible, ready}
 use Rattle.connections.specs.Connections.{arrival, penalty, stations}
-use Rattle.connections.specs.Planner.{tail}
 use Rattle.connections.specs.Feasibility.{earlier}
 use Rattle.reckoning.specs.Along.{Along, Ends, TightAlong}
 

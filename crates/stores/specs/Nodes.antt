@@ -7,11 +7,10 @@ use mathlib.Core.List.{Memᴰ·map, Memᴰ·of-map, Memᴰ·cast}
 use Prim.Native.Nat.{ℕ, _≤_, _<_}
 use native.Mathlib.Omega.{arith}
 use lib.ListN.{length}
-use Rattle.lists.specs.Lists.{_∈_, concatMap, sort, Rising}
+use Rattle.lists.specs.Lists.{_∈_, concatMap, sort, Rising, tail}
 use Rattle.lists.specs.Members.{cons-cases, append-cases, concatMap-in, concatMap-out, map-inside}
 use Rattle.lists.specs.Order.{before-cases, before-same}
 use Rattle.lists.specs.Sorting.{Inside, rising-unique, sort-in, sort-out, sort-rising, sort-same}
-use Rattle.connections.specs.Planner.{tail}
 use Rattle.stores.specs.Words.{beginnings, front, keyed, nodes}
 use Rattle.stores.specs.Sequences.{front-shorter, begin-nonempty, begin-front, begin-closed, begin-inside}
 
