@@ -10,7 +10,7 @@ use Rattle.lists.specs.Lists.{_∈_, filter}
 use Rattle.results.specs.Results.{Undominated, Answers}
 use Rattle.results.specs.Answered.{result-answers}
 use Rattle.results.specs.Kept.{result-kept, empty-kept}
-use Rattle.connections.specs.Connections.{Net, net, Connection, stations}
+use Rattle.connections.specs.Connections.{Feasible, Net, net, Connection, stations}
 use Rattle.connections.specs.Planner.{plannerList, measure, rowsOf}
 use Rattle.connections.specs.Sound.{Sound, sound}
 use Rattle.connections.specs.Listed.{listed, optimal-out}
@@ -25,6 +25,16 @@ use Rattle.demands.specs.Demands.{Query, DemandTwo, DemandThree}
 module _ (n : Net) (ok : Sound n) where
   kept-planned : (w : List ℕ) (a m b : ℕ) (c : Connection) → c ∈ keptList n w a m b → c ∈ plannerList n a m b
   kept-planned w a m b c i = listed n ok a m b c .1 (kept-exactly n ok w a m b c .0 i .feasible)
+
+  kept-pair : (w : List ℕ) (a m b : ℕ) (c : Connection)
+      → c ∈ keptList n w a m b ↔ (Feasible n a m b c × (stations c ∈ readable w))
+  kept-pair w a m b c = (out, into)
+    where
+      out : c ∈ keptList n w a m b → Feasible n a m b c × (stations c ∈ readable w)
+      out i = let k = kept-exactly n ok w a m b c .0 i in (k .feasible, k .held)
+
+      into : Feasible n a m b c × (stations c ∈ readable w) → c ∈ keptList n w a m b
+      into h = kept-exactly n ok w a m b c .1 (record { feasible = h .0; held = h .1 })
 
   answer-answers : (w : List ℕ) (a m b : ℕ) → Answers (measure m) (keptList n w a m b) (answer n w a m b)
   unfolding answer rowsOf
@@ -100,10 +110,7 @@ module _ (t : Timetable) (v : T (valid t)) where
         made = same-rows (net t) ok;
         made-answers = made-answers (net t) ok;
         made-none = same-none (net t) ok;
-        kept = λ w a m b c. (
-          λ i. (let k = kept-exactly (net t) ok w a m b c .0 i in (k .feasible, k .held)),
-          λ h. kept-exactly (net t) ok w a m b c .1 (record { feasible = h .0; held = h .1 }),
-        );
+        kept = kept-pair (net t) ok;
         struck-answers = answer-answers (net t) ok;
         well-made = λ a post h g. store-well-made (net t) ok a h g post;
       }

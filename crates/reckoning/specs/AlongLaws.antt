@@ -191,36 +191,35 @@ module _ (n : Net) (a t : ℕ) where
       (e : Connection) → Feasible n a t b e → stations e ≡ reverseAux rev (stations c) → arrival e ≡ arrival c
       → p + penalty c ≤ penalty e
 
+  uncut-least : (rev : List ℕ) (x u p b : ℕ) (c : Connection) → Feasible n x u b c → Uncut rev p b c
+      → (q : ℕ) → Along n a t rev x u q → p ≤ q
+  uncut-least rev x u p b c f h q z =
+      let j = join rev x u q b c z f in
+      omega (arith, h (j .whole) (j .feasible) (j .sequence) (j .arrives), j .pays)
+
   tight-along : (rev : List ℕ) (x u p b : ℕ) (c : Connection) → Along n a t rev x u p → Feasible n x u b c
       → Uncut rev p b c → TightAlong n a t rev p c
   tight-along rev x u p b (direct r) g f h =
       record {
         reached = boarded rev x u p r g (f .0);
-        least = λ q z. (
-            let j = join rev (r .from) (r .depart) q b (direct r) z (boards-at n r (f .0 .listed), f .1) in
-            omega (arith, h (j .whole) (j .feasible) (j .sequence) (j .arrives), j .pays));
+        least = uncut-least rev (r .from) (r .depart) p b (direct r) (boards-at n r (f .0 .listed), f .1) h;
       }
   tight-along rev x u p b (onward r w c) g f h = (
-    record {
-      reached = here;
-      least = λ q z. (
-          let j = join rev (r .from) (r .depart) q b (onward r w c) z (boards-at n r (f .0 .listed), f .1, f .2) in
-          omega (arith, h (j .whole) (j .feasible) (j .sequence) (j .arrives), j .pays));
-    },
-    tight-along
-        (w .from ∷ rev)
-        (w .to)
-        (ready r w)
-        (p + r .points + w .points)
-        b
-        c
-        (changed rev p (ready r w) r w here (f .0 .listed) (f .1) (omega arith))
-        (f .2)
-        (λ e i s k. omega (arith, h e i s k)),
+    record { reached = here; least = uncut-least rev (r .from) (r .depart) p b (onward r w c) on h },
+    tight-along (w .from ∷ rev) (w .to) (ready r w) (p + r .points + w .points) b c next (f .2) rest,
   )
     where
       here : Along n a t rev (r .from) (r .depart) p
       here = boarded rev x u p r g (f .0)
+
+      on : Feasible n (r .from) (r .depart) b (onward r w c)
+      on = (boards-at n r (f .0 .listed), f .1, f .2)
+
+      next : Along n a t (w .from ∷ rev) (w .to) (ready r w) (p + r .points + w .points)
+      next = changed rev p (ready r w) r w here (f .0 .listed) (f .1) (omega arith)
+
+      rest : Uncut (w .from ∷ rev) (p + r .points + w .points) b c
+      rest e i s k = omega (arith, h e i s k)
 
   -- so the candidates of a row are among the tight ones of each sequence that the store holds
   pub row-tight : (b : ℕ) (c : Connection) → Feasible n a t b c

@@ -53,26 +53,25 @@ module _ (n : Net) (a t : ℕ) (val : ℕ → ℕ → ℕ) (inf : ℕ) (l : Leas
       }
 
   module _ (b v p : ℕ) (small : p < inf) where
+    -- a value below inf is that of someone who arrives, and any other is above p
+    compare : (r : Ride) → r ∈ n .rides → r .to ≡ b → {G : Type 0}
+        → (Arrives n a t b (r .arrive) (val (r .from) (r .depart) + r .points) → G)
+        → (p < val (r .from) (r .depart) → G)
+        → G
+    compare r m e f g =
+        either
+        (ltb (val (r .from) (r .depart)) inf)
+        (λ s. f (arrives-with b r m e (ltb→lt (val (r .from) (r .depart)) inf s)))
+        (λ s. g (omega (arith, nltb→le (val (r .from) (r .depart)) inf s)))
+
     frontier-rides : Frontier n a t b v p → RideFrontier b v p
     frontier-rides f = record { least = least; first = first }
       where
         least : (r : Ride) → r ∈ n .rides → r .to ≡ b → r .arrive ≤ v → p ≤ val (r .from) (r .depart) + r .points
-        least r m e h =
-            either
-            (ltb (val (r .from) (r .depart)) inf)
-            (λ s.
-            let g = arrives-with b r m e (ltb→lt (val (r .from) (r .depart)) inf s) in
-            f .least (r .arrive) (val (r .from) (r .depart) + r .points) g h)
-            (λ s. omega (arith, nltb→le (val (r .from) (r .depart)) inf s))
+        least r m e h = compare r m e (λ g. f .least (r .arrive) _ g h) (λ k. omega arith)
 
         first : (r : Ride) → r ∈ n .rides → r .to ≡ b → r .arrive < v → p < val (r .from) (r .depart) + r .points
-        first r m e h =
-            either
-            (ltb (val (r .from) (r .depart)) inf)
-            (λ s.
-            let g = arrives-with b r m e (ltb→lt (val (r .from) (r .depart)) inf s) in
-            f .first (r .arrive) (val (r .from) (r .depart) + r .points) g h)
-            (λ s. omega (arith, nltb→le (val (r .from) (r .depart)) inf s))
+        first r m e h = compare r m e (λ g. f .first (r .arrive) _ g h) (λ k. omega arith)
 
     rides-frontier : RideFrontier b v p → Frontier n a t b v p
     rides-frontier f = record { least = least; first = first }
@@ -179,17 +178,21 @@ module _ (t : Timetable) (a d : ℕ) (val : ℕ → ℕ → ℕ) (inf : ℕ) whe
             }
 
     stops-rides : StopFrontier b v p → RideFrontier (net t) a d val inf l b v p
-    stops-rides f =
-        record {
-          least = λ r m e h. (
-              let k = ending r m e in
-              let i = k .arrives in
-              omega (arith, k .low, f .least (k .z) (k .y) (k .calls) (omega arith)));
-          first = λ r m e h. (
-              let k = ending r m e in
-              let i = k .arrives in
-              omega (arith, k .low, f .first (k .z) (k .y) (k .calls) (omega arith)));
-        }
+    stops-rides f = record { least = least; first = first }
+      where
+        least : (r : Ride) → r ∈ (net t) .rides → r .to ≡ b → r .arrive ≤ v
+            → p ≤ val (r .from) (r .depart) + r .points
+        least r m e h =
+            let k = ending r m e in
+            let i = k .arrives in
+            omega (arith, k .low, f .least (k .z) (k .y) (k .calls) (omega arith))
+
+        first : (r : Ride) → r ∈ (net t) .rides → r .to ≡ b → r .arrive < v
+            → p < val (r .from) (r .depart) + r .points
+        first r m e h =
+            let k = ending r m e in
+            let i = k .arrives in
+            omega (arith, k .low, f .first (k .z) (k .y) (k .calls) (omega arith))
 
     pub frontier-by-stops : Frontier (net t) a d b v p ↔ StopFrontier b v p
     frontier-by-stops =

@@ -14,12 +14,12 @@ use Rattle.lists.specs.Tests.{eq→eqb}
 use Rattle.lists.specs.Members.{filter-in, filter-out, concatMap-in, concatMap-out, range-in, range-out}
 use Rattle.lists.specs.Pigeonhole.{Within}
 use Rattle.lists.specs.Sorting.{Inside, sort-in, sort-out, sort-same}
+use Rattle.results.specs.Results.{undominated}
+use Rattle.results.specs.Picks.{undominated-in, undominated-out}
 use Rattle.connections.specs.Rides.{Ride}
 use Rattle.connections.specs.Connections.{Net, Connection, direct, onward, Boards, Feasible, Optimal, departure}
 use Rattle.connections.specs.Connections.{stations}
 use Rattle.connections.specs.Planner.{plannerList, measure}
-use Rattle.results.specs.Results.{undominated}
-use Rattle.results.specs.Picks.{undominated-in, undominated-out}
 use Rattle.connections.specs.Sound.{Sound}
 use Rattle.connections.specs.Feasibility.{has-stations, stations-listed}
 use Rattle.connections.specs.Listed.{optimal-in, optimal-out}

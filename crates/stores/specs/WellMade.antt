@@ -97,16 +97,19 @@ module _ (k : ℕ) (ps : List (List ℕ)) (full : (p : List ℕ) → p ∈ ps �
                 let s = short (r .0) (read-back ps full post (r .0) .0 (r .1)) in
                 omega (arith, ltb→lt stationsMost (suc (length (r .0))) (r .2))
 
+        -- "all words present"
+        present : 2 + 2 * length (nodes ps) + 2 * length (arcs ps) ≤ length lent
+        present = omega (arith, length-append (encode ps) post, encode-length ps)
+
+        nodes-made-well : T (nodesMade k 1 (nodePairs lent))
+        nodes-made-well = rw (node-words ps post) (nodes-good [] (nodes ps) refl)
+
+        arcs-made-well : T (arcsMade k (length (nodes ps)) (arcPairs lent))
+        arcs-made-well = rw (arc-words ps post) (arcs-good (arcs ps) arc-fits)
+
+        arcs-in-order : T (arcsRise (arcPairs lent))
+        arcs-in-order = rw (arc-words ps post) (arcs-rise (arcs ps) (arcs-rising ps))
+
         pub well-made : T (wellMade k lent)
         unfolding wellMade encode
-        well-made =
-            let present : 2 + 2 * length (nodes ps) + 2 * length (arcs ps) ≤ length lent =
-            omega (arith, length-append (encode ps) post, encode-length ps)
-            in
-            let n : T (nodesMade k 1 (nodePairs lent)) = rw (node-words ps post) (nodes-good [] (nodes ps) refl) in
-            let m : T (arcsMade k (length (nodes ps)) (arcPairs lent)) =
-            rw (arc-words ps post) (arcs-good (arcs ps) arc-fits)
-            in
-            let rise : T (arcsRise (arcPairs lent)) = rw (arc-words ps post) (arcs-rise (arcs ps) (arcs-rising ps)) in
-            let few = none-long in
-            search writes depth 9
+        well-made = search (writes, present, nodes-made-well, arcs-made-well, arcs-in-order, none-long) depth 9
