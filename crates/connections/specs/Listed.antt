@@ -66,19 +66,12 @@ module _ (n : Net) where
   feasible-listed zero a t b (direct r) f h = absurd (omega arith)
   feasible-listed zero a t b (onward r w c) f h = absurd (omega arith)
   feasible-listed (suc k) a t b (direct r) f h =
-      concatMap-in
-      (byRide n b (on k b))
-      (boards-in a t r (f .0))
-      (keep-here (afterRide n (on k b) r) (eqb (r .to) b) refl (eq→eqb (r .to) b (f .1)))
+      let there = keep-here (afterRide n (on k b) r) (eqb (r .to) b) refl (eq→eqb (r .to) b (f .1)) in
+      concatMap-in (byRide n b (on k b)) (boards-in a t r (f .0)) there
   feasible-listed (suc k) a t b (onward r w c) f h =
       let rest = feasible-listed k (w .to) (ready r w) b c (f .2) (omega arith) in
-      concatMap-in
-      (byRide n b (on k b))
-      (boards-in a t r (f .0))
-      (keep-there
-      (direct r)
-      (eqb (r .to) b)
-      (concatMap-in (afterChange (on k b) r) (changes-in r w (f .1)) (Memᴰ·map (onward r w) rest)))
+      let changing = concatMap-in (afterChange (on k b) r) (changes-in r w (f .1)) (Memᴰ·map (onward r w) rest) in
+      concatMap-in (byRide n b (on k b)) (boards-in a t r (f .0)) (keep-there (direct r) (eqb (r .to) b) changing)
 
   -- at most k rides: a list for fewer rides is another bound
   pub listed-count : (k a t b : ℕ) (c : Connection) → c ∈ connections n k a t b → rideCount c ≤ k

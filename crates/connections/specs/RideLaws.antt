@@ -44,14 +44,11 @@ module _ (t : List Trip) where
   unfolding ridesOf
   rides-in z x y h g i =
       let l = getD t z [] in
-      let last = range-in (suc x) (length l - suc x) y (omega arith) (omega arith) in
-      concatMap-in
-      (λ z. tripRides (getD t z []) z)
-      (range-in 0 (length t) z (omega arith) (omega arith))
-      (concatMap-in
-      (ridesFrom l z)
-      (range-in 0 (length l) x (omega arith) (omega arith))
-      (Memᴰ·map (rideAt l z x) last))
+      let alight = range-in (suc x) (length l - suc x) y (omega arith) (omega arith) in
+      let board = range-in 0 (length l) x (omega arith) (omega arith) in
+      let trip = range-in 0 (length t) z (omega arith) (omega arith) in
+      let on-trip = concatMap-in (ridesFrom l z) board (Memᴰ·map (rideAt l z x) alight) in
+      concatMap-in (λ z. tripRides (getD t z []) z) trip on-trip
 
 module _ (l : List Station) where
   pub changes-out : (w : Change) → w ∈ changesOf l → (z : ℕ) × (z < length l) × (changeAt l z ≡ w)

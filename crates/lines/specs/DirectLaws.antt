@@ -94,16 +94,11 @@ module _ (t : List Trip) where
       let g = p .inside in
       let at-x = range-in 0 size x (omega arith) (omega arith) in
       let at-y = range-in (suc x) (size - suc x) y (omega arith) (omega arith) in
-      concatMap-in
-      (firstOn t a u b)
-      m
-      (concatMap-in
-      (firstFrom t u b l)
-      (filter-in (boardsAt a l) at-x (eq→eqb (stationOn t l x) a (p .board)))
-      (concatMap-in
-      (firstTo t u l x)
-      (filter-in (boardsAt b l) at-y (eq→eqb (stationOn t l y) b (p .alight)))
-      (Memᴰ·map (λ z. direct (rideAt (getD t z []) z x y)) f)))
+      let boards = filter-in (boardsAt a l) at-x (eq→eqb (stationOn t l x) a (p .board)) in
+      let alights = filter-in (boardsAt b l) at-y (eq→eqb (stationOn t l y) b (p .alight)) in
+      let ride = Memᴰ·map (λ z. direct (rideAt (getD t z []) z x y)) f in
+      let from-x = concatMap-in (firstTo t u l x) alights ride in
+      concatMap-in (firstOn t a u b) m (concatMap-in (firstFrom t u b l) boards from-x)
 
 some-rides : (c : Connection) → 1 ≤ rideCount c
 some-rides (direct r) = omega arith
@@ -165,12 +160,8 @@ module _ (timetable : Timetable) (a u b : ℕ) where
       let from = sym (line-stop t (f .line) z (f .x) o (k .0) .station) ∙ p .board in
       let to = sym (line-stop t (f .line) z (f .y) o (k .0) .station) ∙ p .alight in
       let timely = k .1 in
-      Memᴰ·cast
-      (sym (f .is))
-      (direct-in
-      (rideAt (getD t z []) z (f .x) (f .y))
-      (rides-in t z (f .x) (f .y) z-listed (p .later) (omega arith))
-      (search writes))
+      let listed = rides-in t z (f .x) (f .y) z-listed (p .later) (omega arith) in
+      Memᴰ·cast (sym (f .is)) (direct-in (rideAt (getD t z []) z (f .x) (f .y)) listed (search writes))
 
   record Covered (c : Connection) : Type 0 where
     one : Connection

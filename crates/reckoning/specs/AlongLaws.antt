@@ -29,7 +29,7 @@ stations-read rev (direct r) = refl
 stations-read rev (onward r w c) = stations-read (w .from ∷ rev) c
 
 -- reversed twice
-reverse-twice : (l m : List ℕ) → reverseAux (reverseAux l m) [] ≡ reverseAux m l
+pub reverse-twice : (l m : List ℕ) → reverseAux (reverseAux l m) [] ≡ reverseAux m l
 reverse-twice [] m = refl
 reverse-twice (x ∷ l) m = reverse-twice l (x ∷ m)
 
@@ -115,6 +115,12 @@ module _ (n : Net) (a t : ℕ) where
         pays = omega (arith, j .pays, g .total);
       }
 
+  ends-same : {l k : List ℕ} {b v w p q : ℕ} → l ≡ k → v ≡ w → p ≡ q → Ends n a t l b v p → Ends n a t k b w q
+  ends-same {l} {k} {b} {v} {w} {p} {q} e f g h =
+      let paid = subst (λ x. Ends n a t l b v x) g h in
+      let timed = subst (λ x. Ends n a t l b x q) f paid in
+      subst (λ x. Ends n a t x b w q) e timed
+
   end-from : (rev : List ℕ) (x u p b : ℕ) (c : Connection) → Along n a t rev x u p → Feasible n x u b c
       → Ends n a t (changedAt rev c) b (arrival c) (p + penalty c)
   end-from rev x u p b (direct r) g f =
@@ -159,14 +165,7 @@ module _ (n : Net) (a t : ℕ) where
       }
 
   ends-in : (rev : List ℕ) (b v p : ℕ) → Sequenced rev b v p → Ends n a t rev b v p
-  ends-in rev b v p s =
-      subst
-      (λ k. Ends n a t k b v p)
-      same-changes
-      (subst
-      (λ v. Ends n a t (changedAt [] c) b v p)
-      (s .arrives)
-      (subst (λ p. Ends n a t (changedAt [] c) b (arrival c) p) (s .pays) (connection-ends b c (s .feasible))))
+  ends-in rev b v p s = ends-same same-changes (s .arrives) (s .pays) (connection-ends b c (s .feasible))
     where
       c : Connection
       c = s .connection

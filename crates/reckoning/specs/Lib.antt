@@ -9,3 +9,4 @@ pub mod Reckoned
 pub mod Bounds
 pub mod FrontierValues
 pub mod StoredSets
+pub mod Continuing

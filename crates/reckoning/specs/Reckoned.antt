@@ -40,32 +40,30 @@ lowest-in inf (x ∷ l) h =
     (λ p e. here e)
     (λ p e. there (rw e (lowest-in inf l (omega arith))))
 
+-- a ride and a change lead to boarding at x at minute u
+abbrev leads : (x u : ℕ) → Ride → Change → Bool
+leads x u r w = changeable r w && eqb (w .to) x && leb (ready r w) u
+
+-- the penalty by a last ride and change, and those by a last ride, given the values before
+abbrev price : (val : ℕ → ℕ → ℕ) → Ride → Change → ℕ
+price val r w = val (r .from) (r .depart) + r .points + w .points
+
+abbrev offersBy : Net → (val : ℕ → ℕ → ℕ) (x u : ℕ) → Ride → List ℕ
+offersBy n val x u r = map (price val r) (filter (leads x u r) (n .changes))
+
 module _ (n : Net) (a t inf : ℕ) where
   abbrev starts : (x u : ℕ) → Bool
   starts x u = eqb x a && leb t u
-
-  abbrev leads : (x u : ℕ) → Ride → Change → Bool
-  leads x u r w = changeable r w && eqb (w .to) x && leb (ready r w) u
 
   -- for boardings up to k rides and changes back
   unfoldable reckon : (k x u : ℕ) → ℕ
   reckon zero x u = inf
   reckon (suc k) x u =
-      lowest
-      inf
-      (keep
-      (starts x u)
-      0
-      (concatMap
-      (λ r. map (λ w. reckon k (r .from) (r .depart) + r .points + w .points) (filter (leads x u r) (n .changes)))
-      (n .rides)))
-
-  -- the penalty by a last ride and change, and those by a last ride
-  abbrev price : (k : ℕ) → Ride → Change → ℕ
-  price k r w = reckon k (r .from) (r .depart) + r .points + w .points
+      let val = reckon k in
+      lowest inf (keep (starts x u) 0 (concatMap (offersBy n val x u) (n .rides)))
 
   abbrev by : (k x u : ℕ) → Ride → List ℕ
-  by k x u r = map (price k r) (filter (leads x u r) (n .changes))
+  by k = offersBy n (reckon k)
 
   abbrev offers : (k x u : ℕ) → List ℕ
   offers k x u = keep (starts x u) 0 (concatMap (by k x u) (n .rides))
@@ -93,7 +91,7 @@ module _ (n : Net) (a t inf : ℕ) where
           later m =
               let i = concatMap-out (by k x u) (n .rides) m in
               let r = i .0 in
-              let j = Memᴰ·of-map (price k r) (filter (leads x u r) (n .changes)) (i .2) in
+              let j = Memᴰ·of-map (price (reckon k) r) (filter (leads x u r) (n .changes)) (i .2) in
               let w = j .0 in
               let f = filter-out (leads x u r) (n .changes) (j .1) in
               let s = f .1 in
@@ -140,9 +138,9 @@ module _ (n : Net) (a t inf : ℕ) where
         let f = ok .forward r (g .listed) in
         let low = reckon-below k rev (r .from) (r .depart) (g .paid) (omega arith) (g .below) in
         let led : T (leads x u r w) = search writes in
-        let i = Memᴰ·map (price k r) (filter-in (leads x u r) (g .changes .listed) led) in
+        let i = Memᴰ·map (price (reckon k) r) (filter-in (leads x u r) (g .changes .listed) led) in
         let offer = keep-there 0 (starts x u) (concatMap-in (by k x u) (g .listed) i) in
-        omega (arith, lowest-below inf (price k r w) (offers k x u) offer)
+        omega (arith, lowest-below inf (price (reckon k) r w) (offers k x u) offer)
 
     pub least-penalties : LeastPenalties n a t leastPenalty inf
     unfolding leastPenalty

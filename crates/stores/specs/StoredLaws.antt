@@ -94,14 +94,11 @@ module _ (n : Net) (ok : Sound n) where
   found-in : (a : ℕ) (ts bs q : List ℕ) → Found a ts bs q → q ∈ optimalStations n a ts bs
   unfolding optimalStations
   found-in a ts bs q h =
-      let o = optimals-in a (h .minute) (h .target) (h .connection) (h .optimal) in
-      concatMap-in
-      (atMinute a bs)
-      (h .in-minutes)
-      (concatMap-in
-      (λ b. map stations (optimals n a (h .minute) b))
-      (h .in-targets)
-      (Memᴰ·cast (sym (h .is)) (Memᴰ·map stations o)))
+      let t = h .minute in
+      let o = optimals-in a t (h .target) (h .connection) (h .optimal) in
+      let to-target = Memᴰ·cast (sym (h .is)) (Memᴰ·map stations o) in
+      let in-minute = concatMap-in (λ b. map stations (optimals n a t b)) (h .in-targets) to-target in
+      concatMap-in (atMinute a bs) (h .in-minutes) in-minute
 
   pub stored-out : (a : ℕ) (q : List ℕ) → q ∈ stored n a → Sequence n a q
   unfolding stored
@@ -120,22 +117,19 @@ module _ (n : Net) (ok : Sound n) where
 
   pub stored-in : (a : ℕ) (q : List ℕ) → Sequence n a q → q ∈ stored n a
   unfolding stored
-  stored-in a q s =
-      sort-in
-      (found-in
-      a
-      minutes
-      (targets n a)
-      q
-      (record {
-        minute = s .minute;
-        target = s .target;
-        connection = s .connection;
-        in-minutes = range-in 0 (suc lastMinute) (s .minute) (omega arith) (omega (arith, s .in-time));
-        in-targets = target-in n a (s .target) (s .elsewhere);
-        optimal = s .optimal;
-        is = s .is;
-      }))
+  stored-in a q s = sort-in (found-in a minutes (targets n a) q found)
+    where
+      found : Found a minutes (targets n a) q
+      found =
+          record {
+            minute = s .minute;
+            target = s .target;
+            connection = s .connection;
+            in-minutes = range-in 0 (suc lastMinute) (s .minute) (omega arith) (omega (arith, s .in-time));
+            in-targets = target-in n a (s .target) (s .elsewhere);
+            optimal = s .optimal;
+            is = s .is;
+          }
 
   -- the second half of demand 2: which sequences are stored
   pub stored-exactly : (a : ℕ) (q : List ℕ) → q ∈ stored n a ↔ Sequence n a q
