@@ -1,6 +1,5 @@
--- What the query's code rests on: the connections of one stored sequence, change by change. What was done so far and a
--- connection from there join to one connection, and each connection arises so. Those of a cost that nothing of the same
--- sequence undercuts have paid the least at each boarding.
+-- Riders on their way and connections: what was done so far and a connection from there join to one connection, and
+-- each connection arises so. The connections of one stored sequence are those that end with its changes.
 use mathlib.Core.Path.{_≡_, refl, sym, ap, subst, _∙_}
 use mathlib.Core.Logic.{_↔_}
 use mathlib.Core.List.{List, [], _∷_, reverseAux}
@@ -11,7 +10,7 @@ use Rattle.connections.specs.Rides.{Ride}
 use Rattle.connections.specs.Connections.{Change, Net, Connection, direct, onward, Boards, Changes, Feasible, ready}
 use Rattle.connections.specs.Connections.{arrival, penalty, stations}
 use Rattle.connections.specs.Feasibility.{earlier}
-use Rattle.reckoning.specs.Along.{Along, Ends, TightAlong}
+use Rattle.reckoning.specs.Along.{Along, Ends}
 
 -- the stations of the changes, the last one first, behind those given
 abbrev pub changedAt : List ℕ → Connection → List ℕ
@@ -183,46 +182,3 @@ module _ (n : Net) (a t : ℕ) where
   -- theorem 7, for the query: the candidates of a stored sequence, by arrival and penalty, change by change
   pub sequence-ends : (rev : List ℕ) (b v p : ℕ) → Ends n a t rev b v p ↔ Sequenced rev b v p
   sequence-ends rev b v p = (ends-out rev b v p, ends-in rev b v p)
-
-  -- no connection of the same sequence, on from here, arrives with c and has paid less
-  abbrev Uncut : (rev : List ℕ) (p b : ℕ) → Connection → Type 0
-  Uncut rev p b c =
-      (e : Connection) → Feasible n a t b e → stations e ≡ reverseAux rev (stations c) → arrival e ≡ arrival c
-      → p + penalty c ≤ penalty e
-
-  uncut-least : (rev : List ℕ) (x u p b : ℕ) (c : Connection) → Feasible n x u b c → Uncut rev p b c
-      → (q : ℕ) → Along n a t rev x u q → p ≤ q
-  uncut-least rev x u p b c f h q z =
-      let j = join rev x u q b c z f in
-      omega (arith, h (j .whole) (j .feasible) (j .sequence) (j .arrives), j .pays)
-
-  tight-along : (rev : List ℕ) (x u p b : ℕ) (c : Connection) → Along n a t rev x u p → Feasible n x u b c
-      → Uncut rev p b c → TightAlong n a t rev p c
-  tight-along rev x u p b (direct r) g f h =
-      record {
-        reached = boarded rev x u p r g (f .0);
-        least = uncut-least rev (r .from) (r .depart) p b (direct r) (boards-at n r (f .0 .listed), f .1) h;
-      }
-  tight-along rev x u p b (onward r w c) g f h = (
-    record { reached = here; least = uncut-least rev (r .from) (r .depart) p b (onward r w c) on h },
-    tight-along (w .from ∷ rev) (w .to) (ready r w) (p + r .points + w .points) b c next (f .2) rest,
-  )
-    where
-      here : Along n a t rev (r .from) (r .depart) p
-      here = boarded rev x u p r g (f .0)
-
-      on : Feasible n (r .from) (r .depart) b (onward r w c)
-      on = (boards-at n r (f .0 .listed), f .1, f .2)
-
-      next : Along n a t (w .from ∷ rev) (w .to) (ready r w) (p + r .points + w .points)
-      next = changed rev p (ready r w) r w here (f .0 .listed) (f .1) (omega arith)
-
-      rest : Uncut (w .from ∷ rev) (p + r .points + w .points) b c
-      rest e i s k = omega (arith, h e i s k)
-
-  -- so the candidates of a row are among the tight ones of each sequence that the store holds
-  pub row-tight : (b : ℕ) (c : Connection) → Feasible n a t b c
-      → ((e : Connection) → Feasible n a t b e → stations e ≡ stations c → arrival e ≡ arrival c
-      → penalty c ≤ penalty e)
-      → TightAlong n a t [] 0 c
-  row-tight b c f h = tight-along [] a t 0 b c start f (λ e g i k. omega (arith, h e g i k))

@@ -1,5 +1,6 @@
 pub mod Along
 pub mod AlongLaws
+pub mod Layers
 pub mod Frontiers
 pub mod LeastPenalties
 pub mod Aboard

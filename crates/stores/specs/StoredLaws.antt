@@ -27,7 +27,7 @@ use Rattle.connections.specs.OptimalLaws.{optimal-own-minute, pattern-short}
 use Rattle.stores.specs.Stored.{minutes, targets, optimals, optimalStations, stored, Target, Sequence}
 use Rattle.stores.specs.Words.{nodes, arcs, entriesMost, readable, storeWords, wellMade}
 use Rattle.stores.specs.RoundTrip.{read-back}
-use Rattle.stores.specs.WellMade.{well-made}
+use Rattle.stores.specs.WellMade.{well-made, words-small}
 
 pub target-in : (n : Net) (a b : ℕ) → Target n a b → b ∈ targets n a
 target-in n a b h =
@@ -224,6 +224,11 @@ module _ (n : Net) (ok : Sound n) where
         (λ q. suc (length q) ≤ stationsMost)
         (s .is)
         (pattern-short n ok a (s .minute) (s .target) (s .connection) (s .optimal) other first last)
+
+    pub store-small : length (nodes (stored n a)) ≤ entriesMost → length (arcs (stored n a)) ≤ entriesMost
+        → (x : ℕ) → x ∈ storeWords n a → x ≤ entriesMost
+    unfolding storeWords
+    store-small = words-small (n .stations) (stored n a) (stored-full a) stored-within (ok .few)
 
     pub store-well-made : (post : List ℕ) → length (nodes (stored n a)) ≤ entriesMost
         → length (arcs (stored n a)) ≤ entriesMost → T (wellMade (n .stations) (storeWords n a ++ post))
