@@ -109,7 +109,8 @@ module _ (k : ℕ) (ps : List (List ℕ)) (full : (p : List ℕ) → p ∈ ps �
           let known = place-bound (front q) ([] ∷ nodes ps) (nodes-made ps .closed q (r .1)) in
           subst Fits (r .2) (record { first = listed .0; last = listed .1; known = omega arith })
 
-      flat-small : (l : List (List ℕ)) → Paired l → ((z : List ℕ) → z ∈ l → Fits z) → (x : ℕ) → x ∈ flat l → x ≤ entriesMost
+      flat-small : (l : List (List ℕ)) → Paired l → ((z : List ℕ) → z ∈ l → Fits z)
+          → (x : ℕ) → x ∈ flat l → x ≤ entriesMost
       flat-small l p f x m =
           let r = concatMap-out (λ z. z) l m in
           entry-small (r .0) (f (r .0) (r .1)) (λ z i. cons-cases i (λ e. p z (Memᴰ·cast e (r .1))) none) x (r .2)
