@@ -1,5 +1,5 @@
 -- The rides and changes of a timetable by their places, and how a ride's penalty is summed stop by stop.
-use mathlib.Core.Path.{_≡_, refl}
+use mathlib.Core.Path.{_≡_, refl, sym, ap, _∙_}
 use mathlib.Core.List.{List, [], _∷_, Memᴰ·map, Memᴰ·of-map}
 use Prim.Native.Nat.{ℕ, zero, suc, _+_, _-_, _≤_, _<_}
 use native.Mathlib.Omega.{arith}
@@ -50,6 +50,27 @@ module _ (t : List Trip) where
       let on-trip = concatMap-in (ridesFrom l z) board (Memᴰ·map (rideAt l z x) alight) in
       concatMap-in (λ z. tripRides (getD t z []) z) trip on-trip
 
+  -- a ride is known by its numbers
+  pub ride-unique : (r s : Ride) → r ∈ ridesOf t → s ∈ ridesOf t → r .trip ≡ s .trip → r .board ≡ s .board
+      → r .alight ≡ s .alight → r ≡ s
+  ride-unique r s m k e f g =
+      sym (i .is) ∙ (λ v. rideAt (getD t (same-z v) []) (same-z v) (same-x v) (same-y v)) ∙ j .is
+    where
+      i : Taken t r
+      i = rides-out r m
+
+      j : Taken t s
+      j = rides-out s k
+
+      same-z : i .z ≡ j .z
+      same-z = omega (arith, e, ap (λ r. r .trip) (i .is), ap (λ r. r .trip) (j .is))
+
+      same-x : i .x ≡ j .x
+      same-x = omega (arith, f, ap (λ r. r .board) (i .is), ap (λ r. r .board) (j .is))
+
+      same-y : i .y ≡ j .y
+      same-y = omega (arith, g, ap (λ r. r .alight) (i .is), ap (λ r. r .alight) (j .is))
+
 module _ (l : List Station) where
   pub changes-out : (w : Change) → w ∈ changesOf l → (z : ℕ) × (z < length l) × (changeAt l z ≡ w)
   unfolding changesOf
@@ -57,6 +78,14 @@ module _ (l : List Station) where
       let r = Memᴰ·of-map (changeAt l) (range 0 (length l)) m in
       let h = range-out 0 (length l) (r .0) (r .1) in
       (r .0, omega arith, r .2)
+
+  -- a station has one way of changing
+  pub change-unique : (w v : Change) → w ∈ changesOf l → v ∈ changesOf l → w .from ≡ v .from → w ≡ v
+  change-unique w v m k e =
+      let i = changes-out w m in
+      let j = changes-out v k in
+      let same : i .0 ≡ j .0 = omega (arith, ap (λ w. w .from) (i .2), ap (λ w. w .from) (j .2)) in
+      sym (i .2) ∙ ap (changeAt l) same ∙ j .2
 
   pub changes-in : (z : ℕ) → z < length l → changeAt l z ∈ changesOf l
   unfolding changesOf

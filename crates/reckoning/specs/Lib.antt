@@ -11,3 +11,4 @@ pub mod Bounds
 pub mod FrontierValues
 pub mod StoredSets
 pub mod Continuing
+pub mod Greedy
