@@ -8,3 +8,4 @@ pub mod Feasibility
 pub mod Listed
 pub mod OptimalLaws
 pub mod Ties
+pub mod Named

@@ -2,11 +2,11 @@
 -- time.
 use mathlib.Core.Path.{refl}
 use mathlib.Core.Logic.{_↔_}
-use mathlib.Core.List.{List, map, Memᴰ·map, Memᴰ·of-map}
+use mathlib.Core.List.{List, Memᴰ·map, Memᴰ·of-map}
 use Prim.Native.Nat.{ℕ, zero, suc, _≤_}
 use native.Mathlib.Omega.{arith}
 use lib.Dec.{eqb, eqb→eq}
-use Rattle.lists.specs.Lists.{_∈_, keep, filter, concatMap}
+use Rattle.lists.specs.Lists.{_∈_, filter}
 use Rattle.lists.specs.Tests.{reads, writes, eq→eqb}
 use Rattle.lists.specs.Members.{none, kept-cases, keep-here, keep-there, filter-in, filter-out, concatMap-in}
 use Rattle.lists.specs.Members.{concatMap-out}
@@ -14,8 +14,8 @@ use Rattle.results.specs.Results.{Undominated, undominated}
 use Rattle.connections.specs.Rides.{Ride}
 use Rattle.connections.specs.Connections.{Change, Net, Connection, direct, onward, Boards, Changes, Feasible}
 use Rattle.connections.specs.Connections.{Optimal, ready}
-use Rattle.connections.specs.Planner.{boardable, changeable, connections, mostRides, plannerList, rideCount}
-use Rattle.connections.specs.Planner.{measure}
+use Rattle.connections.specs.Planner.{boardable, changeable, afterChange, afterRide, byRide, connections}
+use Rattle.connections.specs.Planner.{mostRides, plannerList, rideCount, measure}
 use Rattle.connections.specs.Sound.{Sound}
 use Rattle.connections.specs.Feasibility.{takes-time, ends-in-time}
 
@@ -37,15 +37,9 @@ module _ (n : Net) where
   changes-in : (r : Ride) (w : Change) → Changes n r w → w ∈ filter (changeable r) (n .changes)
   changes-in r w h = filter-in (changeable r) (h .listed) (eq→eqb (w .from) (r .to) (h .here))
 
-  -- the connections that go on after ride r and change w, and those that change after ride r
-  abbrev after : (k b : ℕ) → Ride → Change → List Connection
-  after k b r w = map (onward r w) (connections n k (w .to) (ready r w) b)
-
-  abbrev changing : (k b : ℕ) → Ride → List Connection
-  changing k b r = concatMap (after k b r) (filter (changeable r) (n .changes))
-
-  abbrev beginning : (k b : ℕ) → Ride → List Connection
-  beginning k b r = keep (eqb (r .to) b) (direct r) (changing k b r)
+  -- what goes on after the first ride, in at most k rides
+  abbrev on : (k b x u : ℕ) → List Connection
+  on k b x u = connections n k x u b
 
   pub listed-feasible : (k a t b : ℕ) (c : Connection) → c ∈ connections n k a t b → Feasible n a t b c
   unfolding connections
@@ -54,14 +48,14 @@ module _ (n : Net) where
     where
       go : ((a t b : ℕ) (c : Connection) → c ∈ connections n k a t b → Feasible n a t b c) → Feasible n a t b c
       go ih =
-          let i = concatMap-out (beginning k b) (filter (boardable a t) (n .rides)) m in
+          let i = concatMap-out (byRide n b (on k b)) (filter (boardable a t) (n .rides)) m in
           let r = i .0 in
           let board = boards-out a t r (i .1) in
           kept-cases (eqb (r .to) b) (i .2) (λ e h. rw e (board, eqb→eq (r .to) b h)) (rest r board)
         where
-          rest : (r : Ride) → Boards n a t r → c ∈ changing k b r → Feasible n a t b c
+          rest : (r : Ride) → Boards n a t r → c ∈ afterRide n (on k b) r → Feasible n a t b c
           rest r board j =
-              let p = concatMap-out (after k b r) (filter (changeable r) (n .changes)) j in
+              let p = concatMap-out (afterChange (on k b) r) (filter (changeable r) (n .changes)) j in
               let w = p .0 in
               let q = Memᴰ·of-map (onward r w) (connections n k (w .to) (ready r w) b) (p .2) in
               rw (← q .2) (board, changes-out r w (p .1), ih (w .to) (ready r w) b (q .0) (q .1))
@@ -72,19 +66,12 @@ module _ (n : Net) where
   feasible-listed zero a t b (direct r) f h = absurd (omega arith)
   feasible-listed zero a t b (onward r w c) f h = absurd (omega arith)
   feasible-listed (suc k) a t b (direct r) f h =
-      concatMap-in
-      (beginning k b)
-      (boards-in a t r (f .0))
-      (keep-here (changing k b r) (eqb (r .to) b) refl (eq→eqb (r .to) b (f .1)))
+      let there = keep-here (afterRide n (on k b) r) (eqb (r .to) b) refl (eq→eqb (r .to) b (f .1)) in
+      concatMap-in (byRide n b (on k b)) (boards-in a t r (f .0)) there
   feasible-listed (suc k) a t b (onward r w c) f h =
       let rest = feasible-listed k (w .to) (ready r w) b c (f .2) (omega arith) in
-      concatMap-in
-      (beginning k b)
-      (boards-in a t r (f .0))
-      (keep-there
-      (direct r)
-      (eqb (r .to) b)
-      (concatMap-in (after k b r) (changes-in r w (f .1)) (Memᴰ·map (onward r w) rest)))
+      let changing = concatMap-in (afterChange (on k b) r) (changes-in r w (f .1)) (Memᴰ·map (onward r w) rest) in
+      concatMap-in (byRide n b (on k b)) (boards-in a t r (f .0)) (keep-there (direct r) (eqb (r .to) b) changing)
 
   -- at most k rides: a list for fewer rides is another bound
   pub listed-count : (k a t b : ℕ) (c : Connection) → c ∈ connections n k a t b → rideCount c ≤ k
@@ -94,12 +81,12 @@ module _ (n : Net) where
     where
       go : ((a t b : ℕ) (c : Connection) → c ∈ connections n k a t b → rideCount c ≤ k) → rideCount c ≤ suc k
       go ih =
-          let i = concatMap-out (beginning k b) (filter (boardable a t) (n .rides)) m in
+          let i = concatMap-out (byRide n b (on k b)) (filter (boardable a t) (n .rides)) m in
           kept-cases (eqb (i .0 .to) b) (i .2) (λ e h. rw e (omega arith)) (rest (i .0))
         where
-          rest : (r : Ride) → c ∈ changing k b r → rideCount c ≤ suc k
+          rest : (r : Ride) → c ∈ afterRide n (on k b) r → rideCount c ≤ suc k
           rest r j =
-              let p = concatMap-out (after k b r) (filter (changeable r) (n .changes)) j in
+              let p = concatMap-out (afterChange (on k b) r) (filter (changeable r) (n .changes)) j in
               let w = p .0 in
               let q = Memᴰ·of-map (onward r w) (connections n k (w .to) (ready r w) b) (p .2) in
               rw (← q .2) (omega (arith, ih (w .to) (ready r w) b (q .0) (q .1)))

@@ -70,37 +70,34 @@ module _ (n : Net) (ok : Sound n) where
     pub arrives : arrival rest ≡ arrival c
     pub saves : penalty rest < penalty c
 
-  -- a connection that changes at a station, or ends there, can be begun there
+  -- a connection that changes at a station can be begun there
   cut : (a x t b : ℕ) (c : Connection) → Feasible n x t b c → a ∈ stations c → a ≢ b → Shorter a t b c
   cut a x t b (direct r) f m h = cons-cases m (λ e. absurd (h (e ∙ f .1))) none
-  cut a x t b (onward r w c) f m h = go (λ k. cut a (w .to) (ready r w) b c (f .2) k h)
+  cut a x t b (onward r w c) f m h = cons-cases m here (λ k. later (cut a (w .to) (ready r w) b c (f .2) k h))
     where
       late : t ≤ ready r w
       late = omega (arith, ok .forward r (f .0 .listed), f .0 .timely)
 
-      go : (a ∈ stations c → Shorter a (ready r w) b c) → Shorter a t b (onward r w c)
-      go ih =
-          cons-cases
-          m
-          (λ e.
+      here : a ≡ w .from → Shorter a t b (onward r w c)
+      here e =
           record {
             rest = c;
-            feasible =
-                subst
-                (λ y. Feasible n y t b c)
-                (ok .stays w (f .1 .listed) ∙ sym e)
-                (earlier n (w .to) t (ready r w) b c late (f .2));
+            feasible = earlier n a t (ready r w) b c late (subst (λ y. Feasible n y (ready r w) b c) at (f .2));
             arrives = refl;
             saves = omega (arith, ok .toll w (f .1 .listed));
-          })
-          (λ k. (
-          let y = ih k in
+          }
+        where
+          at : w .to ≡ a
+          at = ok .stays w (f .1 .listed) ∙ sym e
+
+      later : Shorter a (ready r w) b c → Shorter a t b (onward r w c)
+      later y =
           record {
             rest = y .rest;
             feasible = earlier n a t (ready r w) b (y .rest) late (y .feasible);
             arrives = y .arrives;
             saves = omega (arith, y .saves);
-          }))
+          }
 
   no-return : (a t b : ℕ) (c : Connection) → Optimal n a t b c → a ≢ b → ¬ (a ∈ stations c)
   no-return a t b c o h m =

@@ -5,7 +5,7 @@ use mathlib.Core.List.{List, [], _∷_, map}
 use Prim.Native.Nat.{ℕ, zero, suc, _-_}
 use lib.Dec.{leb, eqb}
 use Rattle.timetable.specs.Timetable.{lastMinute}
-use Rattle.lists.specs.Lists.{keep, filter, concatMap}
+use Rattle.lists.specs.Lists.{keep, filter, concatMap, tail}
 use Rattle.results.specs.Results.{Measure, result}
 use Rattle.connections.specs.Rides.{Ride}
 use Rattle.connections.specs.Connections.{Change, Net, Connection, direct, onward, ready, departure, cost}
@@ -16,19 +16,23 @@ boardable a t r = eqb (r .from) a && leb t (r .depart)
 abbrev pub changeable : Ride → Change → Bool
 changeable r w = eqb (w .from) (r .to)
 
+-- given the connections that go on from a station at a minute: those that begin with ride r and change by w
+abbrev pub afterChange : (on : (x u : ℕ) → List Connection) → Ride → Change → List Connection
+afterChange on r w = map (onward r w) (on (w .to) (ready r w))
+
+-- those that begin with ride r and change
+abbrev pub afterRide : Net → (on : (x u : ℕ) → List Connection) → Ride → List Connection
+afterRide n on r = concatMap (afterChange on r) (filter (changeable r) (n .changes))
+
+-- and those that begin with ride r, or are that ride alone
+abbrev pub byRide : Net → (b : ℕ) (on : (x u : ℕ) → List Connection) → Ride → List Connection
+byRide n b on r = keep (eqb (r .to) b) (direct r) (afterRide n on r)
+
 -- every feasible connection of at most k rides
 unfoldable pub connections : Net → (k a t b : ℕ) → List Connection
 connections n zero a t b = []
 connections n (suc k) a t b =
-    concatMap
-    (λ r.
-    keep
-    (eqb (r .to) b)
-    (direct r)
-    (concatMap
-    (λ w. map (onward r w) (connections n k (w .to) (ready r w) b))
-    (filter (changeable r) (n .changes))))
-    (filter (boardable a t) (n .rides))
+    concatMap (byRide n b (λ x u. connections n k x u b)) (filter (boardable a t) (n .rides))
 
 -- Each ride takes a minute at least, so no connection has more rides than there are minutes.
 abbrev pub mostRides : ℕ
@@ -50,10 +54,6 @@ numbers (onward r w c) = r .trip ∷ r .board ∷ r .alight ∷ numbers c
 -- boarding stop, alighting stop) come first, compared number by number."
 unfoldable pub tieKey : Connection → List ℕ
 tieKey c = (lastMinute - departure c) ∷ rideCount c ∷ numbers c
-
-abbrev pub tail : List ℕ → List ℕ
-tail [] = []
-tail (x ∷ l) = l
 
 -- "rows in rising duration: duration, penalty, number of rides, then trip, boarding stop, alighting stop per ride"
 abbrev pub measure : ℕ → Measure Connection

@@ -1,5 +1,5 @@
 -- The rides and changes of a timetable by their places, and how a ride's penalty is summed stop by stop.
-use mathlib.Core.Path.{_≡_, refl}
+use mathlib.Core.Path.{_≡_, refl, sym, ap, _∙_}
 use mathlib.Core.List.{List, [], _∷_, Memᴰ·map, Memᴰ·of-map}
 use Prim.Native.Nat.{ℕ, zero, suc, _+_, _-_, _≤_, _<_}
 use native.Mathlib.Omega.{arith}
@@ -44,14 +44,32 @@ module _ (t : List Trip) where
   unfolding ridesOf
   rides-in z x y h g i =
       let l = getD t z [] in
-      let last = range-in (suc x) (length l - suc x) y (omega arith) (omega arith) in
-      concatMap-in
-      (λ z. tripRides (getD t z []) z)
-      (range-in 0 (length t) z (omega arith) (omega arith))
-      (concatMap-in
-      (ridesFrom l z)
-      (range-in 0 (length l) x (omega arith) (omega arith))
-      (Memᴰ·map (rideAt l z x) last))
+      let alight = range-in (suc x) (length l - suc x) y (omega arith) (omega arith) in
+      let board = range-in 0 (length l) x (omega arith) (omega arith) in
+      let trip = range-in 0 (length t) z (omega arith) (omega arith) in
+      let on-trip = concatMap-in (ridesFrom l z) board (Memᴰ·map (rideAt l z x) alight) in
+      concatMap-in (λ z. tripRides (getD t z []) z) trip on-trip
+
+  -- a ride is known by its numbers
+  pub ride-unique : (r s : Ride) → r ∈ ridesOf t → s ∈ ridesOf t → r .trip ≡ s .trip → r .board ≡ s .board
+      → r .alight ≡ s .alight → r ≡ s
+  ride-unique r s m k e f g =
+      sym (i .is) ∙ (λ v. rideAt (getD t (same-z v) []) (same-z v) (same-x v) (same-y v)) ∙ j .is
+    where
+      i : Taken t r
+      i = rides-out r m
+
+      j : Taken t s
+      j = rides-out s k
+
+      same-z : i .z ≡ j .z
+      same-z = omega (arith, e, ap (λ r. r .trip) (i .is), ap (λ r. r .trip) (j .is))
+
+      same-x : i .x ≡ j .x
+      same-x = omega (arith, f, ap (λ r. r .board) (i .is), ap (λ r. r .board) (j .is))
+
+      same-y : i .y ≡ j .y
+      same-y = omega (arith, g, ap (λ r. r .alight) (i .is), ap (λ r. r .alight) (j .is))
 
 module _ (l : List Station) where
   pub changes-out : (w : Change) → w ∈ changesOf l → (z : ℕ) × (z < length l) × (changeAt l z ≡ w)
@@ -60,6 +78,14 @@ module _ (l : List Station) where
       let r = Memᴰ·of-map (changeAt l) (range 0 (length l)) m in
       let h = range-out 0 (length l) (r .0) (r .1) in
       (r .0, omega arith, r .2)
+
+  -- a station has one way of changing
+  pub change-unique : (w v : Change) → w ∈ changesOf l → v ∈ changesOf l → w .from ≡ v .from → w ≡ v
+  change-unique w v m k e =
+      let i = changes-out w m in
+      let j = changes-out v k in
+      let same : i .0 ≡ j .0 = omega (arith, ap (λ w. w .from) (i .2), ap (λ w. w .from) (j .2)) in
+      sym (i .2) ∙ ap (changeAt l) same ∙ j .2
 
   pub changes-in : (z : ℕ) → z < length l → changeAt l z ∈ changesOf l
   unfolding changesOf
@@ -80,13 +106,21 @@ module _ (s : Stop) (l : Trip) where
   unfolding ridePoints
   points-next x y = refl
 
+-- A ride's points part at any stop on the way; so they are the difference of two totals from the trip's first stop.
+pub points-split : (l : Trip) (x w y : ℕ) → x ≤ w → w ≤ y → ridePoints l x y ≡ ridePoints l x w + ridePoints l w y
+unfolding ridePoints
+points-split [] x w y h g = refl
+points-split (s ∷ l) x zero y h g = let e : x ≡ 0 = omega arith in rw e (omega arith)
+points-split (s ∷ l) x (suc w) zero h g = absurd (omega arith)
+points-split (s ∷ l) zero (suc w) (suc y) h g = omega (arith, points-split l 0 w y (omega arith) (omega arith))
+points-split (s ∷ l) (suc x) (suc w) (suc y) h g = points-split l x w y (omega arith) (omega arith)
+
 -- one stop further
 pub points-more : (l : Trip) (x y : ℕ) → x ≤ y → y < length l
     → ridePoints l x (suc y) ≡ ridePoints l x y + (getD l y noStop) .points
+unfolding ridePoints
 points-more [] x y h g = absurd (omega arith)
-points-more (s ∷ l) zero zero h g = omega (arith, points-first s l 0, points-none l 0, points-none (s ∷ l) 0)
+points-more (s ∷ l) zero zero h g = omega (arith, points-none l 0)
 points-more (s ∷ l) (suc x) zero h g = absurd (omega arith)
-points-more (s ∷ l) zero (suc y) h g =
-    omega (arith, points-first s l (suc y), points-first s l y, points-more l 0 y (omega arith) (omega arith))
-points-more (s ∷ l) (suc x) (suc y) h g =
-    omega (arith, points-next s l x (suc y), points-next s l x y, points-more l x y (omega arith) (omega arith))
+points-more (s ∷ l) zero (suc y) h g = omega (arith, points-more l 0 y (omega arith) (omega arith))
+points-more (s ∷ l) (suc x) (suc y) h g = points-more l x y (omega arith) (omega arith)

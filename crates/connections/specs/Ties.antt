@@ -2,7 +2,7 @@
 -- that depart then, it has fewest rides; of those, none has rides that come first.
 use mathlib.Core.Path.{_≡_}
 use mathlib.Core.List.{List, _∷_}
-use Prim.Native.Nat.{ℕ, _-_, _≤_}
+use Prim.Native.Nat.{ℕ, _-_, _≤_, _<_}
 use native.Mathlib.Omega.{arith, by-contra}
 use lib.Dec.{T}
 use Rattle.timetable.specs.Timetable.{lastMinute}
@@ -12,58 +12,41 @@ use Rattle.results.specs.Results.{Picked}
 use Rattle.connections.specs.Connections.{Connection, departure, cost}
 use Rattle.connections.specs.Planner.{rideCount, numbers, tieKey, measure}
 
--- c and e are on one list of connections within the two days, at equal cost, and c is picked
-module _
-    (t : ℕ)
-    (l : List Connection)
-    (c e : Connection)
-    (picked : Picked (measure t) l c)
-    (member : e ∈ l)
-    (tied : cost t e ≡ cost t c)
-    (c-in-time : departure c ≤ lastMinute)
-    (e-in-time : departure e ≤ lastMinute)
-  where
-    pub departs-latest : departure e ≤ departure c
+-- c is picked from a list of connections within the two days, on which e has its cost
+pub record Tied (t : ℕ) (l : List Connection) (c e : Connection) : Type 0 where
+  pub picked : Picked (measure t) l c
+  pub member : e ∈ l
+  pub equal : cost t e ≡ cost t c
+  pub in-time : departure c ≤ lastMinute
+  pub also-in-time : departure e ≤ lastMinute
+
+module _ (t : ℕ) (l : List Connection) (c e : Connection) (tied : Tied t l c e) where
+  abbrev rest : Connection → List ℕ
+  rest c = rideCount c ∷ numbers c
+
+  not-ahead : ¬ T (before (tieKey e) (tieKey c))
+  not-ahead = tied .picked .first e (tied .member) (tied .equal)
+
+  pub departs-latest : departure e ≤ departure c
+  unfolding tieKey
+  departs-latest = by-contra (departure e) (departure c) (λ h. not-ahead (later h))
+    where
+      later : departure c < departure e → T (before (tieKey e) (tieKey c))
+      later h = before-head (lastMinute - departure e) (lastMinute - departure c) (rest e) (rest c) (omega arith)
+
+  module _ (together : departure e ≡ departure c) where
+    rest-not-ahead : ¬ T (before (rest e) (rest c))
     unfolding tieKey
-    departs-latest =
+    rest-not-ahead b =
+        not-ahead
+        (before-tail (lastMinute - departure e) (lastMinute - departure c) (rest e) (rest c) (omega arith) b)
+
+    pub fewest-rides : rideCount c ≤ rideCount e
+    fewest-rides =
         by-contra
-        (departure e)
-        (departure c)
-        (λ h.
-        picked .first
-        e
-        member
-        tied
-        (before-head
-        (lastMinute - departure e)
-        (lastMinute - departure c)
-        (rideCount e ∷ numbers e)
-        (rideCount c ∷ numbers c)
-        (omega arith)))
+        (rideCount c)
+        (rideCount e)
+        (λ h. rest-not-ahead (before-head (rideCount e) (rideCount c) (numbers e) (numbers c) h))
 
-    module _ (same-departure : departure e ≡ departure c) where
-      -- what comes first behind the departure
-      no-first : ¬ T (before (rideCount e ∷ numbers e) (rideCount c ∷ numbers c))
-      unfolding tieKey
-      no-first b =
-          picked .first
-          e
-          member
-          tied
-          (before-tail
-          (lastMinute - departure e)
-          (lastMinute - departure c)
-          (rideCount e ∷ numbers e)
-          (rideCount c ∷ numbers c)
-          (omega arith)
-          b)
-
-      pub fewest-rides : rideCount c ≤ rideCount e
-      fewest-rides =
-          by-contra
-          (rideCount c)
-          (rideCount e)
-          (λ h. no-first (before-head (rideCount e) (rideCount c) (numbers e) (numbers c) h))
-
-      pub rides-first : rideCount e ≡ rideCount c → ¬ T (before (numbers e) (numbers c))
-      rides-first q b = no-first (before-tail (rideCount e) (rideCount c) (numbers e) (numbers c) q b)
+    pub rides-first : rideCount e ≡ rideCount c → ¬ T (before (numbers e) (numbers c))
+    rides-first q b = rest-not-ahead (before-tail (rideCount e) (rideCount c) (numbers e) (numbers c) q b)

@@ -54,15 +54,10 @@ module _ (t : List Trip) (s : ℕ) where
   calls-in q c =
       let i = c .i in
       let l = line i in
-      let inside = range-in 0 (length (course t l)) (c .p) (omega arith) (omega (arith, c .inside)) in
-      let f = filter-in (λ p. eqb (stationOn t l p) s) inside (eq→eqb (stationOn t l (c .p)) s (c .here)) in
-      Memᴰ·cast
-      (sym (c .is))
-      (sort-in
-      (concatMap-in
-      (lineCalls t s)
-      (range-in 0 (length (lines t)) i (omega arith) (omega (arith, c .line-listed)))
-      (Memᴰ·map (there i) f)))
+      let place = range-in 0 (length (course t l)) (c .p) (omega arith) (omega (arith, c .inside)) in
+      let here = filter-in (λ p. eqb (stationOn t l p) s) place (eq→eqb (stationOn t l (c .p)) s (c .here)) in
+      let listed = range-in 0 (length (lines t)) i (omega arith) (omega (arith, c .line-listed)) in
+      Memᴰ·cast (sym (c .is)) (sort-in (concatMap-in (lineCalls t s) listed (Memᴰ·map (there i) here)))
 
   pub calls-exactly : (q : List ℕ) → q ∈ calls t s ↔ Call t s q
   calls-exactly q = (calls-out q, calls-in q)

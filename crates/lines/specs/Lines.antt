@@ -4,14 +4,12 @@
 -- trips, lines and positions stand at places from 0; as numbers they "count from 1".
 use mathlib.Core.Bool.{Bool, true, false, _&&_}
 use mathlib.Core.List.{List, [], _∷_, _++_, map}
-use Prim.Native.Nat.{ℕ, suc, _-_}
+use Prim.Native.Nat.{ℕ, suc}
 use lib.Dec.{leb, eqb}
 use lib.ListN.{length, getD}
 use Rattle.timetable.specs.Timetable.{Stop, Trip}
-use Rattle.lists.specs.Lists.{filter, firstOf, concatMap, range, sort}
-use Rattle.connections.specs.Rides.{noStop, rideAt}
-use Rattle.connections.specs.Connections.{Net, Connection, direct}
-use Rattle.connections.specs.Planner.{boardable, rowsOf}
+use Rattle.lists.specs.Lists.{filter, concatMap, range, sort}
+use Rattle.connections.specs.Rides.{noStop}
 
 -- the same station and ride penalty, and s not later than u
 abbrev pub stopBehind : (s u : Stop) → Bool
@@ -87,33 +85,3 @@ lineCalls t s i =
 -- "For each station the tables list (line, position), rising; a station met twice on a line is listed twice."
 unfoldable pub calls : List Trip → (s : ℕ) → List (List ℕ)
 calls t s = sort (concatMap (lineCalls t s) (range 0 (length (lines t))))
-
--- every single ride for the query
-unfoldable pub directs : Net → (a t b : ℕ) → List Connection
-directs n a t b = map direct (filter (λ r. boardable a t r && eqb (r .to) b) (n .rides))
-
--- the rows of a direct query: "The ride shown is chosen by the rule above among all direct rides of that cost, a later
--- trip of the same line included."
-unfoldable pub directRows : Net → (a t b : ℕ) → List (List ℕ)
-directRows n a t b = rowsOf t (directs n a t b)
-
--- "A direct query takes, for each position of A before one of B, the first trip of the line that leaves at or after the
--- minute": for a line l that calls at A at place x, the rides to places y
-abbrev pub leaves : List Trip → (u x z : ℕ) → Bool
-leaves t u x z = leb u ((getD (getD t z []) x noStop) .depart)
-
-abbrev pub firstTo : List Trip → (u : ℕ) (l : List ℕ) (x y : ℕ) → List Connection
-firstTo t u l x y = map (λ z. direct (rideAt (getD t z []) z x y)) (firstOf (leaves t u x) l)
-
-abbrev pub firstFrom : List Trip → (u b : ℕ) (l : List ℕ) (x : ℕ) → List Connection
-firstFrom t u b l x =
-    concatMap
-    (firstTo t u l x)
-    (filter (λ y. eqb (stationOn t l y) b) (range (suc x) (length (course t l) - suc x)))
-
-abbrev pub firstOn : List Trip → (a u b : ℕ) (l : List ℕ) → List Connection
-firstOn t a u b l =
-    concatMap (firstFrom t u b l) (filter (λ x. eqb (stationOn t l x) a) (range 0 (length (course t l))))
-
-unfoldable pub firstRides : List Trip → (a u b : ℕ) → List Connection
-firstRides t a u b = concatMap (firstOn t a u b) (lines t)

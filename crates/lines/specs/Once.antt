@@ -8,11 +8,11 @@ use mathlib.Core.List.{Memᴰ·append-left, Memᴰ·append-right, Memᴰ·map, M
 use Prim.Native.Nat.{ℕ, zero, suc, _<_}
 use native.Mathlib.Omega.{arith}
 use lib.ListN.{length, getD}
+use lib.Dec.{T}
 use Rattle.timetable.specs.Timetable.{Trip}
 use Rattle.lists.specs.Lists.{_∈_, concatMap, range, sort, Rising, Distinct, before}
 use Rattle.lists.specs.Members.{none, cons-cases, append-cases, concatMap-in, concatMap-out, range-in, range-out}
 use Rattle.lists.specs.Order.{before-irrefl}
-use lib.Dec.{T}
 use Rattle.lists.specs.Sorting.{sort-in, sort-out, sort-rising}
 use Rattle.lines.specs.Lines.{behind, lastOf, enter, addTrip, addTrips, tripKey, inOrder, lines}
 

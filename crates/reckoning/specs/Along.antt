@@ -47,20 +47,11 @@ module _ (n : Net) (a t : ℕ) where
     pub ends : Ends changed b v p
 
   -- the least that can have been paid
-  pub record LeastAlong (rev : List ℕ) (x u p : ℕ) : Type 0 where
-    pub reached : Along rev x u p
-    pub least : (q : ℕ) → Along rev x u q → p ≤ q
-
   pub record Least (x u p : ℕ) : Type 0 where
     pub reached : Reaches x u p
     pub least : (q : ℕ) → Reaches x u q → p ≤ q
 
   -- at each boarding of the connection what was paid, p at the first, is the least
-  abbrev pub TightAlong : (rev : List ℕ) (p : ℕ) → Connection → Type 0
-  TightAlong rev p (direct r) = LeastAlong rev (r .from) (r .depart) p
-  TightAlong rev p (onward r w c) =
-      LeastAlong rev (r .from) (r .depart) p × TightAlong (w .from ∷ rev) (p + r .points + w .points) c
-
   abbrev pub Tight : (p : ℕ) → Connection → Type 0
   Tight p (direct r) = Least (r .from) (r .depart) p
   Tight p (onward r w c) = Least (r .from) (r .depart) p × Tight (p + r .points + w .points) c

@@ -1,18 +1,16 @@
--- What the query's code rests on: the connections of one stored sequence, change by change. What was done so far and a
--- connection from there join to one connection, and each connection arises so. Those of a cost that nothing of the same
--- sequence undercuts have paid the least at each boarding.
+-- Riders on their way and connections: what was done so far and a connection from there join to one connection, and
+-- each connection arises so. The connections of one stored sequence are those that end with its changes.
 use mathlib.Core.Path.{_≡_, refl, sym, ap, subst, _∙_}
 use mathlib.Core.Logic.{_↔_}
 use mathlib.Core.List.{List, [], _∷_, reverseAux}
 use Prim.Native.Nat.{ℕ, _+_, _≤_}
 use native.Mathlib.Omega.{arith}
-use Rattle.lists.specs.Lists.{_∈_}
+use Rattle.lists.specs.Lists.{_∈_, tail}
 use Rattle.connections.specs.Rides.{Ride}
 use Rattle.connections.specs.Connections.{Change, Net, Connection, direct, onward, Boards, Changes, Feasible, ready}
 use Rattle.connections.specs.Connections.{arrival, penalty, stations}
-use Rattle.connections.specs.Planner.{tail}
 use Rattle.connections.specs.Feasibility.{earlier}
-use Rattle.reckoning.specs.Along.{Along, Ends, TightAlong}
+use Rattle.reckoning.specs.Along.{Along, Ends}
 
 -- the stations of the changes, the last one first, behind those given
 abbrev pub changedAt : List ℕ → Connection → List ℕ
@@ -30,7 +28,7 @@ stations-read rev (direct r) = refl
 stations-read rev (onward r w c) = stations-read (w .from ∷ rev) c
 
 -- reversed twice
-reverse-twice : (l m : List ℕ) → reverseAux (reverseAux l m) [] ≡ reverseAux m l
+pub reverse-twice : (l m : List ℕ) → reverseAux (reverseAux l m) [] ≡ reverseAux m l
 reverse-twice [] m = refl
 reverse-twice (x ∷ l) m = reverse-twice l (x ∷ m)
 
@@ -116,6 +114,12 @@ module _ (n : Net) (a t : ℕ) where
         pays = omega (arith, j .pays, g .total);
       }
 
+  ends-same : {l k : List ℕ} {b v w p q : ℕ} → l ≡ k → v ≡ w → p ≡ q → Ends n a t l b v p → Ends n a t k b w q
+  ends-same {l} {k} {b} {v} {w} {p} {q} e f g h =
+      let paid = subst (λ x. Ends n a t l b v x) g h in
+      let timed = subst (λ x. Ends n a t l b x q) f paid in
+      subst (λ x. Ends n a t x b w q) e timed
+
   end-from : (rev : List ℕ) (x u p b : ℕ) (c : Connection) → Along n a t rev x u p → Feasible n x u b c
       → Ends n a t (changedAt rev c) b (arrival c) (p + penalty c)
   end-from rev x u p b (direct r) g f =
@@ -160,14 +164,7 @@ module _ (n : Net) (a t : ℕ) where
       }
 
   ends-in : (rev : List ℕ) (b v p : ℕ) → Sequenced rev b v p → Ends n a t rev b v p
-  ends-in rev b v p s =
-      subst
-      (λ k. Ends n a t k b v p)
-      same-changes
-      (subst
-      (λ v. Ends n a t (changedAt [] c) b v p)
-      (s .arrives)
-      (subst (λ p. Ends n a t (changedAt [] c) b (arrival c) p) (s .pays) (connection-ends b c (s .feasible))))
+  ends-in rev b v p s = ends-same same-changes (s .arrives) (s .pays) (connection-ends b c (s .feasible))
     where
       c : Connection
       c = s .connection
@@ -185,47 +182,3 @@ module _ (n : Net) (a t : ℕ) where
   -- theorem 7, for the query: the candidates of a stored sequence, by arrival and penalty, change by change
   pub sequence-ends : (rev : List ℕ) (b v p : ℕ) → Ends n a t rev b v p ↔ Sequenced rev b v p
   sequence-ends rev b v p = (ends-out rev b v p, ends-in rev b v p)
-
-  -- no connection of the same sequence, on from here, arrives with c and has paid less
-  abbrev Uncut : (rev : List ℕ) (p b : ℕ) → Connection → Type 0
-  Uncut rev p b c =
-      (e : Connection) → Feasible n a t b e → stations e ≡ reverseAux rev (stations c) → arrival e ≡ arrival c
-      → p + penalty c ≤ penalty e
-
-  tight-along : (rev : List ℕ) (x u p b : ℕ) (c : Connection) → Along n a t rev x u p → Feasible n x u b c
-      → Uncut rev p b c → TightAlong n a t rev p c
-  tight-along rev x u p b (direct r) g f h =
-      record {
-        reached = boarded rev x u p r g (f .0);
-        least = λ q z. (
-            let j = join rev (r .from) (r .depart) q b (direct r) z (boards-at n r (f .0 .listed), f .1) in
-            omega (arith, h (j .whole) (j .feasible) (j .sequence) (j .arrives), j .pays));
-      }
-  tight-along rev x u p b (onward r w c) g f h = (
-    record {
-      reached = here;
-      least = λ q z. (
-          let j = join rev (r .from) (r .depart) q b (onward r w c) z (boards-at n r (f .0 .listed), f .1, f .2) in
-          omega (arith, h (j .whole) (j .feasible) (j .sequence) (j .arrives), j .pays));
-    },
-    tight-along
-        (w .from ∷ rev)
-        (w .to)
-        (ready r w)
-        (p + r .points + w .points)
-        b
-        c
-        (changed rev p (ready r w) r w here (f .0 .listed) (f .1) (omega arith))
-        (f .2)
-        (λ e i s k. omega (arith, h e i s k)),
-  )
-    where
-      here : Along n a t rev (r .from) (r .depart) p
-      here = boarded rev x u p r g (f .0)
-
-  -- so the candidates of a row are among the tight ones of each sequence that the store holds
-  pub row-tight : (b : ℕ) (c : Connection) → Feasible n a t b c
-      → ((e : Connection) → Feasible n a t b e → stations e ≡ stations c → arrival e ≡ arrival c
-      → penalty c ≤ penalty e)
-      → TightAlong n a t [] 0 c
-  row-tight b c f h = tight-along [] a t 0 b c start f (λ e g i k. omega (arith, h e g i k))

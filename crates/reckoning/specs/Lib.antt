@@ -1,8 +1,14 @@
 pub mod Along
 pub mod AlongLaws
+pub mod Layers
 pub mod Frontiers
 pub mod LeastPenalties
 pub mod Aboard
 pub mod Stops
 pub mod Sets
 pub mod Reckoned
+pub mod Bounds
+pub mod FrontierValues
+pub mod StoredSets
+pub mod Continuing
+pub mod Greedy

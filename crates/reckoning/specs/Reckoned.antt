@@ -40,29 +40,30 @@ lowest-in inf (x ∷ l) h =
     (λ p e. here e)
     (λ p e. there (rw e (lowest-in inf l (omega arith))))
 
+-- a ride and a change lead to boarding at x at minute u
+abbrev leads : (x u : ℕ) → Ride → Change → Bool
+leads x u r w = changeable r w && eqb (w .to) x && leb (ready r w) u
+
+-- the penalty by a last ride and change, and those by a last ride, given the values before
+abbrev price : (val : ℕ → ℕ → ℕ) → Ride → Change → ℕ
+price val r w = val (r .from) (r .depart) + r .points + w .points
+
+abbrev offersBy : Net → (val : ℕ → ℕ → ℕ) (x u : ℕ) → Ride → List ℕ
+offersBy n val x u r = map (price val r) (filter (leads x u r) (n .changes))
+
 module _ (n : Net) (a t inf : ℕ) where
   abbrev starts : (x u : ℕ) → Bool
   starts x u = eqb x a && leb t u
-
-  abbrev leads : (x u : ℕ) → Ride → Change → Bool
-  leads x u r w = changeable r w && eqb (w .to) x && leb (ready r w) u
 
   -- for boardings up to k rides and changes back
   unfoldable reckon : (k x u : ℕ) → ℕ
   reckon zero x u = inf
   reckon (suc k) x u =
-      lowest
-      inf
-      (keep
-      (starts x u)
-      0
-      (concatMap
-      (λ r. map (λ w. reckon k (r .from) (r .depart) + r .points + w .points) (filter (leads x u r) (n .changes)))
-      (n .rides)))
+      let val = reckon k in
+      lowest inf (keep (starts x u) 0 (concatMap (offersBy n val x u) (n .rides)))
 
-  -- the penalties by a last ride, and by it and a last change
   abbrev by : (k x u : ℕ) → Ride → List ℕ
-  by k x u r = map (λ w. reckon k (r .from) (r .depart) + r .points + w .points) (filter (leads x u r) (n .changes))
+  by k = offersBy n (reckon k)
 
   abbrev offers : (k x u : ℕ) → List ℕ
   offers k x u = keep (starts x u) 0 (concatMap (by k x u) (n .rides))
@@ -90,11 +91,7 @@ module _ (n : Net) (a t inf : ℕ) where
           later m =
               let i = concatMap-out (by k x u) (n .rides) m in
               let r = i .0 in
-              let j = Memᴰ·of-map
-              (λ w. reckon k (r .from) (r .depart) + r .points + w .points)
-              (filter (leads x u r) (n .changes))
-              (i .2)
-              in
+              let j = Memᴰ·of-map (price (reckon k) r) (filter (leads x u r) (n .changes)) (i .2) in
               let w = j .0 in
               let f = filter-out (leads x u r) (n .changes) (j .1) in
               let s = f .1 in
@@ -128,9 +125,8 @@ module _ (n : Net) (a t inf : ℕ) where
     reckon-below (suc k) [] x u p h g =
         let here = g .0 in
         let timely = g .1 in
-        let offer : 0 ∈ offers k x u =
-        keep-here (concatMap (by k x u) (n .rides)) (starts x u) refl (search writes)
-        in
+        let free : T (starts x u) = search writes in
+        let offer : 0 ∈ offers k x u = keep-here (concatMap (by k x u) (n .rides)) (starts x u) refl free in
         omega (arith, lowest-below inf 0 (offers k x u) offer)
     reckon-below (suc k) (y ∷ rev) x u p h g =
         let r = g .ride in
@@ -141,13 +137,10 @@ module _ (n : Net) (a t inf : ℕ) where
         let timely = g .timely in
         let f = ok .forward r (g .listed) in
         let low = reckon-below k rev (r .from) (r .depart) (g .paid) (omega arith) (g .below) in
-        let v = reckon k (r .from) (r .depart) + r .points + w .points in
-        let i = Memᴰ·map
-        (λ w. reckon k (r .from) (r .depart) + r .points + w .points)
-        (filter-in (leads x u r) (g .changes .listed) (search writes))
-        in
+        let led : T (leads x u r w) = search writes in
+        let i = Memᴰ·map (price (reckon k) r) (filter-in (leads x u r) (g .changes .listed) led) in
         let offer = keep-there 0 (starts x u) (concatMap-in (by k x u) (g .listed) i) in
-        omega (arith, lowest-below inf v (offers k x u) offer)
+        omega (arith, lowest-below inf (price (reckon k) r w) (offers k x u) offer)
 
     pub least-penalties : LeastPenalties n a t leastPenalty inf
     unfolding leastPenalty

@@ -23,7 +23,7 @@ module _ (t : Timetable) (a d : ℕ) (val : ℕ → ℕ → ℕ) (inf : ℕ) whe
   abbrev stop : (z y : ℕ) → Stop
   stop z y = getD (trip z) y noStop
 
-  abbrev board : Stop → ℕ
+  abbrev pub board : Stop → ℕ
   board s = val (s .station) (s .depart)
 
   -- what the pass over the trip at place z says of those who arrive at the stop behind place y
@@ -53,7 +53,7 @@ module _ (t : Timetable) (a d : ℕ) (val : ℕ → ℕ → ℕ) (inf : ℕ) whe
     pub capped : (x u : ℕ) → val x u ≤ inf
 
   -- the pass finds no more than any ride to there costs
-  value-least : (z x y : ℕ) (r : Ride) → rideAt (trip z) z x (suc y) ≡ r → x < suc y → suc y < length (trip z)
+  pub value-least : (z x y : ℕ) (r : Ride) → rideAt (trip z) z x (suc y) ≡ r → x < suc y → suc y < length (trip z)
       → value z y ≤ val (r .from) (r .depart) + r .points
   value-least z x y r e h g =
       subst

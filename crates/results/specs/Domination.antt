@@ -1,6 +1,7 @@
 -- Domination as arithmetic: neither part larger and the sum smaller. The sum serves proofs only, where `omega` reads
 -- it; no definition adds the two.
 use mathlib.Core.Path.{_≡_}
+use mathlib.Core.Bool.{not}
 use mathlib.Core.Logic.{inl, inr}
 use Prim.Native.Nat.{_+_, _≤_, _<_}
 use native.Mathlib.Omega.{arith, by-contra}
@@ -30,13 +31,15 @@ module _ (x y : Cost) where
 
   pub dominates-in : Better x y → T (dominates x y)
   unfolding dominates
-  dominates-in h =
-      either
-      (ltb (x .minutes) (y .minutes))
-      (λ s. search (both, le→leb, or-l))
-      (λ s.
-      let k : x .points < y .points = omega (arith, nltb→le (x .minutes) (y .minutes) s) in
-      search (both, le→leb, or-r))
+  dominates-in h = either (ltb (x .minutes) (y .minutes)) quicker cheaper
+    where
+      quicker : T (ltb (x .minutes) (y .minutes)) → T (dominates x y)
+      quicker s = search (both, le→leb, or-l)
+
+      cheaper : T (not (ltb (x .minutes) (y .minutes))) → T (dominates x y)
+      cheaper s =
+          let k : x .points < y .points = omega (arith, nltb→le (x .minutes) (y .minutes) s) in
+          search (both, le→leb, or-r)
 
   -- what is no worse and does not dominate has the same cost
   pub undominated-same : NoWorse x y → ¬ T (dominates x y) → x ≡ y

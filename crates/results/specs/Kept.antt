@@ -49,15 +49,17 @@ module _ {X : Type 0} (m : Measure X) (whole kept : List X) (sub : (c : X) → c
 
     pub result-kept : result m kept ≡ result m whole
     result-kept =
-        rising-unique
-        (result m kept)
-        (result m whole)
-        (result-rising m kept)
-        (result-rising m whole)
-        (λ z i. let r = result-out m kept z i in
-        Memᴰ·cast (sym (r .2)) (result-in m whole (r .0) (picked-whole (r .0) (r .1))))
-        (λ z i. let r = result-out m whole z i in
-        Memᴰ·cast (sym (r .2)) (result-in m kept (r .0) (picked-part (r .0) (r .1))))
+        rising-unique (result m kept) (result m whole) (result-rising m kept) (result-rising m whole) to from
+      where
+        to : Inside (result m kept) (result m whole)
+        to z i =
+            let r = result-out m kept z i in
+            Memᴰ·cast (sym (r .2)) (result-in m whole (r .0) (picked-whole (r .0) (r .1)))
+
+        from : Inside (result m whole) (result m kept)
+        from z i =
+            let r = result-out m whole z i in
+            Memᴰ·cast (sym (r .2)) (result-in m kept (r .0) (picked-part (r .0) (r .1)))
 
     pub empty-kept : kept ≡ [] → whole ≡ []
     empty-kept e = go whole refl

@@ -6,3 +6,4 @@ pub mod Nodes
 pub mod RoundTrip
 pub mod WellMade
 pub mod StoredLaws
+pub mod KeptLaws

@@ -7,11 +7,10 @@ use mathlib.Core.List.{Memᴰ·map, Memᴰ·of-map, Memᴰ·cast}
 use Prim.Native.Nat.{ℕ, _≤_, _<_}
 use native.Mathlib.Omega.{arith}
 use lib.ListN.{length}
-use Rattle.lists.specs.Lists.{_∈_, concatMap, sort, Rising}
+use Rattle.lists.specs.Lists.{_∈_, concatMap, sort, Rising, tail}
 use Rattle.lists.specs.Members.{cons-cases, append-cases, concatMap-in, concatMap-out, map-inside}
 use Rattle.lists.specs.Order.{before-cases, before-same}
 use Rattle.lists.specs.Sorting.{Inside, rising-unique, sort-in, sort-out, sort-rising, sort-same}
-use Rattle.connections.specs.Planner.{tail}
 use Rattle.stores.specs.Words.{beginnings, front, keyed, nodes}
 use Rattle.stores.specs.Sequences.{front-shorter, begin-nonempty, begin-front, begin-closed, begin-inside}
 
@@ -125,25 +124,21 @@ module _ (ps : List (List ℕ)) where
       → Inside (concatMap beginnings ps) ns → ns ≡ nodes ps
   unfolding nodes
   nodes-unique ns r f g =
-      sym (tail-keyed ns)
-      ∙ ap
-      (map tail)
-      (rising-unique
-      (map keyed ns)
-      (sort keys)
-      r
-      (sort-rising keys)
-      (λ z m. sort-in (map-inside keyed ns (concatMap beginnings ps) f z m))
-      (λ z m. map-inside keyed (concatMap beginnings ps) ns g z (sort-out keys m)))
+      sym (tail-keyed ns) ∙ ap (map tail) (rising-unique (map keyed ns) (sort keys) r (sort-rising keys) to from)
+    where
+      to : Inside (map keyed ns) (sort keys)
+      to z m = sort-in (map-inside keyed ns (concatMap beginnings ps) f z m)
+
+      from : Inside (sort keys) (map keyed ns)
+      from z m = map-inside keyed (concatMap beginnings ps) ns g z (sort-out keys m)
 
 -- the nodes depend only on which sequences there are
 pub nodes-same : (ps qs : List (List ℕ)) → Inside ps qs → Inside qs ps → nodes ps ≡ nodes qs
 unfolding nodes
-nodes-same ps qs f g =
-    ap
-    (map tail)
-    (sort-same
-    (keys ps)
-    (keys qs)
-    (map-inside keyed (concatMap beginnings ps) (concatMap beginnings qs) (begin-inside ps qs f))
-    (map-inside keyed (concatMap beginnings qs) (concatMap beginnings ps) (begin-inside qs ps g)))
+nodes-same ps qs f g = ap (map tail) (sort-same (keys ps) (keys qs) to from)
+  where
+    to : Inside (keys ps) (keys qs)
+    to = map-inside keyed (concatMap beginnings ps) (concatMap beginnings qs) (begin-inside ps qs f)
+
+    from : Inside (keys qs) (keys ps)
+    from = map-inside keyed (concatMap beginnings qs) (concatMap beginnings ps) (begin-inside qs ps g)

@@ -61,22 +61,15 @@ begin-front x (y ∷ p) = begin-cons x y p (front (y ∷ p)) (begin-front y p)
 pub begin-closed : (q p : List ℕ) → q ∈ beginnings p → front q ∈ [] ∷ beginnings p
 begin-closed q [] m = none m
 begin-closed q (x ∷ []) m = none m
-begin-closed q (x ∷ y ∷ p) m = go (λ r i. begin-closed r (y ∷ p) i)
+begin-closed q (x ∷ y ∷ p) m =
+    begin-cases q x y p m (λ e. here (ap front e)) (λ r i e. next r i e (begin-closed r (y ∷ p) i))
   where
-    go : ((r : List ℕ) → r ∈ beginnings (y ∷ p) → front r ∈ [] ∷ beginnings (y ∷ p))
+    next : (r : List ℕ) → r ∈ beginnings (y ∷ p) → x ∷ r ≡ q → front r ∈ [] ∷ beginnings (y ∷ p)
         → front q ∈ [] ∷ beginnings (x ∷ y ∷ p)
-    go ih =
-        begin-cases
-        q
-        x
-        y
-        p
-        m
-        (λ e. here (ap front e))
-        (λ r i e.
+    next r i e ih =
         Memᴰ·cast
         (ap front (sym e) ∙ front-cons x r (begin-nonempty r (y ∷ p) i))
-        (begin-cons x y p (front r) (ih r i)))
+        (begin-cons x y p (front r) ih)
 
 pub begin-within : (k : ℕ) (q p : List ℕ) → q ∈ beginnings p → Within k p → Within k q
 begin-within k q [] m w = none m

@@ -8,9 +8,9 @@ use Prim.Native.Nat.{ℕ, suc, _≤_}
 use lib.Dec.{eqb}
 use Rattle.timetable.specs.Timetable.{lastMinute}
 use Rattle.lists.specs.Lists.{filter, concatMap, range, sort}
+use Rattle.results.specs.Results.{undominated}
 use Rattle.connections.specs.Connections.{Net, Connection, Optimal, stations}
 use Rattle.connections.specs.Planner.{plannerList, measure}
-use Rattle.results.specs.Results.{undominated}
 
 abbrev pub minutes : List ℕ
 minutes = range 0 (suc lastMinute)

@@ -14,12 +14,12 @@ use Rattle.lists.specs.Tests.{eq→eqb}
 use Rattle.lists.specs.Members.{filter-in, filter-out, concatMap-in, concatMap-out, range-in, range-out}
 use Rattle.lists.specs.Pigeonhole.{Within}
 use Rattle.lists.specs.Sorting.{Inside, sort-in, sort-out, sort-same}
+use Rattle.results.specs.Results.{undominated}
+use Rattle.results.specs.Picks.{undominated-in, undominated-out}
 use Rattle.connections.specs.Rides.{Ride}
 use Rattle.connections.specs.Connections.{Net, Connection, direct, onward, Boards, Feasible, Optimal, departure}
 use Rattle.connections.specs.Connections.{stations}
 use Rattle.connections.specs.Planner.{plannerList, measure}
-use Rattle.results.specs.Results.{undominated}
-use Rattle.results.specs.Picks.{undominated-in, undominated-out}
 use Rattle.connections.specs.Sound.{Sound}
 use Rattle.connections.specs.Feasibility.{has-stations, stations-listed}
 use Rattle.connections.specs.Listed.{optimal-in, optimal-out}
@@ -27,7 +27,7 @@ use Rattle.connections.specs.OptimalLaws.{optimal-own-minute, pattern-short}
 use Rattle.stores.specs.Stored.{minutes, targets, optimals, optimalStations, stored, Target, Sequence}
 use Rattle.stores.specs.Words.{nodes, arcs, entriesMost, readable, storeWords, wellMade}
 use Rattle.stores.specs.RoundTrip.{read-back}
-use Rattle.stores.specs.WellMade.{well-made}
+use Rattle.stores.specs.WellMade.{well-made, words-small}
 
 pub target-in : (n : Net) (a b : ℕ) → Target n a b → b ∈ targets n a
 target-in n a b h =
@@ -94,14 +94,11 @@ module _ (n : Net) (ok : Sound n) where
   found-in : (a : ℕ) (ts bs q : List ℕ) → Found a ts bs q → q ∈ optimalStations n a ts bs
   unfolding optimalStations
   found-in a ts bs q h =
-      let o = optimals-in a (h .minute) (h .target) (h .connection) (h .optimal) in
-      concatMap-in
-      (atMinute a bs)
-      (h .in-minutes)
-      (concatMap-in
-      (λ b. map stations (optimals n a (h .minute) b))
-      (h .in-targets)
-      (Memᴰ·cast (sym (h .is)) (Memᴰ·map stations o)))
+      let t = h .minute in
+      let o = optimals-in a t (h .target) (h .connection) (h .optimal) in
+      let to-target = Memᴰ·cast (sym (h .is)) (Memᴰ·map stations o) in
+      let in-minute = concatMap-in (λ b. map stations (optimals n a t b)) (h .in-targets) to-target in
+      concatMap-in (atMinute a bs) (h .in-minutes) in-minute
 
   pub stored-out : (a : ℕ) (q : List ℕ) → q ∈ stored n a → Sequence n a q
   unfolding stored
@@ -120,22 +117,19 @@ module _ (n : Net) (ok : Sound n) where
 
   pub stored-in : (a : ℕ) (q : List ℕ) → Sequence n a q → q ∈ stored n a
   unfolding stored
-  stored-in a q s =
-      sort-in
-      (found-in
-      a
-      minutes
-      (targets n a)
-      q
-      (record {
-        minute = s .minute;
-        target = s .target;
-        connection = s .connection;
-        in-minutes = range-in 0 (suc lastMinute) (s .minute) (omega arith) (omega (arith, s .in-time));
-        in-targets = target-in n a (s .target) (s .elsewhere);
-        optimal = s .optimal;
-        is = s .is;
-      }))
+  stored-in a q s = sort-in (found-in a minutes (targets n a) q found)
+    where
+      found : Found a minutes (targets n a) q
+      found =
+          record {
+            minute = s .minute;
+            target = s .target;
+            connection = s .connection;
+            in-minutes = range-in 0 (suc lastMinute) (s .minute) (omega arith) (omega (arith, s .in-time));
+            in-targets = target-in n a (s .target) (s .elsewhere);
+            optimal = s .optimal;
+            is = s .is;
+          }
 
   -- the second half of demand 2: which sequences are stored
   pub stored-exactly : (a : ℕ) (q : List ℕ) → q ∈ stored n a ↔ Sequence n a q
@@ -149,11 +143,11 @@ module _ (n : Net) (ok : Sound n) where
   boards-departs a t r b =
       Memᴰ·map (λ r. r .depart) (filter-in (λ r. eqb (r .from) a) (b .listed) (eq→eqb (r .from) a (b .here)))
 
-  departs : (a t b : ℕ) (c : Connection) → Feasible n a t b c → departure c ∈ departures n a
+  pub departs : (a t b : ℕ) (c : Connection) → Feasible n a t b c → departure c ∈ departures n a
   departs a t b (direct r) f = boards-departs a t r (f .0)
   departs a t b (onward r w c) f = boards-departs a t r (f .0)
 
-  departures-in-time : (a t : ℕ) → t ∈ departures n a → t ∈ minutes
+  pub departures-in-time : (a t : ℕ) → t ∈ departures n a → t ∈ minutes
   unfolding departures
   departures-in-time a t m =
       let r = Memᴰ·of-map (λ r. r .depart) (filter (λ r. eqb (r .from) a) (n .rides)) m in
@@ -230,6 +224,11 @@ module _ (n : Net) (ok : Sound n) where
         (λ q. suc (length q) ≤ stationsMost)
         (s .is)
         (pattern-short n ok a (s .minute) (s .target) (s .connection) (s .optimal) other first last)
+
+    pub store-small : length (nodes (stored n a)) ≤ entriesMost → length (arcs (stored n a)) ≤ entriesMost
+        → (x : ℕ) → x ∈ storeWords n a → x ≤ entriesMost
+    unfolding storeWords
+    store-small = words-small (n .stations) (stored n a) (stored-full a) stored-within (ok .few)
 
     pub store-well-made : (post : List ℕ) → length (nodes (stored n a)) ≤ entriesMost
         → length (arcs (stored n a)) ≤ entriesMost → T (wellMade (n .stations) (storeWords n a ++ post))

@@ -7,9 +7,9 @@ use Prim.Native.Nat.{ℕ, zero, suc, _+_, _*_}
 use lib.Dec.{leb, ltb}
 use lib.ListN.{length, getD, drop}
 use Rattle.timetable.specs.Timetable.{stationsMost}
-use Rattle.lists.specs.Lists.{filter, any, concatMap, before, same, sort}
+use Rattle.lists.specs.Lists.{filter, any, concatMap, before, same, sort, tail}
 use Rattle.connections.specs.Connections.{Net, Connection, stations}
-use Rattle.connections.specs.Planner.{plannerList, rowsOf, tail}
+use Rattle.connections.specs.Planner.{plannerList, rowsOf}
 use Rattle.stores.specs.Stored.{stored}
 
 -- "A prefix node is a stored pattern without its target, or a shorter beginning of one, of at least two stations": the

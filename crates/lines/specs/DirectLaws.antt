@@ -19,8 +19,8 @@ use Rattle.connections.specs.Rides.{Ride, rideAt}
 use Rattle.connections.specs.Connections.{Net, net, Connection, direct, onward, Feasible, arrival, penalty, cost}
 use Rattle.connections.specs.Planner.{boardable, measure, rideCount}
 use Rattle.connections.specs.RideLaws.{Taken, rides-in, rides-out}
-use Rattle.lines.specs.Lines.{behind, lines, course, stationOn, directs, leaves, firstTo, firstFrom, firstOn}
-use Rattle.lines.specs.Lines.{firstRides}
+use Rattle.lines.specs.Lines.{behind, lines, course, stationOn}
+use Rattle.lines.specs.DirectRides.{directs, inTime, firstTo, firstFrom, firstOn, firstRides}
 use Rattle.lines.specs.Behind.{behind-at, behind-points}
 use Rattle.lines.specs.Ordered.{lines-good, line-length, line-stop, first-covers}
 use Rattle.lines.specs.Once.{line-of, trip-listed}
@@ -47,15 +47,15 @@ module _ (t : List Trip) where
     z : ℕ
     listed : line ∈ lines t
     pair : Pair a b line x y
-    first : z ∈ firstOf (leaves t u x) line
+    first : z ∈ firstOf (inTime t u x) line
     is : direct (rideAt (getD t z []) z x y) ≡ c
 
   abbrev boardsAt : (a : ℕ) (l : List ℕ) (x : ℕ) → Bool
   boardsAt a l x = eqb (stationOn t l x) a
 
-  first-out′ : (a u b : ℕ) (c : Connection) → c ∈ firstRides t a u b → FirstRide a u b c
+  first-ride : (a u b : ℕ) (c : Connection) → c ∈ firstRides t a u b → FirstRide a u b c
   unfolding firstRides
-  first-out′ a u b c m =
+  first-ride a u b c m =
       let i = concatMap-out (firstOn t a u b) (lines t) m in
       let l = i .0 in
       let size = length (course t l) in
@@ -64,7 +64,7 @@ module _ (t : List Trip) where
       let later = range (suc x) (size - suc x) in
       let k = concatMap-out (firstTo t u l x) (filter (boardsAt b l) later) (j .2) in
       let y = k .0 in
-      let w = Memᴰ·of-map (λ z. direct (rideAt (getD t z []) z x y)) (firstOf (leaves t u x) l) (k .2) in
+      let w = Memᴰ·of-map (λ z. direct (rideAt (getD t z []) z x y)) (firstOf (inTime t u x) l) (k .2) in
       let fx = filter-out (boardsAt a l) (range 0 size) (j .1) in
       let fy = filter-out (boardsAt b l) later (k .1) in
       let h = range-out (suc x) (size - suc x) y (fy .0) in
@@ -85,7 +85,7 @@ module _ (t : List Trip) where
         is = w .2;
       }
 
-  first-in : (a u b : ℕ) (l : List ℕ) (x y z : ℕ) → l ∈ lines t → Pair a b l x y → z ∈ firstOf (leaves t u x) l
+  first-in : (a u b : ℕ) (l : List ℕ) (x y z : ℕ) → l ∈ lines t → Pair a b l x y → z ∈ firstOf (inTime t u x) l
       → direct (rideAt (getD t z []) z x y) ∈ firstRides t a u b
   unfolding firstRides
   first-in a u b l x y z m p f =
@@ -94,27 +94,22 @@ module _ (t : List Trip) where
       let g = p .inside in
       let at-x = range-in 0 size x (omega arith) (omega arith) in
       let at-y = range-in (suc x) (size - suc x) y (omega arith) (omega arith) in
-      concatMap-in
-      (firstOn t a u b)
-      m
-      (concatMap-in
-      (firstFrom t u b l)
-      (filter-in (boardsAt a l) at-x (eq→eqb (stationOn t l x) a (p .board)))
-      (concatMap-in
-      (firstTo t u l x)
-      (filter-in (boardsAt b l) at-y (eq→eqb (stationOn t l y) b (p .alight)))
-      (Memᴰ·map (λ z. direct (rideAt (getD t z []) z x y)) f)))
+      let boards = filter-in (boardsAt a l) at-x (eq→eqb (stationOn t l x) a (p .board)) in
+      let alights = filter-in (boardsAt b l) at-y (eq→eqb (stationOn t l y) b (p .alight)) in
+      let ride = Memᴰ·map (λ z. direct (rideAt (getD t z []) z x y)) f in
+      let from-x = concatMap-in (firstTo t u l x) alights ride in
+      concatMap-in (firstOn t a u b) m (concatMap-in (firstFrom t u b l) boards from-x)
 
 some-rides : (c : Connection) → 1 ≤ rideCount c
 some-rides (direct r) = omega arith
 some-rides (onward r w c) = omega arith
 
-module _ (tt′ : Timetable) (a u b : ℕ) where
+module _ (timetable : Timetable) (a u b : ℕ) where
   abbrev t : List Trip
-  t = tt′ .trips
+  t = timetable .trips
 
   abbrev n : Net
-  n = net tt′
+  n = net timetable
 
   abbrev wanted : Ride → Bool
   wanted r = boardable a u r && eqb (r .to) b
@@ -154,23 +149,19 @@ module _ (tt′ : Timetable) (a u b : ℕ) where
   -- a first ride is a direct ride
   first-direct : (c : Connection) → c ∈ firstRides t a u b → c ∈ directs n a u b
   first-direct c m =
-      let f = first-out′ t a u b c m in
+      let f = first-ride t a u b c m in
       let z = f .z in
       let o = lines-good t (f .line) (f .listed) in
       let p = f .pair in
-      let k = first-out (leaves t u (f .x)) (f .line) (f .first) in
+      let k = first-out (inTime t u (f .x)) (f .line) (f .first) in
       let e = line-length t (f .line) z o (k .0) in
       let i = p .inside in
       let z-listed = trip-listed t z (record { line = f .line; listed = f .listed; member = k .0 }) in
       let from = sym (line-stop t (f .line) z (f .x) o (k .0) .station) ∙ p .board in
       let to = sym (line-stop t (f .line) z (f .y) o (k .0) .station) ∙ p .alight in
       let timely = k .1 in
-      Memᴰ·cast
-      (sym (f .is))
-      (direct-in
-      (rideAt (getD t z []) z (f .x) (f .y))
-      (rides-in t z (f .x) (f .y) z-listed (p .later) (omega arith))
-      (search writes))
+      let listed = rides-in t z (f .x) (f .y) z-listed (p .later) (omega arith) in
+      Memᴰ·cast (sym (f .is)) (direct-in (rideAt (getD t z []) z (f .x) (f .y)) listed (search writes))
 
   record Covered (c : Connection) : Type 0 where
     one : Connection
@@ -202,8 +193,8 @@ module _ (tt′ : Timetable) (a u b : ℕ) where
           let from : r .from ≡ a = search reads in
           let to : r .to ≡ b = search reads in
           let timely : T (leb u (r .depart)) = search reads in
-          let leaves-z : T (leaves t u (k .x) z) = subst (λ v. T (leb u (v .depart))) (sym (k .is)) timely in
-          let f = first-covers t (leaves t u (k .x)) l (o .ordered) z (s .member) leaves-z in
+          let z-leaves : T (inTime t u (k .x) z) = subst (λ v. T (leb u (v .depart))) (sym (k .is)) timely in
+          let f = first-covers t (inTime t u (k .x)) l (o .ordered) z (s .member) z-leaves in
           let q = lemma-1 t (f .one) z (k .x) (k .y) (f .before) in
           let arrives = ap (λ v. v .arrive) (k .is) in
           let points = ap (λ v. v .points) (k .is) in

@@ -1,0 +1,258 @@
+#!/usr/bin/env python3
+"""A cross-check of the definitions themselves.
+
+This program lists connections by brute force on small random timetables, in plain Python and from document 01 alone, and
+works out rows, stores, lines and calls. It writes each answer as an equation about the definitions in crates/*/specs and
+has the checker close every one by computation, in a scratch copy of the repository. It proves nothing; it is how we see that
+the definitions say what we mean. Not part of the gate: stores are computed from all 2,880 minutes, so it takes minutes.
+
+    python3 tests/crosscheck/crosscheck.py [seed ..]
+
+Without seeds it takes a handful in which every part of the rule for equal cost has something to settle.
+"""
+
+import os
+import random
+import re
+import shutil
+import subprocess
+import sys
+import tempfile
+
+LAST_MINUTE = 2879
+SEEDS = [11, 15, 18, 2296]
+
+
+def another_run(rnd, trip):
+    """A trip over the same stops: later, overtaking, or in a tie with the first."""
+    run = [list(stop) for stop in trip]
+    kind = rnd.choice(["later", "overtaking", "tied", "equal"])
+    shift = rnd.randint(0, 3) if kind in ("later", "overtaking") else 0
+    for i, stop in enumerate(run):
+        stop[1] += shift if i else 0
+        stop[2] += shift if i + 1 < len(run) else 0
+    if kind == "overtaking" and run[-1][1] > run[-2][2] + 1:
+        run[-1][1] -= 1
+    if kind == "tied":
+        # leaves earlier and arrives together
+        run[0][2] = max(0, run[0][2] - rnd.randint(1, 2))
+    return run
+
+
+def random_timetable(seed):
+    """Stations as (change minutes, change penalty); trips as lists of [station, arrive, depart, ride penalty]."""
+    rnd = random.Random(seed)
+    stations = [(rnd.randint(0, 4), rnd.randint(1, 3)) for _ in range(rnd.randint(3, 5))]
+    trips = []
+    for _ in range(rnd.randint(3, 6)):
+        if trips and rnd.random() < 0.5:
+            run = another_run(rnd, rnd.choice(trips))
+            if run[-1][1] <= LAST_MINUTE:
+                trips.append(run)
+                continue
+        minute = rnd.randint(0, 12) if rnd.random() < 0.9 else rnd.randint(2840, 2850)
+        run, station, calls = [], 0, rnd.randint(2, 4)
+        for i in range(calls):
+            station = rnd.choice([s for s in range(1, len(stations) + 1) if s != station])
+            leave = minute + rnd.randint(0, 2)
+            last = i + 1 == calls
+            run.append([station, minute if i else 0, 0 if last else leave, 0 if last else rnd.randint(0, 2)])
+            minute = leave + rnd.randint(1, 4)
+        trips.append(run)
+    return stations, trips
+
+
+class Planner:
+    """Document 01, by listing."""
+
+    def __init__(self, stations, trips):
+        self.stations, self.trips = stations, trips
+        self.ties = {"departure": 0, "rides": 0, "numbers": 0}
+        self.rides = []
+        for number, trip in enumerate(trips, 1):
+            for i, board in enumerate(trip):
+                for j in range(i + 1, len(trip)):
+                    self.rides.append(
+                        dict(
+                            shown=(number, i + 1, j + 1), start=board[0], end=trip[j][0], leave=board[2],
+                            arrive=trip[j][1], penalty=sum(stop[3] for stop in trip[i:j])))
+
+    def connections(self, here, minute, target, so_far=()):
+        for ride in self.rides:
+            if ride["start"] == here and ride["leave"] >= minute:
+                connection = so_far + (ride,)
+                if ride["end"] == target:
+                    yield connection
+                wait = self.stations[ride["end"] - 1][0]
+                yield from self.connections(ride["end"], ride["arrive"] + wait, target, connection)
+
+    def cost(self, connection, minute):
+        changes = sum(self.stations[ride["end"] - 1][1] for ride in connection[:-1])
+        return connection[-1]["arrive"] - minute, sum(ride["penalty"] for ride in connection) + changes
+
+    def pattern(self, source, connection):
+        return (source,) + tuple(ride["end"] for ride in connection)
+
+    def best_costs(self, connections, minute):
+        costs = {self.cost(c, minute) for c in connections}
+        return {x for x in costs if not any(y != x and y[0] <= x[0] and y[1] <= x[1] for y in costs)}
+
+    def rows(self, connections, minute):
+        rows = []
+        for cost in sorted(self.best_costs(connections, minute)):
+            tied = [c for c in connections if self.cost(c, minute) == cost]
+            shown = min(tied, key=lambda c: (-c[0]["leave"], len(c), [ride["shown"] for ride in c]))
+            latest = [c for c in tied if c[0]["leave"] == shown[0]["leave"]]
+            fewest = [c for c in latest if len(c) == len(shown)]
+            self.ties["departure"] += len(latest) < len(tied)
+            self.ties["rides"] += len(fewest) < len(latest)
+            self.ties["numbers"] += len(fewest) > 1
+            rows.append([*cost, len(shown)] + [number for ride in shown for number in ride["shown"]])
+        return rows
+
+    def patterns(self, source):
+        found = set()
+        for target in range(1, len(self.stations) + 1):
+            if target != source:
+                every = list(self.connections(source, 0, target))
+                for minute in range(LAST_MINUTE + 1):
+                    now = [c for c in every if c[0]["leave"] >= minute]
+                    best = self.best_costs(now, minute)
+                    found |= {self.pattern(source, c) for c in now if self.cost(c, minute) in best}
+        return found
+
+    def words(self, source, patterns):
+        nodes = {p[:i] for p in patterns for i in range(2, len(p))}
+        nodes = sorted(nodes, key=lambda node: (len(node), node))
+        number = {(source,): 0, **{node: i for i, node in enumerate(nodes, 1)}}
+        arcs = sorted((p[-1], number[p[:-1]]) for p in patterns)
+        told = [(node[-1], number[node[:-1]]) for node in nodes] + arcs
+        return [len(nodes), len(arcs)] + [word for entry in told for word in entry]
+
+    def lines(self):
+        lines = []
+        for z in sorted(range(len(self.trips)), key=lambda z: (self.trips[z][0][2], z)):
+            for line in lines:
+                last, trip = self.trips[line[-1]], self.trips[z]
+                if len(last) == len(trip) and all(
+                        a[0] == b[0] and a[3] == b[3] and a[1] <= b[1] and a[2] <= b[2] for a, b in zip(last, trip)):
+                    line.append(z)
+                    break
+            else:
+                lines.append([z])
+        return lines
+
+    def calls(self, station):
+        return [[i, p] for i, line in enumerate(self.lines(), 1)
+                for p, stop in enumerate(self.trips[line[0]], 1) if stop[0] == station]
+
+
+def numbers(row):
+    return " ∷ ".join([str(x) for x in row] + ["[]"])
+
+
+def table(rows):
+    return " ∷ ".join(["(%s)" % numbers(row) for row in rows] + ["[]"])
+
+
+def as_timetable(stations, trips):
+    listed = " ∷ ".join(["station %d %d" % s for s in stations] + ["[]"])
+    runs = " ∷ ".join(["(%s)" % " ∷ ".join(["stop %d %d %d %d" % tuple(s) for s in trip] + ["[]"]) for trip in trips] + ["[]"])
+    return "record { stations = %s; trips = %s }" % (listed, runs)
+
+
+IMPORTS = """-- Written by the cross-check; each equation was worked out by listing.
+use mathlib.Core.Path.{_≡_, refl}
+use mathlib.Core.Bool.{true, false}
+use mathlib.Core.List.{List, [], _∷_}
+use Rattle.timetable.specs.Timetable.{Timetable, validStation, listed, leaves, ends, follows, runs}
+use Rattle.timetable.specs.Timetable.{validTrip, validStations, validTrips, counted, valid}
+use Rattle.results.specs.Results.{dominates, equal, result}
+use Rattle.connections.specs.Rides.{ridePoints, ridesOf}
+use Rattle.connections.specs.Connections.{net, changesOf}
+use Rattle.connections.specs.Planner.{connections, plannerList, tieKey, rowsOf}
+use Rattle.connections.specs.Worked.{station, stop, planned}
+use Rattle.stores.specs.Stored.{optimals, optimalStations, stored}
+use Rattle.stores.specs.Words.{nodes, arcs, encode, storeWords, readable, wellMade, keptList, answer}
+use Rattle.lines.specs.Lines.{inOrder, lines, lineNumbers, calls}
+use Rattle.lines.specs.DirectRides.{directs, directRows}
+"""
+
+OPENED = """validStation listed leaves ends follows runs validTrip validStations validTrips counted valid dominates equal result
+    ridePoints ridesOf changesOf connections plannerList tieKey rowsOf optimals optimalStations stored nodes arcs encode
+    storeWords readable wellMade keptList answer inOrder lines calls directs directRows"""
+
+
+def equations(seed):
+    """What is claimed of one timetable: pairs of a definition's call and the value worked out by listing."""
+    rnd = random.Random(-seed)
+    stations, trips = random_timetable(seed)
+    planner, name = Planner(stations, trips), "G%d" % seed
+    minutes = [1, rnd.randint(2, 12)]
+    claims = [("valid %s" % name, "true"),
+              ("lineNumbers (%s .trips)" % name, table([[z + 1 for z in line] for line in planner.lines()]))]
+    for a in range(1, len(stations) + 1):
+        claims.append(("calls (%s .trips) %d" % (name, a), table(planner.calls(a))))
+        for b in range(1, len(stations) + 1):
+            for m in minutes if a != b else []:
+                every = list(planner.connections(a, m, b))
+                single = [c for c in every if len(c) == 1]
+                claims.append(("planned %s %d %d %d" % (name, a, m, b), table(planner.rows(every, m))))
+                claims.append(("directRows (net %s) %d %d %d" % (name, a, m, b), table(planner.rows(single, m))))
+    source = rnd.randint(1, len(stations))
+    patterns = planner.patterns(source)
+    claims.append(("storeWords (net %s) %d" % (name, source), numbers(planner.words(source, patterns))))
+    # a store with sequences struck
+    left = {p for p in patterns if rnd.random() < 0.6}
+    words = numbers(planner.words(source, left))
+    claims.append(("wellMade %d (%s)" % (len(stations), words), "true"))
+    for b in range(1, len(stations) + 1):
+        if b != source:
+            kept = [c for c in planner.connections(source, minutes[0], b) if planner.pattern(source, c) in left]
+            claims.append(("answer (net %s) (%s) %d %d %d" % (name, words, source, minutes[0], b),
+                           table(planner.rows(kept, minutes[0]))))
+    return name, as_timetable(stations, trips), claims, planner.ties
+
+
+def main():
+    seeds = [int(word) for word in sys.argv[1:]] or SEEDS
+    root = os.path.dirname(os.path.dirname(os.path.dirname(os.path.abspath(__file__))))
+    if shutil.which("rt") is None:
+        sys.exit("crosscheck: the toolchain's rt is not on PATH")
+    text, where, ties = [IMPORTS], {}, {}
+    for seed in seeds:
+        name, timetable, claims, settled = equations(seed)
+        ties = {rule: ties.get(rule, 0) + n for rule, n in settled.items()}
+        text.append("%s : Timetable\n%s = %s\n" % (name, name, timetable))
+        for i, (call, value) in enumerate(claims):
+            text.append("%s-%d : %s ≡ %s\nunfolding %s %s\n%s-%d = refl\n" % (name, i, call, value, name, OPENED, name, i))
+            where["%s-%d" % (name, i)] = (call, value)
+    with tempfile.TemporaryDirectory() as scratch:
+        for crate in ("timetable", "lists", "results", "connections", "stores", "lines"):
+            shutil.copytree(os.path.join(root, "crates", crate), os.path.join(scratch, "crates", crate))
+        with open(os.path.join(root, "crates.txt")) as listed:
+            kept = [line for line in listed if line.split(":")[0] in os.listdir(os.path.join(scratch, "crates"))]
+        with open(os.path.join(scratch, "crates.txt"), "w") as listed:
+            listed.writelines(kept + ["equations: timetable lists results connections stores lines\n"])
+        os.makedirs(os.path.join(scratch, "crates", "equations", "src"))
+        os.makedirs(os.path.join(scratch, "crates", "equations", "specs"))
+        for path, content in (("src/lib.rt", "// The cross-check's equations.\n"), ("specs/Lib.antt", "pub mod Equations\n"),
+                              ("specs/Equations.antt", "\n".join(text))):
+            with open(os.path.join(scratch, "crates", "equations", path), "w") as file:
+                file.write(content)
+        run = subprocess.run(["rt", "check", "equations"], cwd=scratch, capture_output=True, text=True)
+    said = run.stdout + run.stderr
+    wrong = sorted(set(re.findall(r"error: `(G\d+-\d+)`", said)))
+    for name in wrong:
+        print("not closed: %s ≡ %s" % where[name])
+    if run.returncode != 0 and not wrong:
+        print(said[-3000:])
+    rows = sum(value.count("(") for _, value in where.values())
+    print("crosscheck: %d timetables, %d equations, %d rows; ties settled by departure %d, rides %d, numbers %d"
+          % (len(seeds), len(where), rows, ties["departure"], ties["rides"], ties["numbers"]))
+    print("crosscheck: %d not closed by the checker: %s" % (len(wrong), "AGREED" if run.returncode == 0 else "NOT AGREED"))
+    sys.exit(run.returncode)
+
+
+if __name__ == "__main__":
+    main()
