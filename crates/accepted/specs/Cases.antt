@@ -10,6 +10,7 @@ use Rattle.text.specs.Piece.{pieces}
 use Rattle.text.specs.Range.{inRange}
 use Rattle.text.specs.Shape.{stationOf, stationShape, arriveFits, departFits, filled, stopOf, stopShape, shapeOf}
 use Rattle.timetable.specs.Timetable.{Station, Stop, Timetable}
+use Rattle.timetable.specs.Worked.{station, stop, variant, M}
 use Rattle.timetable.specs.Words.{stationWords, stopWords, startWords, words}
 use Rattle.reading.specs.Draft.{stationNumber, stopFits, stopNumber}
 use Rattle.reading.specs.Reading.{Outcome, Accepted, Refused, ended, readFrom, readLines, reading}
@@ -65,31 +66,13 @@ textM =
     ++ bytes "T,2,1,2,,503,0\nT,2,2,3,520,,\n"
     ++ bytes "T,3,1,2,,502,0\nT,3,2,3,515,,\n"
 
-abbrev station : (minutes points : ℕ) → Station
-station minutes points = record { minutes = minutes; points = points }
-
-abbrev stop : (station arrive depart points : ℕ) → Stop
-stop station arrive depart points =
-    record { station = station; arrive = arrive; depart = depart; points = points }
-
-unfoldable pub M : Timetable
-M =
-    record {
-      stations = station 2 10 ∷ station 3 10 ∷ station 5 10 ∷ [];
-      trips =
-          (stop 1 0 480 0 ∷ stop 2 500 501 0 ∷ stop 3 560 0 0 ∷ [])
-          ∷ (stop 2 0 503 0 ∷ stop 3 520 0 0 ∷ [])
-          ∷ (stop 2 0 502 0 ∷ stop 3 515 0 0 ∷ [])
-          ∷ [];
-    }
-
 pub M-accepted : reading textM ≡ Accepted M 10
-unfolding readAll bytes textM M
+unfolding readAll bytes textM M variant
 M-accepted = refl
 
 -- the text of M is the one that is written out from it
 pub M-written : textOf M ≡ textM
-unfolding textOf linesOf stationLines tripLines stopLines stationLine stopLine digits lined fielded bytes textM M
+unfolding textOf linesOf stationLines tripLines stopLines stationLine stopLine digits lined fielded bytes textM M variant
 M-written = refl
 
 -- three stations, three trips, seven stops; stations; the stops of each trip; where the trips begin, and the end
@@ -100,7 +83,7 @@ pub M-words : words M
     ++ (2 ∷ 0 ∷ 503 ∷ 0 ∷ 3 ∷ 520 ∷ 0 ∷ 0 ∷ [])
     ++ (2 ∷ 0 ∷ 502 ∷ 0 ∷ 3 ∷ 515 ∷ 0 ∷ 0 ∷ [])
     ++ (0 ∷ 3 ∷ 5 ∷ 7 ∷ [])
-unfolding words stationWords stopWords startWords M
+unfolding words stationWords stopWords startWords M variant
 M-words = refl
 
 -- ---- "Run only": time 2,879 passes, 2,880 gives 3

@@ -5,32 +5,11 @@ use Prim.Native.Nat.{ℕ}
 use lib.Dec.{T}
 use Rattle.timetable.specs.Timetable.{Station, Stop, Timetable, validStation, listed, leaves, ends, follows, runs}
 use Rattle.timetable.specs.Timetable.{validTrip, validStations, validTrips, counted, valid}
+use Rattle.timetable.specs.Worked.{station, stop, variant, M}
 use Rattle.results.specs.Results.{dominates, equal, result}
 use Rattle.connections.specs.Rides.{ridePoints, ridesOf}
 use Rattle.connections.specs.Connections.{net, changesOf}
 use Rattle.connections.specs.Planner.{connections, plannerList, tieKey, rowsOf}
-
-abbrev pub station : (minutes points : ℕ) → Station
-station m p = record { minutes = m; points = p }
-
-abbrev pub stop : (station arrive depart points : ℕ) → Stop
-stop s a d p = record { station = s; arrive = a; depart = d; points = p }
-
--- "Timetable M", but for the change minutes at station 2 and the arrival of trip 2
-unfoldable pub variant : (change arrival : ℕ) → Timetable
-variant c v =
-    record {
-      stations = station 2 10 ∷ station c 10 ∷ station 5 10 ∷ [];
-      trips =
-          (stop 1 0 480 0 ∷ stop 2 500 501 0 ∷ stop 3 560 0 0 ∷ [])
-          ∷ (stop 2 0 503 0 ∷ stop 3 v 0 0 ∷ [])
-          ∷ (stop 2 0 502 0 ∷ stop 3 515 0 0 ∷ [])
-          ∷ [];
-    }
-
-unfoldable pub M : Timetable
-unfolding variant
-M = variant 3 520
 
 -- it is accepted, so that the theorems hold of it
 pub M-valid : T (valid M)

@@ -1,17 +1,22 @@
--- Document 01: "Cases a to k stand together under one theorem about the definitions." Here are a to j on timetable M, a
--- part for each; k speaks of reading and joins them there.
+-- Document 01: "Cases a to k stand together under one theorem about the definitions." Here they are, on timetable M, a
+-- part for each; M is the timetable that its text is read to.
 use mathlib.Core.Path.{_≡_}
 use mathlib.Core.List.{[], _∷_}
 use lib.ListN.{length}
 use Rattle.connections.specs.Connections.{net}
 use Rattle.connections.specs.Planner.{plannerList}
-use Rattle.connections.specs.Worked.{variant, M, planned, oneRide, twoRides, case-a, case-a-none, case-g, case-h}
+use Rattle.timetable.specs.Worked.{variant, M}
+use Rattle.connections.specs.Worked.{planned, oneRide, twoRides, case-a, case-a-none, case-g, case-h}
 use Rattle.stores.specs.Words.{storeWords, answer}
 use Rattle.stores.specs.Worked.{case-b, case-c, case-d, case-i, case-j}
+use Rattle.reading.specs.Reading.{Accepted, Refused, reading}
+use Rattle.accepted.specs.Cases.{textM, M-accepted, case-k}
 use Rattle.lines.specs.Lines.{lines, lineNumbers}
 use Rattle.lines.specs.Worked.{case-e, case-f}
 
 pub record Cases : Type 0 where
+  -- "Timetable M"
+  pub m : reading textM ≡ Accepted M 10
   -- "(a) The two queries above."
   pub a : planned M 1 470 3 ≡ twoRides 50 10 1 1 2 2 1 2 ∷ oneRide 90 0 1 1 3 ∷ []
   pub a-none : plannerList (net M) 1 481 3 ≡ []
@@ -29,10 +34,13 @@ pub record Cases : Type 0 where
   pub i : storeWords (net (variant 4 520)) 1 ≡ 0 ∷ 2 ∷ 2 ∷ 0 ∷ 3 ∷ 0 ∷ []
   -- "(j) The store 0,1,3,0 given for source 1: query at 470 shows only 90,0."
   pub j : answer (net M) (0 ∷ 1 ∷ 3 ∷ 0 ∷ []) 1 470 3 ≡ oneRide 90 0 1 1 3 ∷ []
+  -- "(k) Empty text: 7, line 1."
+  pub k : reading [] ≡ Refused 7 1
 
 pub cases : Cases
 cases =
     record {
+      m = M-accepted;
       a = case-a;
       a-none = case-a-none;
       b = case-b;
@@ -44,4 +52,5 @@ cases =
       h = case-h;
       i = case-i;
       j = case-j;
+      k = case-k;
     }

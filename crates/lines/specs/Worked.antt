@@ -2,7 +2,7 @@
 use mathlib.Core.Path.{_≡_, refl}
 use mathlib.Core.List.{[], _∷_}
 use lib.ListN.{length}
-use Rattle.connections.specs.Worked.{variant, M}
+use Rattle.timetable.specs.Worked.{variant, M}
 use Rattle.lines.specs.Lines.{inOrder, lines, lineNumbers, calls}
 
 pub case-e : lineNumbers (M .trips) ≡ (1 ∷ []) ∷ (3 ∷ 2 ∷ []) ∷ []

@@ -9,7 +9,8 @@ use Rattle.results.specs.Results.{dominates, equal, result}
 use Rattle.connections.specs.Rides.{ridePoints, ridesOf}
 use Rattle.connections.specs.Connections.{net, changesOf}
 use Rattle.connections.specs.Planner.{connections, plannerList, tieKey, rowsOf}
-use Rattle.connections.specs.Worked.{variant, M, oneRide, station, stop}
+use Rattle.timetable.specs.Worked.{variant, M, station, stop}
+use Rattle.connections.specs.Worked.{oneRide}
 use Rattle.stores.specs.Stored.{optimals, optimalStations, stored}
 use Rattle.stores.specs.Words.{nodes, arcs, encode, storeWords, readable, wellMade, keptList, answer}
 

@@ -3,3 +3,4 @@ pub mod Words
 pub mod WordLaws
 pub mod Check
 pub mod Access
+pub mod Worked
