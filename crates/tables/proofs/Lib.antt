@@ -3,5 +3,8 @@ pub mod TimesLaws
 pub mod CourseLaws
 pub mod BlockLaws
 pub mod HoldLaws
+pub mod SectionLaws
 pub mod BlocksLaws
 pub mod CallLaws
+pub mod StationLaws
+pub mod PairLaws

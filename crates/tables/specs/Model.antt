@@ -8,7 +8,7 @@ use lib.Dec.{eqb}
 use lib.ListN.{length, getD, take, drop}
 use Rattle.lists.specs.Lists.{concatMap, range}
 use Rattle.timetable.specs.Timetable.{Stop}
-use Rattle.timetable.specs.Words.{tripCount, stopAt, startAt, timetableOf}
+use Rattle.timetable.specs.Words.{stationCount, tripCount, stopAt, startAt, timetableOf}
 use Rattle.lines.specs.Lines.{lines, headOf}
 use Rattle.lines.specs.Once.{onLines}
 use Rattle.grouping.specs.Grouped.{endsFrom}
@@ -72,9 +72,14 @@ lineOf numbers begin count = take count (drop begin numbers)
 unfoldable pub linesAt : List ℕ → List (List ℕ)
 linesAt w = lines ((timetableOf w) .trips)
 
+-- what is written for each of the lines given, the first of which stands at place i
+unfoldable pub sections : (ℕ → List ℕ → List ℕ) → (i : ℕ) → List (List ℕ) → List ℕ
+sections g i [] = []
+sections g i (l ∷ ls) = g i l ++ sections g (i + 1) ls
+
 -- all blocks, and where each begins, the first at index k
-unfoldable pub blocksAt : List ℕ → List (List ℕ) → List ℕ
-blocksAt w ls = concatMap (blockAt w) ls
+abbrev pub blocksAt : List ℕ → List (List ℕ) → List ℕ
+blocksAt w ls = sections (λ i l. blockAt w l) 0 ls
 
 unfoldable pub placesFrom : List ℕ → (k : ℕ) → List (List ℕ) → List ℕ
 placesFrom w k [] = []
@@ -100,17 +105,34 @@ unfoldable pub lineCallsAt : List ℕ → (z line station k n : ℕ) → List �
 lineCallsAt w z line station k n =
     concatMap (λ p. callWords ((callAt w z p) .station) station line (p + 1)) (range k n)
 
--- of the lines given, the first of which stands at place i
-unfoldable pub callsAt : List ℕ → (station i : ℕ) → List (List ℕ) → List ℕ
-callsAt w station i [] = []
-callsAt w station i (l ∷ ls) =
-    lineCallsAt w (headOf l) (i + 1) station 0 (callsOf w (headOf l)) ++ callsAt w station (i + 1) ls
+-- of the line at place i
+abbrev pub stationCalls : List ℕ → (station i : ℕ) → (line : List ℕ) → List ℕ
+stationCalls w station i line = lineCallsAt w (headOf line) (i + 1) station 0 (callsOf w (headOf line))
+
+-- of all lines
+abbrev pub callsAt : List ℕ → (station : ℕ) → List (List ℕ) → List ℕ
+callsAt w station ls = sections (stationCalls w station) 0 ls
 
 -- of n stations from s on, and where each station's begin, the first at index k
 unfoldable pub pairsAt : List ℕ → List (List ℕ) → (s n : ℕ) → List ℕ
 pairsAt w ls s zero = []
-pairsAt w ls s (suc n) = callsAt w s 0 ls ++ pairsAt w ls (s + 1) n
+pairsAt w ls s (suc n) = callsAt w s ls ++ pairsAt w ls (s + 1) n
 
 unfoldable pub pairPlaces : List ℕ → List (List ℕ) → (k s n : ℕ) → List ℕ
 pairPlaces w ls k s zero = k ∷ []
-pairPlaces w ls k s (suc n) = k ∷ pairPlaces w ls (k + length (callsAt w s 0 ls)) (s + 1) n
+pairPlaces w ls k s (suc n) = k ∷ pairPlaces w ls (k + length (callsAt w s ls)) (s + 1) n
+
+-- ---- the whole tables
+abbrev pub indexAt : List ℕ → ℕ
+indexAt w = 4 + length (linesAt w) + length (blocksAt w (linesAt w))
+
+unfoldable pub tableAt : List ℕ → List ℕ
+tableAt w =
+    stationCount w
+    ∷ length (linesAt w)
+    ∷ tripCount w
+    ∷ indexAt w
+    ∷ (placesFrom w (4 + length (linesAt w)) (linesAt w)
+        ++ blocksAt w (linesAt w)
+        ++ pairPlaces w (linesAt w) (indexAt w + stationCount w + 1) 1 (stationCount w)
+        ++ pairsAt w (linesAt w) 1 (stationCount w))

@@ -1,0 +1,71 @@
+-- The words of line tables (docs/LAYOUT.md), by the lines of a timetable of n stations. Document 01: "Lines and the
+-- positions on them count from 1. For each station the tables list (line, position), rising; a station met twice on a
+-- line is listed twice."; "The trips of one line are handed out as the piece of the line tables that holds them".
+use mathlib.Core.Bool.{Bool, true, false, cond}
+use mathlib.Core.List.{List, [], _∷_, _++_, map}
+use Prim.Native.Nat.{ℕ, zero, suc, _+_}
+use lib.ListN.{length, getD}
+use Rattle.lists.specs.Lists.{concatMap, range}
+use Rattle.timetable.specs.Timetable.{Stop, Trip}
+use Rattle.connections.specs.Rides.{noStop}
+use Rattle.lines.specs.Lines.{lines, course, calls}
+
+-- the stop at place p of the trip at place z
+abbrev pub stopOf : List Trip → (z p : ℕ) → Stop
+stopOf t z p = getD (getD t z []) p noStop
+
+-- arrivals, or departures, of the trips of a line at place p
+unfoldable pub timeRow : List Trip → (departs : Bool) (p : ℕ) (line : List ℕ) → List ℕ
+timeRow t departs p line = map (λ z. cond departs ((stopOf t z p) .depart) ((stopOf t z p) .arrive)) line
+
+-- times by stop, then by trip
+unfoldable pub lineTimes : List Trip → (line : List ℕ) → List ℕ
+lineTimes t line =
+    concatMap (λ p. timeRow t false p line ++ timeRow t true p line) (range 0 (length (course t line)))
+
+-- station and ride penalty at each position
+unfoldable pub courseWords : Trip → List ℕ
+courseWords [] = []
+courseWords (s ∷ l) = s .station ∷ s .points ∷ courseWords l
+
+-- all words of one line: positions, trips, the trips' numbers, the course, the times
+unfoldable pub lineWords : List Trip → (line : List ℕ) → List ℕ
+lineWords t line =
+    length (course t line)
+    ∷ length line
+    ∷ (map suc line ++ courseWords (course t line) ++ lineTimes t line)
+
+-- where the words of each line begin, those of the first at index k
+unfoldable pub linePlaces : List Trip → (k : ℕ) → List (List ℕ) → List ℕ
+linePlaces t k [] = []
+linePlaces t k (l ∷ ls) = k ∷ linePlaces t (k + length (lineWords t l)) ls
+
+unfoldable pub allLineWords : List Trip → List (List ℕ) → List ℕ
+allLineWords t ls = concatMap (lineWords t) ls
+
+-- (line, position) at which lines call at station s
+unfoldable pub callPairs : List Trip → (s : ℕ) → List ℕ
+callPairs t s = concatMap (λ q. q) (calls t s)
+
+-- those of n stations from s on, and where each station's begin, the first at index k
+unfoldable pub allCallPairs : List Trip → (s n : ℕ) → List ℕ
+allCallPairs t s n = concatMap (callPairs t) (range s n)
+
+unfoldable pub callPlaces : List Trip → (k s n : ℕ) → List ℕ
+callPlaces t k s zero = k ∷ []
+callPlaces t k s (suc n) = k ∷ callPlaces t (k + length (callPairs t s)) (suc s) n
+
+-- where the lists of stations begin
+abbrev pub indexPlace : List Trip → ℕ
+indexPlace t = 4 + length (lines t) + length (allLineWords t (lines t))
+
+unfoldable pub tableWords : (stations : ℕ) → List Trip → List ℕ
+tableWords n t =
+    n
+    ∷ length (lines t)
+    ∷ length t
+    ∷ indexPlace t
+    ∷ (linePlaces t (4 + length (lines t)) (lines t)
+        ++ allLineWords t (lines t)
+        ++ callPlaces t (indexPlace t + n + 1) 1 n
+        ++ allCallPairs t 1 n)
