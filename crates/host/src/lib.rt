@@ -5,7 +5,6 @@ ghost use lib.ListN.{length};
 ghost use Rattle.timetable.specs.Words.{timetableNumber};
 ghost use Rattle.reading.specs.Reading.{readReply, readWords};
 ghost use Rattle.host.specs.Packed.{packed, packedReply};
-
 use reading::Reply;
 
 // The refusal's number, or 0, in the upper half, and the count or line in the lower.
@@ -31,12 +30,8 @@ fn pack_reply(reply: Reply) -> u64
 // Reads a timetable text into the lent timetable words.
 #[no_mangle]
 pub extern "C" fn dairyepoch_read(text: &[u8], timetable: &mut [u16]) -> u64
-    ensures reply {
-        λ r. ⌜ r ≡ packedReply (readReply (now (text .entry)) (length (now (timetable .entry)))) ⌝
-    }
-    ensures words {
-        λ _. ⌜ now (timetable .exit) ≡ readWords (now (text .entry)) (now (timetable .entry)) ⌝
-    }
+    ensures reply { λ r. ⌜ r ≡ packedReply (readReply (now (text .entry)) (length (now (timetable .entry)))) ⌝ }
+    ensures words { λ _. ⌜ now (timetable .exit) ≡ readWords (now (text .entry)) (now (timetable .entry)) ⌝ }
 {
     pack_reply(reading::read(text, timetable))
 }

@@ -13,23 +13,23 @@ use Rattle.text.specs.declared.StopLine.{StopLine}
 use Rattle.timetable.specs.Timetable.{Station, Stop, Trip, stopsOf}
 use Rattle.timetable.specs.Words.{stationWords, stopWords, startWords}
 use Rattle.timetable.specs.WordLaws.{
-    length-stationWords,
-    length-stopWords,
-    length-startWords,
-    stationWords-append,
-    stopWords-append,
-    stopsOf-append,
-    startWords-append
+  length-stationWords,
+  length-stopWords,
+  length-startWords,
+  stationWords-append,
+  stopWords-append,
+  stopsOf-append,
+  startWords-append,
 }
 use Rattle.reading.specs.Draft.{
-    Draft,
-    final,
-    progress,
-    lineNumber,
-    stationOfLine,
-    stopOfLine,
-    withStop,
-    withLine
+  Draft,
+  final,
+  progress,
+  lineNumber,
+  stationOfLine,
+  stopOfLine,
+  withStop,
+  withLine,
 }
 use Rattle.reading.specs.Model.{Within, advance, lineWords, startsWith}
 use Rattle.reading.specs.declared.Progress.{Progress}
@@ -100,7 +100,7 @@ module _ (d : Draft) (starts old : List ℕ) (is : starts ≡ put 0 (startWords 
       ≡ put 0 (startWords 0 ((withStop d (stopOfLine l) t) .trips)) old
   stop-starts l true room =
       let count : 0 + length (stopsOf (d .trips) ++ (d .begun ++ (stopOfLine l ∷ []))) ≡ length (stopsIn d) + 1 =
-          simp length-append (omega arith) in
+      simp length-append (omega arith) in
       rw (is, startWords-append 0 (d .trips) (d .begun ++ (stopOfLine l ∷ [])), count)
       (put-next (length (d .trips) + 1) (startWords 0 (d .trips)) old (length (stopsIn d) + 1)
       (length-startWords 0 (d .trips)) room)
@@ -125,20 +125,20 @@ within-grows p (StopIn l) w e = by-last (l .last) (stop-yes p l 0 (sym e) refl)
         → Within
         (cond t
         (record {
-            stations = p .stations;
-            trips = p .trips + 1;
-            stops = p .stops + 1;
-            begun = 0;
-            station = 0;
-            depart = 0
+          stations = p .stations;
+          trips = p .trips + 1;
+          stops = p .stops + 1;
+          begun = 0;
+          station = 0;
+          depart = 0;
         })
         (record {
-            stations = p .stations;
-            trips = p .trips;
-            stops = p .stops + 1;
-            begun = p .begun + 1;
-            station = l .station;
-            depart = l .depart
+          stations = p .stations;
+          trips = p .trips;
+          stops = p .stops + 1;
+          begun = p .begun + 1;
+          station = l .station;
+          depart = l .depart;
         }))
     by-last true all = record { stations = w .stations; trips = omega arith; stops = omega arith; begun = omega arith }
     by-last false all =

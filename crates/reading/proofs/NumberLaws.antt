@@ -27,9 +27,9 @@ module _ (p : Progress) (l : StationLine) (m : ℕ) (is-m : m ≡ rangeNumber 1 
       unfolding stationNumber
       behind-stops h =
           simp (
-              range-in 1 (l .minutes) m is-m in-m,
-              range-in 2 (l .points) q is-q in-q,
-              ne-eqb (p .stops) 0 h
+            range-in 1 (l .minutes) m is-m in-m,
+            range-in 2 (l .points) q is-q in-q,
+            ne-eqb (p .stops) 0 h,
           )
 
       module _ (none : p .stops ≡ 0) where
@@ -37,10 +37,10 @@ module _ (p : Progress) (l : StationLine) (m : ℕ) (is-m : m ≡ rangeNumber 1 
         unfolding stationNumber
         out-of-turn h =
             simp (
-                range-in 1 (l .minutes) m is-m in-m,
-                range-in 2 (l .points) q is-q in-q,
-                eq-eqb (p .stops) 0 none,
-                ne-eqb (l .number) (p .stations + 1) h
+              range-in 1 (l .minutes) m is-m in-m,
+              range-in 2 (l .points) q is-q in-q,
+              eq-eqb (p .stops) 0 none,
+              ne-eqb (l .number) (p .stations + 1) h,
             )
 
         module _ (turn : l .number ≡ p .stations + 1) where
@@ -48,22 +48,22 @@ module _ (p : Progress) (l : StationLine) (m : ℕ) (is-m : m ≡ rangeNumber 1 
           unfolding stationNumber
           stations-full h =
               simp (
-                  range-in 1 (l .minutes) m is-m in-m,
-                  range-in 2 (l .points) q is-q in-q,
-                  eq-eqb (p .stops) 0 none,
-                  eq-eqb (l .number) (p .stations + 1) turn,
-                  le-ltb (p .stations) 64 h
+                range-in 1 (l .minutes) m is-m in-m,
+                range-in 2 (l .points) q is-q in-q,
+                eq-eqb (p .stops) 0 none,
+                eq-eqb (l .number) (p .stations + 1) turn,
+                le-ltb (p .stations) 64 h,
               )
 
           pub station-taken : p .stations < 64 → 0 ≡ stationNumber p l
           unfolding stationNumber
           station-taken h =
               simp (
-                  range-in 1 (l .minutes) m is-m in-m,
-                  range-in 2 (l .points) q is-q in-q,
-                  eq-eqb (p .stops) 0 none,
-                  eq-eqb (l .number) (p .stations + 1) turn,
-                  lt-ltb (p .stations) 64 h
+                range-in 1 (l .minutes) m is-m in-m,
+                range-in 2 (l .points) q is-q in-q,
+                eq-eqb (p .stops) 0 none,
+                eq-eqb (l .number) (p .stations + 1) turn,
+                lt-ltb (p .stations) 64 h,
               )
 
 -- ---- question 6
@@ -87,10 +87,10 @@ module _ (p : Progress) (l : StopLine) where
         unfolding stopFits
         same-station h =
             simp (
-                le-leb 1 (l .station) some,
-                le-leb (l .station) (p .stations) listed,
-                ne-eqb (p .begun) 0 goes-on,
-                eq-eqb (l .station) (p .station) h
+              le-leb 1 (l .station) some,
+              le-leb (l .station) (p .stations) listed,
+              ne-eqb (p .begun) 0 goes-on,
+              eq-eqb (l .station) (p .station) h,
             )
 
         module _ (unlike : l .station ≡ p .station → ⊥) where
@@ -98,11 +98,11 @@ module _ (p : Progress) (l : StopLine) where
           unfolding stopFits
           too-early h =
               simp (
-                  le-leb 1 (l .station) some,
-                  le-leb (l .station) (p .stations) listed,
-                  ne-eqb (p .begun) 0 goes-on,
-                  ne-eqb (l .station) (p .station) unlike,
-                  le-ltb (p .depart) (l .arrive) h
+                le-leb 1 (l .station) some,
+                le-leb (l .station) (p .stations) listed,
+                ne-eqb (p .begun) 0 goes-on,
+                ne-eqb (l .station) (p .station) unlike,
+                le-ltb (p .depart) (l .arrive) h,
               )
 
           module _ (after : p .depart < l .arrive) where
@@ -110,24 +110,24 @@ module _ (p : Progress) (l : StopLine) where
             unfolding stopFits
             last-fits h =
                 simp (
-                    le-leb 1 (l .station) some,
-                    le-leb (l .station) (p .stations) listed,
-                    ne-eqb (p .begun) 0 goes-on,
-                    ne-eqb (l .station) (p .station) unlike,
-                    lt-ltb (p .depart) (l .arrive) after,
-                    h
+                  le-leb 1 (l .station) some,
+                  le-leb (l .station) (p .stations) listed,
+                  ne-eqb (p .begun) 0 goes-on,
+                  ne-eqb (l .station) (p .station) unlike,
+                  lt-ltb (p .depart) (l .arrive) after,
+                  h,
                 )
 
             pub middle-fits : l .last ≡ false → leb (l .arrive) (l .depart) ≡ stopFits p l
             unfolding stopFits
             middle-fits h =
                 simp (
-                    le-leb 1 (l .station) some,
-                    le-leb (l .station) (p .stations) listed,
-                    ne-eqb (p .begun) 0 goes-on,
-                    ne-eqb (l .station) (p .station) unlike,
-                    lt-ltb (p .depart) (l .arrive) after,
-                    h
+                  le-leb 1 (l .station) some,
+                  le-leb (l .station) (p .stations) listed,
+                  ne-eqb (p .begun) 0 goes-on,
+                  ne-eqb (l .station) (p .station) unlike,
+                  lt-ltb (p .depart) (l .arrive) after,
+                  h,
                 )
 
 -- ---- a stop line
@@ -146,18 +146,18 @@ module _ (p : Progress) (l : StopLine) (a : ℕ) (is-a : a ≡ rangeNumber 3 (l 
       unfolding stopNumber
       ride-refused h =
           simp (
-              range-in 3 (l .arrive) a is-a in-a,
-              range-in 3 (l .depart) d is-d in-d,
-              range-out 4 (l .points) q is-q h
+            range-in 3 (l .arrive) a is-a in-a,
+            range-in 3 (l .depart) d is-d in-d,
+            range-out 4 (l .points) q is-q h,
           )
 
       module _ (in-q : q ≡ 0) where
         ranges : (inRange 3 (l .arrive) && inRange 3 (l .depart) && inRange 4 (l .points)) ≡ true
         ranges =
             simp (
-                range-in 3 (l .arrive) a is-a in-a,
-                range-in 3 (l .depart) d is-d in-d,
-                range-in 4 (l .points) q is-q in-q
+              range-in 3 (l .arrive) a is-a in-a,
+              range-in 3 (l .depart) d is-d in-d,
+              range-in 4 (l .points) q is-q in-q,
             )
 
         pub other-trip : (l .trip ≡ p .trips + 1 → ⊥) → 4 ≡ stopNumber p l

@@ -11,15 +11,15 @@ use Rattle.text.specs.Range.{inRange, minutes-bound, points-bound, time-bound, 
 use Rattle.text.specs.declared.StationLine.{StationLine}
 use Rattle.text.specs.declared.StopLine.{StopLine}
 use Rattle.reading.specs.Draft.{
-    stationNumber,
-    stationInRange,
-    stationInPlace,
-    stationCounted,
-    stopNumber,
-    stopInRange,
-    stopInPlace,
-    stopCounted,
-    stopFits
+  stationNumber,
+  stationInRange,
+  stationInPlace,
+  stationCounted,
+  stopNumber,
+  stopInRange,
+  stopInPlace,
+  stopCounted,
+  stopFits,
 }
 use Rattle.reading.specs.declared.Progress.{Progress}
 
@@ -35,12 +35,11 @@ four-yes : (a b c d : Bool) → firstNo (ask 3 a ∷ ask 4 b ∷ ask 5 c ∷ ask
 four-yes a b c d e =
     let second = yes-later 2 a (ask 4 b ∷ ask 5 c ∷ ask 6 d ∷ []) e in
     let third = yes-later 3 b (ask 5 c ∷ ask 6 d ∷ []) second in
-    let fourth = yes-later 4 c (ask 6 d ∷ []) third in
-    (
-        yes-here 2 a (ask 4 b ∷ ask 5 c ∷ ask 6 d ∷ []) e,
-        yes-here 3 b (ask 5 c ∷ ask 6 d ∷ []) second,
-        yes-here 4 c (ask 6 d ∷ []) third,
-        yes-here 5 d [] fourth
+    let fourth = yes-later 4 c (ask 6 d ∷ []) third in (
+      yes-here 2 a (ask 4 b ∷ ask 5 c ∷ ask 6 d ∷ []) e,
+      yes-here 3 b (ask 5 c ∷ ask 6 d ∷ []) second,
+      yes-here 4 c (ask 6 d ∷ []) third,
+      yes-here 5 d [] fourth,
     )
 
 pub record StationYes (p : Progress) (l : StationLine) : Type 0 where
@@ -57,15 +56,15 @@ station-yes p l n is e =
     let all = three-yes (stationInRange l) (stationInPlace p l) (stationCounted p) (sym is ∙ e) in
     let points = points-bound (l .points) (and-right (inRange 1 (l .minutes)) (inRange 2 (l .points)) (all .0)) in
     record {
-        minutes = minutes-bound (l .minutes) (and-left (inRange 1 (l .minutes)) (inRange 2 (l .points)) (all .0));
-        least = points .0;
-        most = points .1;
-        before-stops =
-            eqb-true (p .stops) 0 (and-left (eqb (p .stops) 0) (eqb (l .number) (p .stations + 1)) (all .1));
-        turn =
-            eqb-true (l .number) (p .stations + 1)
-            (and-right (eqb (p .stops) 0) (eqb (l .number) (p .stations + 1)) (all .1));
-        room = ltb-true (p .stations) 64 (all .2)
+      minutes = minutes-bound (l .minutes) (and-left (inRange 1 (l .minutes)) (inRange 2 (l .points)) (all .0));
+      least = points .0;
+      most = points .1;
+      before-stops =
+          eqb-true (p .stops) 0 (and-left (eqb (p .stops) 0) (eqb (l .number) (p .stations + 1)) (all .1));
+      turn =
+          eqb-true (l .number) (p .stations + 1)
+          (and-right (eqb (p .stops) 0) (eqb (l .number) (p .stations + 1)) (all .1));
+      room = ltb-true (p .stations) 64 (all .2);
     }
 
 pub record StopYes (p : Progress) (l : StopLine) : Type 0 where
@@ -91,19 +90,19 @@ stop-yes p l n is e =
     let all = four-yes (stopInRange l) (stopInPlace p l) (stopCounted p) (stopFits p l) (sym is ∙ e) in
     let times = and-left (inRange 3 (l .arrive) && inRange 3 (l .depart)) (inRange 4 (l .points)) (all .0) in
     record {
-        arrive = time-bound (l .arrive) (and-left (inRange 3 (l .arrive)) (inRange 3 (l .depart)) times);
-        depart = time-bound (l .depart) (and-right (inRange 3 (l .arrive)) (inRange 3 (l .depart)) times);
-        points =
-            ride-bound (l .points)
-            (and-right (inRange 3 (l .arrive) && inRange 3 (l .depart)) (inRange 4 (l .points)) (all .0));
-        trip =
-            eqb-true (l .trip) (p .trips + 1)
-            (and-left (eqb (l .trip) (p .trips + 1)) (eqb (l .stop) (p .begun + 1)) (all .1));
-        stop =
-            eqb-true (l .stop) (p .begun + 1)
-            (and-right (eqb (l .trip) (p .trips + 1)) (eqb (l .stop) (p .begun + 1)) (all .1));
-        trips = ltb-true (p .trips) 256 (and-left (ltb (p .trips) 256) (ltb (p .stops) 2048) (all .2));
-        stops = ltb-true (p .stops) 2048 (and-right (ltb (p .trips) 256) (ltb (p .stops) 2048) (all .2));
-        station = stop-station p l (all .3);
-        fits = all .3
+      arrive = time-bound (l .arrive) (and-left (inRange 3 (l .arrive)) (inRange 3 (l .depart)) times);
+      depart = time-bound (l .depart) (and-right (inRange 3 (l .arrive)) (inRange 3 (l .depart)) times);
+      points =
+          ride-bound (l .points)
+          (and-right (inRange 3 (l .arrive) && inRange 3 (l .depart)) (inRange 4 (l .points)) (all .0));
+      trip =
+          eqb-true (l .trip) (p .trips + 1)
+          (and-left (eqb (l .trip) (p .trips + 1)) (eqb (l .stop) (p .begun + 1)) (all .1));
+      stop =
+          eqb-true (l .stop) (p .begun + 1)
+          (and-right (eqb (l .trip) (p .trips + 1)) (eqb (l .stop) (p .begun + 1)) (all .1));
+      trips = ltb-true (p .trips) 256 (and-left (ltb (p .trips) 256) (ltb (p .stops) 2048) (all .2));
+      stops = ltb-true (p .stops) 2048 (and-right (ltb (p .trips) 256) (ltb (p .stops) 2048) (all .2));
+      station = stop-station p l (all .3);
+      fits = all .3;
     }

@@ -33,12 +33,12 @@ final (s ∷ u ∷ l) = final (u ∷ l)
 abbrev pub progress : Draft → Progress
 progress d =
     record {
-        stations = length (d .stations);
-        trips = length (d .trips);
-        stops = length (stopsOf (d .trips) ++ d .begun);
-        begun = length (d .begun);
-        station = (final (d .begun)) .station;
-        depart = (final (d .begun)) .depart
+      stations = length (d .stations);
+      trips = length (d .trips);
+      stops = length (stopsOf (d .trips) ++ d .begun);
+      begun = length (d .begun);
+      station = (final (d .begun)) .station;
+      depart = (final (d .begun)) .depart;
     }
 
 -- ---- the questions to a station line
@@ -78,9 +78,9 @@ stopFits p l =
     leb 1 (l .station)
     && leb (l .station) (p .stations)
     && (eqb (p .begun) 0
-        || not (eqb (l .station) (p .station))
-        && ltb (p .depart) (l .arrive)
-        && (l .last || leb (l .arrive) (l .depart)))
+    || not (eqb (l .station) (p .station))
+    && ltb (p .depart) (l .arrive)
+    && (l .last || leb (l .arrive) (l .depart)))
 
 unfoldable pub stopNumber : Progress → StopLine → ℕ
 stopNumber p l =

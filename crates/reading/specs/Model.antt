@@ -30,30 +30,30 @@ pub record Within (p : Progress) : Type 0 where
 abbrev pub advance : Progress → Line → Progress
 advance p (StationIn l) =
     record {
-        stations = p .stations + 1;
-        trips = p .trips;
-        stops = p .stops;
-        begun = p .begun;
-        station = p .station;
-        depart = p .depart
+      stations = p .stations + 1;
+      trips = p .trips;
+      stops = p .stops;
+      begun = p .begun;
+      station = p .station;
+      depart = p .depart;
     }
 advance p (StopIn l) =
     cond (l .last)
     (record {
-        stations = p .stations;
-        trips = p .trips + 1;
-        stops = p .stops + 1;
-        begun = 0;
-        station = 0;
-        depart = 0
+      stations = p .stations;
+      trips = p .trips + 1;
+      stops = p .stops + 1;
+      begun = 0;
+      station = 0;
+      depart = 0;
     })
     (record {
-        stations = p .stations;
-        trips = p .trips;
-        stops = p .stops + 1;
-        begun = p .begun + 1;
-        station = l .station;
-        depart = l .depart
+      stations = p .stations;
+      trips = p .trips;
+      stops = p .stops + 1;
+      begun = p .begun + 1;
+      station = l .station;
+      depart = l .depart;
     })
 advance p Shapeless = p
 

@@ -9,7 +9,6 @@ ghost use Rattle.text.specs.declared.Line.the-variants.{Station, Stop};
 ghost use Rattle.reading.specs.Draft.{stationNumber, stopNumber, stopFits};
 ghost use Rattle.reading.specs.Reading.{readLines, readReply, readWords};
 ghost use Rattle.reading.specs.Model.{Within, advance, nextOf, bodyAfter, startsAfter, endOf, LinesRead, tableWords};
-
 use text::Line;
 use text::StationLine;
 use text::StopLine;
@@ -127,9 +126,7 @@ fn stop_number(p: Progress, l: StopLine) -> u32
 // Puts the questions to a station line, and where all have a yes takes its words.
 fn take_station(p: Progress, l: StationLine, body: &mut [u16]) -> Next
     requires { ⌜ Within p × (length (now body) ≡ 8320) ⌝ }
-    ensures {
-        λ r. ⌜ (r ≡ nextOf p (Station l)) × (now (body .exit) ≡ bodyAfter p (Station l) (now (body .entry))) ⌝
-    }
+    ensures { λ r. ⌜ (r ≡ nextOf p (Station l)) × (now (body .exit) ≡ bodyAfter p (Station l) (now (body .entry))) ⌝ }
 {
     let number = station_number(p, l);
     if number != 0 {
@@ -174,9 +171,7 @@ fn after_stop(p: Progress, l: StopLine) -> Progress
 // A trip's last stop says where the next trip begins.
 fn mark_start(p: Progress, last: bool, starts: &mut [u16])
     requires { ⌜ (p .trips < 256) × (p .stops < 2048) × (length (now starts) ≡ 257) ⌝ }
-    ensures {
-        λ _. ⌜ now (starts .exit) ≡ cond last (set (now (starts .entry)) (p .trips + 1) (p .stops + 1)) (now (starts .entry)) ⌝
-    }
+    ensures { λ _. ⌜ now (starts .exit) ≡ cond last (set (now (starts .entry)) (p .trips + 1) (p .stops + 1)) (now (starts .entry)) ⌝ }
 {
     if last {
         let next = p.trips + 1;
@@ -187,17 +182,22 @@ fn mark_start(p: Progress, last: bool, starts: &mut [u16])
 // Puts the questions to a stop line, and where all have a yes takes its words.
 fn take_stop(p: Progress, l: StopLine, body: &mut [u16], starts: &mut [u16]) -> Next
     requires { ⌜ Within p × (length (now body) ≡ 8320) × (length (now starts) ≡ 257) ⌝ }
-    ensures {
-        λ r. ⌜ (r ≡ nextOf p (Stop l))
-            × (now (body .exit) ≡ bodyAfter p (Stop l) (now (body .entry)))
-            × (now (starts .exit) ≡ startsAfter p (Stop l) (now (starts .entry))) ⌝
-    }
+    ensures { λ r. ⌜ (r ≡ nextOf p (Stop l))
+        × (now (body .exit) ≡ bodyAfter p (Stop l) (now (body .entry)))
+        × (now (starts .exit) ≡ startsAfter p (Stop l) (now (starts .entry))) ⌝ }
 {
     let number = stop_number(p, l);
     if number != 0 {
         return Next::Refused(number);
     }
-    words::put_four(body, 2 * p.stations + 4 * p.stops, l.station, l.arrive, l.depart, l.points);
+    words::put_four(
+        body,
+        2 * p.stations + 4 * p.stops,
+        l.station,
+        l.arrive,
+        l.depart,
+        l.points,
+    );
     mark_start(p, l.last, starts);
     Next::On(after_stop(p, l))
 }
@@ -205,11 +205,9 @@ fn take_stop(p: Progress, l: StopLine, body: &mut [u16], starts: &mut [u16]) -> 
 // Takes a line, without its line end: the progress after it, or the number of the first no.
 fn take_line(p: Progress, line: &[u8], body: &mut [u16], starts: &mut [u16]) -> Next
     requires { ⌜ Within p × (length (now body) ≡ 8320) × (length (now starts) ≡ 257) ⌝ }
-    ensures {
-        λ r. ⌜ (r ≡ nextOf p (shapeOf (now (line .entry))))
-            × (now (body .exit) ≡ bodyAfter p (shapeOf (now (line .entry))) (now (body .entry)))
-            × (now (starts .exit) ≡ startsAfter p (shapeOf (now (line .entry))) (now (starts .entry))) ⌝
-    }
+    ensures { λ r. ⌜ (r ≡ nextOf p (shapeOf (now (line .entry))))
+        × (now (body .exit) ≡ bodyAfter p (shapeOf (now (line .entry))) (now (body .entry)))
+        × (now (starts .exit) ≡ startsAfter p (shapeOf (now (line .entry))) (now (starts .entry))) ⌝ }
 {
     match text::shape(line) {
         Line::Station(l) => {
@@ -240,13 +238,9 @@ fn end_lines(p: Progress, line: u32) -> Lines
 
 // Reads all lines of a text, into the words of stations and stops and the places where trips begin.
 fn read_lines(text: &[u8], body: &mut [u16], starts: &mut [u16]) -> Lines
-    requires {
-        ⌜ (length (now text) ≤ 65536) × (length (now body) ≡ 8320) × (length (now starts) ≡ 257) ⌝
-    }
-    ensures {
-        λ r. ⌜ LinesRead (readLines (now (text .entry))) r (now (body .exit)) (now (starts .exit)) (now (body .entry))
-            (now (starts .entry)) ⌝
-    }
+    requires { ⌜ (length (now text) ≤ 65536) × (length (now body) ≡ 8320) × (length (now starts) ≡ 257) ⌝ }
+    ensures { λ r. ⌜ LinesRead (readLines (now (text .entry))) r (now (body .exit)) (now (starts .exit)) (now (body .entry))
+        (now (starts .entry)) ⌝ }
 {
     starts[0] = 0;
     let n = text.len();
@@ -283,21 +277,23 @@ fn read_lines(text: &[u8], body: &mut [u16], starts: &mut [u16]) -> Lines
 
 // Writes the words of a timetable that was read.
 fn write_timetable(timetable: &mut [u16], p: Progress, body: &[u16], starts: &[u16])
-    requires {
-        ⌜ Within p
-            × (16384 ≤ length (now timetable))
-            × (length (now body) ≡ 8320)
-            × (length (now starts) ≡ 257) ⌝
-    }
-    ensures {
-        λ _. ⌜ now (timetable .exit)
-            ≡ put 0 (tableWords p (now (body .entry)) (now (starts .entry))) (now (timetable .entry)) ⌝
-    }
+    requires { ⌜ Within p
+        × (16384 ≤ length (now timetable))
+        × (length (now body) ≡ 8320)
+        × (length (now starts) ≡ 257) ⌝ }
+    ensures { λ _. ⌜ now (timetable .exit)
+        ≡ put 0 (tableWords p (now (body .entry)) (now (starts .entry))) (now (timetable .entry)) ⌝ }
 {
     let body_length = 2 * p.stations + 4 * p.stops;
     let starts_at = 3 + body_length;
     let starts_length = p.trips + 1;
-    words::put_three(timetable, 0, p.stations as u32, p.trips as u32, p.stops as u32);
+    words::put_three(
+        timetable,
+        0,
+        p.stations as u32,
+        p.trips as u32,
+        p.stops as u32,
+    );
     words::copy(timetable, 3, body, body_length);
     words::copy(timetable, starts_at, starts, starts_length);
 }

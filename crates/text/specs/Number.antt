@@ -63,7 +63,7 @@ module _ (f : List ℕ) where
   unfolding fieldValue decimal digitValue
   value-zero e h =
       let whole : f ≡ getD f 0 0 ∷ [] =
-          drop-cons f 0 0 (omega arith) ∙ ap (λ s. getD f 0 0 ∷ s) (drop-of-length-le f {i = 1} (omega arith)) in
+      drop-cons f 0 0 (omega arith) ∙ ap (λ s. getD f 0 0 ∷ s) (drop-of-length-le f {i = 1} (omega arith)) in
       rw (whole, e)
 
   pub value-leading : (length f ≡ 0 → ⊥) → length f ≤ 4 → getD f 0 0 ≡ 48 → (length f ≡ 1 → ⊥)

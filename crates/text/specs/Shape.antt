@@ -38,18 +38,18 @@ filled v = cond (eqb v emptyField) 0 v
 unfoldable pub stopOf : (trip stop station arrive depart points : ℕ) → Line
 stopOf trip stop station arrive depart points =
     cond (isNumber trip
-        && isNumber stop
-        && isNumber station
-        && arriveFits stop arrive
-        && departFits stop depart points)
+    && isNumber stop
+    && isNumber station
+    && arriveFits stop arrive
+    && departFits stop depart points)
     (Stop (record {
-        trip = trip;
-        stop = stop;
-        station = station;
-        arrive = filled arrive;
-        depart = filled depart;
-        points = filled points;
-        last = eqb depart emptyField
+      trip = trip;
+      stop = stop;
+      station = station;
+      arrive = filled arrive;
+      depart = filled depart;
+      points = filled points;
+      last = eqb depart emptyField;
     }))
     Shapeless
 
@@ -96,25 +96,25 @@ module _ (trip stop station arrive depart points : ℕ) where
 
         pub stop-shaped : not goes ≡ false → (x y z : ℕ) → x ≡ filled arrive → y ≡ filled depart → z ≡ filled points
             → Stop (record {
-                trip = trip;
-                stop = stop;
-                station = station;
-                arrive = x;
-                depart = y;
-                points = z;
-                last = eqb depart 10000
+              trip = trip;
+              stop = stop;
+              station = station;
+              arrive = x;
+              depart = y;
+              points = z;
+              last = eqb depart 10000;
             }) ≡ stopOf trip stop station arrive depart points
         unfolding stopOf
         stop-shaped h x y z p q r =
             simp (
-                le-leb trip 9999 t,
-                le-leb stop 9999 k,
-                le-leb station 9999 s,
-                ← f,
-                not-false fits a,
-                ← g,
-                not-false goes h,
-                p,
-                q,
-                r
+              le-leb trip 9999 t,
+              le-leb stop 9999 k,
+              le-leb station 9999 s,
+              ← f,
+              not-false fits a,
+              ← g,
+              not-false goes h,
+              p,
+              q,
+              r,
             )

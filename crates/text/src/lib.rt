@@ -65,9 +65,7 @@ pub enum Line {
 // The index of the first byte mark at or after index from, or the length where there is none.
 pub fn piece_end(s: &[u8], mark: u8, from: usize) -> usize
     requires { ⌜ from ≤ length (now s) ⌝ }
-    ensures {
-        λ r. ⌜ (r ≡ from + pieceLength mark (drop from (now (s .entry)))) × (from ≤ r) × (r ≤ length (now (s .entry))) ⌝
-    }
+    ensures { λ r. ⌜ (r ≡ from + pieceLength mark (drop from (now (s .entry)))) × (from ≤ r) × (r ≤ length (now (s .entry))) ⌝ }
 {
     let mut i = from;
     loop {
@@ -127,10 +125,8 @@ pub fn field_value(field: &[u8]) -> u32
 // Writes the values of the first seven fields of s, and answers how many it wrote.
 fn field_values(s: &[u8], values: &mut [u32]) -> usize
     requires { ⌜ length (now values) ≡ 7 ⌝ }
-    ensures {
-        λ r. ⌜ (r ≡ min 7 (length (fieldValues (now (s .entry)))))
-            × (now (values .exit) ≡ put 0 (take 7 (fieldValues (now (s .entry)))) (now (values .entry))) ⌝
-    }
+    ensures { λ r. ⌜ (r ≡ min 7 (length (fieldValues (now (s .entry)))))
+        × (now (values .exit) ≡ put 0 (take 7 (fieldValues (now (s .entry)))) (now (values .entry))) ⌝ }
 {
     let n = s.len();
     let mut from = 0;
@@ -258,7 +254,14 @@ pub fn shape(line: &[u8]) -> Line
         if count != 6 {
             return Line::Shapeless;
         }
-        return stop_line(values[0], values[1], values[2], values[3], values[4], values[5]);
+        return stop_line(
+            values[0],
+            values[1],
+            values[2],
+            values[3],
+            values[4],
+            values[5],
+        );
     }
     Line::Shapeless
 }

@@ -8,35 +8,35 @@ use borrow.Author.Tests.{le-leb, lt-leb, eq-eqb, ne-eqb, leb-true, eqb-true, not
 use lib.Dec.{leb, ltb, eqb}
 use Rattle.questions.specs.Question.{and-left, and-right, and-true, and-false}
 use Rattle.timetable.specs.Timetable.{
-    Station,
-    Stop,
-    listed,
-    leaves,
-    ends,
-    follows,
-    runs,
-    validTrip,
-    validStation,
-    validStations,
-    validTrips
+  Station,
+  Stop,
+  listed,
+  leaves,
+  ends,
+  follows,
+  runs,
+  validTrip,
+  validStation,
+  validStations,
+  validTrips,
 }
 use Rattle.timetable.specs.Words.{stationAt, stopAt, startAt, tripAt, rise}
 use Rattle.timetable.specs.Check.{
-    begins,
-    passes,
-    stationsAt,
-    stopsAt,
-    tripsAt,
-    startsAt,
-    tripsTest,
-    stations-more,
-    stations-none,
-    stops-more,
-    stops-none,
-    trips-more,
-    trips-none,
-    starts-more,
-    starts-none
+  begins,
+  passes,
+  stationsAt,
+  stopsAt,
+  tripsAt,
+  startsAt,
+  tripsTest,
+  stations-more,
+  stations-none,
+  stops-more,
+  stops-none,
+  trips-more,
+  trips-none,
+  starts-more,
+  starts-none,
 }
 
 -- ---- a first stop

@@ -61,18 +61,18 @@ module _ (n : ℕ) (b s : Stop) (t : Bool) (is : t ≡ listed n s) where
       unfolding follows
       too-early h =
           simp (
-              ← is,
-              not-false t in-list,
-              ne-eqb (s .station) (b .station) unlike,
-              le-ltb (b .depart) (s .arrive) h
+            ← is,
+            not-false t in-list,
+            ne-eqb (s .station) (b .station) unlike,
+            le-ltb (b .depart) (s .arrive) h,
           )
 
       pub arrive-decides : b .depart < s .arrive → leb (s .arrive) 2879 ≡ follows n b s
       unfolding follows
       arrive-decides h =
           simp (
-              ← is,
-              not-false t in-list,
-              ne-eqb (s .station) (b .station) unlike,
-              lt-ltb (b .depart) (s .arrive) h
+            ← is,
+            not-false t in-list,
+            ne-eqb (s .station) (b .station) unlike,
+            lt-ltb (b .depart) (s .arrive) h,
           )

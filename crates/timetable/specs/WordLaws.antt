@@ -44,7 +44,7 @@ unfolding startWords
 startWords-append k [] t = refl
 startWords-append k (u ∷ a) t =
     let sum : k + length u + length (stopsOf a ++ t) ≡ k + length (u ++ stopsOf a ++ t) =
-        simp length-append (omega arith) in
+    simp length-append (omega arith) in
     ap (λ l. k ∷ l) (rw sum at (startWords-append (k + length u) a t))
 
 pub start-first : (k : ℕ) (l : List Trip) → (ws : List ℕ) × (startWords k l ≡ k ∷ ws)

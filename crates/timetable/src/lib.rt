@@ -4,10 +4,23 @@ ghost use mathlib.Core.List.{map};
 ghost use Prim.Native.Nat.{_+_, _-_, _*_, _≤_, _<_};
 ghost use lib.ListN.{length, getD};
 ghost use Rattle.timetable.specs.Timetable.{
-    validStation, listed, leaves, ends, follows, runs, validTrip, validStations,
+  validStation,
+  listed,
+  leaves,
+  ends,
+  follows,
+  runs,
+  validTrip,
+  validStations,
 };
 ghost use Rattle.timetable.specs.Words.{
-    stationCount, stopCount, stationAt, stopAt, startAt, isTimetable, timetableNumber,
+  stationCount,
+  stopCount,
+  stationAt,
+  stopAt,
+  startAt,
+  isTimetable,
+  timetableNumber,
 };
 ghost use Rattle.timetable.specs.Check.{begins, passes, stationsAt, stopsAt, tripsTest};
 
@@ -42,9 +55,7 @@ pub fn station_at(words: &[u16], i: usize) -> Station
 
 // Stop i, counted from 0 over all trips.
 pub fn stop_at(words: &[u16], i: usize) -> Stop
-    requires {
-        ⌜ (16384 ≤ length (now words)) × (stationCount (now words) ≤ 64) × (i < 2048) ⌝
-    }
+    requires { ⌜ (16384 ≤ length (now words)) × (stationCount (now words) ≤ 64) × (i < 2048) ⌝ }
     ensures { λ r. ⌜ r ≡ stopAt (now (words .entry)) i ⌝ }
 {
     let place = 3 + 2 * words::word(words, 0) as usize + 4 * i;
@@ -58,12 +69,10 @@ pub fn stop_at(words: &[u16], i: usize) -> Stop
 
 // The place of the first stop of trip k, counted from 0, among all stops; of the trip past the last, their number.
 pub fn start_at(words: &[u16], k: usize) -> usize
-    requires {
-        ⌜ (16384 ≤ length (now words))
-            × (stationCount (now words) ≤ 64)
-            × (stopCount (now words) ≤ 2048)
-            × (k ≤ 256) ⌝
-    }
+    requires { ⌜ (16384 ≤ length (now words))
+        × (stationCount (now words) ≤ 64)
+        × (stopCount (now words) ≤ 2048)
+        × (k ≤ 256) ⌝ }
     ensures { λ r. ⌜ (r ≡ startAt (now (words .entry)) k) × (r < 65536) ⌝ }
 {
     let stops = 3 + 2 * words::word(words, 0) as usize;
@@ -157,12 +166,8 @@ fn stop_passes(n: u32, b: Stop, s: Stop) -> bool
 
 // The stops behind the first of a trip, which stands at place first, to the trip's end.
 fn trip_runs(words: &[u16], n: u32, first: usize, end: usize) -> bool
-    requires {
-        ⌜ (16384 ≤ length (now words)) × (stationCount (now words) ≤ 64) × (first < end) × (end ≤ 2048) ⌝
-    }
-    ensures {
-        λ r. ⌜ r ≡ runs n (stopAt (now (words .entry)) first) (stopsAt (now (words .entry)) (first + 1) end) ⌝
-    }
+    requires { ⌜ (16384 ≤ length (now words)) × (stationCount (now words) ≤ 64) × (first < end) × (end ≤ 2048) ⌝ }
+    ensures { λ r. ⌜ r ≡ runs n (stopAt (now (words .entry)) first) (stopsAt (now (words .entry)) (first + 1) end) ⌝ }
 {
     let mut before = stop_at(words, first);
     let mut i = first + 1;
@@ -215,14 +220,12 @@ fn stations_are_valid(words: &[u16], n: usize) -> bool
 
 // The trips stand one behind the other, from stop 0 to the last of all stops, and each is valid.
 fn trips_are_valid(words: &[u16], n: u32, trips: usize, stops: usize) -> bool
-    requires {
-        ⌜ (16384 ≤ length (now words))
-            × (stationCount (now words) ≤ 64)
-            × (stopCount (now words) ≤ 2048)
-            × (trips ≤ 256)
-            × (stops ≤ 2048)
-            × (startAt (now words) 0 ≡ 0) ⌝
-    }
+    requires { ⌜ (16384 ≤ length (now words))
+        × (stationCount (now words) ≤ 64)
+        × (stopCount (now words) ≤ 2048)
+        × (trips ≤ 256)
+        × (stops ≤ 2048)
+        × (startAt (now words) 0 ≡ 0) ⌝ }
     ensures { λ r. ⌜ r ≡ tripsTest (now (words .entry)) n stops 0 0 trips ⌝ }
 {
     let mut first = 0;

@@ -29,12 +29,12 @@ put-more at n ws old w e h =
     let long : length (take at old ++ ws) ≡ at + n = simp (length-append, length-take) (omega arith) in
     let past : at + length (ws ++ (w ∷ [])) ≡ suc (at + n) = simp length-append (omega arith) in
     rw (
-        e,
-        drop-cons old (at + n) 0 h,
-        set-at _ _ _ w (at + n) long,
-        past,
-        ← append-assoc,
-        append-assoc _ (w ∷ []) _
+      e,
+      drop-cons old (at + n) 0 h,
+      set-at _ _ _ w (at + n) long,
+      past,
+      ← append-assoc,
+      append-assoc _ (w ∷ []) _,
     )
 
 pub put-next : (n : ℕ) (ws old : List ℕ) (w : ℕ) → length ws ≡ n → n < length old
@@ -68,13 +68,13 @@ put-append at n a b old e h =
     let long : length (take at old ++ a) ≡ at + n = simp (length-append, length-take) (omega arith) in
     let past : at + length (a ++ b) ≡ at + n + length b = simp length-append (omega arith) in
     rw (
-        e,
-        take-at (take at old ++ a) (drop (at + n) old) (at + n) long,
-        ← drop-drop (length b) (at + n) (take at old ++ a ++ drop (at + n) old),
-        drop-at (take at old ++ a) (drop (at + n) old) (at + n) long,
-        drop-drop (length b) (at + n) old,
-        past,
-        append-assoc (take at old) a b
+      e,
+      take-at (take at old ++ a) (drop (at + n) old) (at + n) long,
+      ← drop-drop (length b) (at + n) (take at old ++ a ++ drop (at + n) old),
+      drop-at (take at old ++ a) (drop (at + n) old) (at + n) long,
+      drop-drop (length b) (at + n) old,
+      past,
+      append-assoc (take at old) a b,
     )
 
 -- a turn of a loop that copies the first n words of src, and its end

@@ -1,11 +1,11 @@
 use Rattle.reading.proofs.YesLaws.{StopYes, stop-yes}
 use Rattle.reading.proofs.TakeLaws.{
-    refused-next,
-    refused-body,
-    refused-starts,
-    taken-next,
-    taken-body,
-    taken-starts
+  refused-next,
+  refused-body,
+  refused-starts,
+  taken-next,
+  taken-body,
+  taken-starts,
 }
 use borrow.Author.Needs.{needs}
 use Rattle.reading.proofs.take_stop.Statement.{statement}
