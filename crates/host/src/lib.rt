@@ -1,5 +1,5 @@
-// The public calls as a display's host of C or Rust sees them: numbers and slices only, and no condition is left for the
-// host to meet. Each passes on to a proved call and has that call's equations. include/dairyepoch.h declares them.
+// The public calls as a display's host of C or Rust sees them: numbers and slices only, and no condition is left for
+// the host to meet. Each passes on to a proved call and has that call's equations. include/dairyepoch.h declares them.
 ghost use mathlib.Core.Path.{_≡_};
 ghost use lib.ListN.{length};
 ghost use Rattle.timetable.specs.Words.{timetableNumber};

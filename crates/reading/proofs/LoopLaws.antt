@@ -1,9 +1,8 @@
 -- The loop over the lines of a text: what it keeps, and its ways on and out.
 use mathlib.Core.Path.{_≡_, refl, sym, ap, subst, _∙_}
 use mathlib.Core.Bool.{Bool, true, false, cond, _&&_}
-use mathlib.Core.List.{List, [], _∷_, _++_, append-nil}
-use Prim.Native.Nat.{ℕ, zero, suc, _+_, _-_, _*_, _≤_, _<_}
-use native.Mathlib.Nat.{zero-add}
+use mathlib.Core.List.{List, [], _∷_, append-nil}
+use Prim.Native.Nat.{ℕ, _+_, _-_, _*_, _≤_}
 use native.Mathlib.Decide.{ℕ-discrete}
 use native.Mathlib.Omega.{arith}
 use borrow.Author.Tests.{eq-eqb, ne-eqb, eqb-true}
@@ -14,11 +13,11 @@ use Rattle.words.specs.Put.{put, put-none, put-one, put-append, put-over, lengt
 use Rattle.text.specs.Piece.{pieces, pieceLength, last-from, first-from, pieces-some}
 use Rattle.text.specs.Shape.{shapeOf}
 use Rattle.text.specs.declared.Line.{Line}
-use Rattle.timetable.specs.Timetable.{Trip, Timetable, stopsOf}
+use Rattle.timetable.specs.Timetable.{Trip, Timetable}
 use Rattle.timetable.specs.Words.{stationWords, stopWords, startWords}
 use Rattle.timetable.specs.WordLaws.{length-startWords, start-first}
 use Rattle.reading.specs.Draft.{Draft, blank, progress, lineNumber, withLine}
-use Rattle.reading.specs.Reading.{Outcome, Accepted, Refused, ended, readFrom, readLines}
+use Rattle.reading.specs.Reading.{Accepted, Refused, ended, readFrom, readLines}
 use Rattle.reading.specs.Model.{
   Within,
   advance,
@@ -162,11 +161,12 @@ module _
       unfolding whole
       ended-starts =
           let first = start-first 0 ((k .draft) .trips) in
-          let over : put 0 (startWords 0 ((k .draft) .trips)) (set old 0 0) ≡ put 0 (startWords 0 ((k .draft) .trips)) old =
-          rw (first .1) (put-over 0 0 (first .0) old) in
-          k .is-starts ∙ ap (put 0 (startWords 0 ((k .draft) .trips))) began ∙ over
+          let marks : List ℕ = startWords 0 ((k .draft) .trips) in
+          let over : put 0 marks (set old 0 0) ≡ put 0 marks old = rw (first .1) (put-over 0 0 (first .0) old) in
+          k .is-starts ∙ ap (put 0 marks) began ∙ over
 
-      ended-well : some ≡ true → LinesRead (Accepted whole (line - 1)) (LinesAccepted p (line - 1)) body starts body₀ old
+      ended-well : some ≡ true
+          → LinesRead (Accepted whole (line - 1)) (LinesAccepted p (line - 1)) body starts body₀ old
       unfolding some whole
       ended-well t =
           let none : (k .draft) .begun ≡ [] =
@@ -297,12 +297,13 @@ module _
           unfolding bodyAfter next
           next-body =
               let room = length-bodyOf (k .draft) in
-              let place : 2 * p .stations + 4 * p .stops ≡ 0 + length (bodyOf (k .draft)) = ap (λ (x : Progress). 2 * x .stations + 4 * x .stops) (k .is-progress) ∙ omega arith in
+              let place : 2 * p .stations + 4 * p .stops ≡ 0 + length (bodyOf (k .draft)) =
+              ap (λ (x : Progress). 2 * x .stations + 4 * x .stops) (k .is-progress) ∙ omega arith in
               body-after
               ∙ simp (eq-eqb (lineNumber p (lineAt text from end)) 0 accepted-here)
               (rw (k .is-body, place, body-grows (k .draft) (lineAt text from end) accepted)
-              (put-append 0 (length (bodyOf (k .draft))) (bodyOf (k .draft)) (lineWords (lineAt text from end)) body₀ refl
-              (omega (arith, k .within, k .body-room))))
+              (put-append 0 (length (bodyOf (k .draft))) (bodyOf (k .draft)) (lineWords (lineAt text from end)) body₀
+              refl (omega (arith, k .within, k .body-room))))
 
           next-starts : starts′ ≡ put 0 (startWords 0 (next .trips)) starts₀
           unfolding startsAfter next
@@ -324,7 +325,9 @@ module _
                 within = next-within;
                 long-body = ap length next-body ∙ length-put 0 (bodyOf next) body₀ body-fits ∙ k .body-room;
                 long-starts =
-                    ap length next-starts ∙ length-put 0 (startWords 0 (next .trips)) starts₀ starts-fit ∙ k .starts-room;
+                    ap length next-starts
+                    ∙ length-put 0 (startWords 0 (next .trips)) starts₀ starts-fit
+                    ∙ k .starts-room;
                 body-room = k .body-room;
                 starts-room = k .starts-room;
                 in-text = omega arith;

@@ -1,27 +1,15 @@
 -- The ways out of the call.
 use mathlib.Core.Path.{_≡_, refl, sym, ap, subst, _∙_}
-use mathlib.Core.Bool.{Bool, true, false, cond}
-use mathlib.Core.List.{List, [], _∷_, _++_, append-nil}
+use mathlib.Core.List.{List, _∷_, _++_, append-nil}
 use Prim.Native.Nat.{ℕ, _+_, _*_, _≤_, _<_}
 use native.Mathlib.Omega.{arith}
 use borrow.Author.Tests.{le-leb, lt-leb}
-use lib.Dec.{leb}
 use lib.ListN.{length, take, length-append}
 use Rattle.words.specs.Put.{put, take-put}
 use Rattle.timetable.specs.Timetable.{Timetable, stopsOf}
-use Rattle.timetable.specs.Words.{stationWords, stopWords, startWords, words}
+use Rattle.timetable.specs.Words.{startWords, words}
 use Rattle.timetable.specs.WordLaws.{length-stationWords, length-stopWords, length-startWords}
-use Rattle.reading.specs.Reading.{
-  Outcome,
-  Accepted,
-  Refused,
-  readLines,
-  reading,
-  replyTo,
-  readReply,
-  written,
-  readWords,
-}
+use Rattle.reading.specs.Reading.{Outcome, Accepted, Refused, readLines, reading, readReply, readWords}
 use Rattle.reading.specs.Model.{Within, bodyWords, progressOf, LinesRead, tableWords}
 use Rattle.reading.specs.declared.Progress.{Progress}
 use Rattle.reading.specs.declared.Lines.{Lines}

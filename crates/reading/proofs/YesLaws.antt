@@ -1,9 +1,10 @@
 -- What a line is that has its yes to all questions.
-use mathlib.Core.Path.{_≡_, refl, sym, ap, _∙_}
-use mathlib.Core.Bool.{Bool, true, false, not, cond, _&&_, _||_}
-use mathlib.Core.List.{[], _∷_}
-use Prim.Native.Nat.{ℕ, zero, suc, _+_, _≤_, _<_}
+use mathlib.Core.Path.{_≡_, sym, _∙_}
+use mathlib.Core.Bool.{Bool, true, _&&_, _||_}
+use mathlib.Core.List.{List, [], _∷_}
+use Prim.Native.Nat.{ℕ, _+_, _*_, _≤_, _<_}
 use native.Mathlib.Omega.{arith}
+use lib.ListN.{length}
 use borrow.Author.Tests.{ltb-true, leb-true, eqb-true}
 use lib.Dec.{leb, ltb, eqb}
 use Rattle.questions.specs.Question.{ask, firstNo, yes-here, yes-later, and-left, and-right}
@@ -21,6 +22,7 @@ use Rattle.reading.specs.Draft.{
   stopCounted,
   stopFits,
 }
+use Rattle.reading.specs.Model.{Within}
 use Rattle.reading.specs.declared.Progress.{Progress}
 
 -- the tests of three and of four questions
@@ -67,6 +69,17 @@ station-yes p l n is e =
       room = ltb-true (p .stations) 64 (all .2);
     }
 
+-- its words have room, and fit
+module _ (p : Progress) (l : StationLine) (n : ℕ) (is : n ≡ stationNumber p l) (e : n ≡ 0) where
+  pub station-room : (body : List ℕ) → length body ≡ 8320 → 2 * p .stations + 4 * p .stops + 2 ≤ length body
+  station-room body h = omega (arith, station-yes p l n is e)
+
+  pub minutes-word : l .minutes < 65536
+  minutes-word = omega (arith, station-yes p l n is e)
+
+  pub points-word : l .points < 65536
+  points-word = omega (arith, station-yes p l n is e)
+
 pub record StopYes (p : Progress) (l : StopLine) : Type 0 where
   pub arrive : l .arrive ≤ 2879
   pub depart : l .depart ≤ 2879
@@ -106,3 +119,27 @@ stop-yes p l n is e =
       station = stop-station p l (all .3);
       fits = all .3;
     }
+
+-- its words have room, and fit
+module _ (p : Progress) (l : StopLine) (n : ℕ) (is : n ≡ stopNumber p l) (e : n ≡ 0) where
+  pub arrive-word : l .arrive < 65536
+  arrive-word = omega (arith, stop-yes p l n is e)
+
+  pub depart-word : l .depart < 65536
+  depart-word = omega (arith, stop-yes p l n is e)
+
+  pub ride-word : l .points < 65536
+  ride-word = omega (arith, stop-yes p l n is e)
+
+  pub trips-below : p .trips < 256
+  trips-below = (stop-yes p l n is e) .trips
+
+  pub stops-below : p .stops < 2048
+  stops-below = (stop-yes p l n is e) .stops
+
+  module _ (within : Within p) where
+    pub station-word : l .station < 65536
+    station-word = omega (arith, stop-yes p l n is e, within)
+
+    pub stop-room : (body : List ℕ) → length body ≡ 8320 → 2 * p .stations + 4 * p .stops + 4 ≤ length body
+    stop-room body h = omega (arith, stop-yes p l n is e, within)

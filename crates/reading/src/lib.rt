@@ -8,7 +8,16 @@ ghost use Rattle.text.specs.Shape.{shapeOf};
 ghost use Rattle.text.specs.declared.Line.the-variants.{Station, Stop};
 ghost use Rattle.reading.specs.Draft.{stationNumber, stopNumber, stopFits};
 ghost use Rattle.reading.specs.Reading.{readLines, readReply, readWords};
-ghost use Rattle.reading.specs.Model.{Within, advance, nextOf, bodyAfter, startsAfter, endOf, LinesRead, tableWords};
+ghost use Rattle.reading.specs.Model.{
+  Within,
+  advance,
+  nextOf,
+  bodyAfter,
+  startsAfter,
+  endOf,
+  LinesRead,
+  tableWords,
+};
 use text::Line;
 use text::StationLine;
 use text::StopLine;
@@ -171,7 +180,8 @@ fn after_stop(p: Progress, l: StopLine) -> Progress
 // A trip's last stop says where the next trip begins.
 fn mark_start(p: Progress, last: bool, starts: &mut [u16])
     requires { ⌜ (p .trips < 256) × (p .stops < 2048) × (length (now starts) ≡ 257) ⌝ }
-    ensures { λ _. ⌜ now (starts .exit) ≡ cond last (set (now (starts .entry)) (p .trips + 1) (p .stops + 1)) (now (starts .entry)) ⌝ }
+    ensures { λ _. ⌜ now (starts .exit) ≡ cond last (set (now (starts .entry)) (p .trips + 1) (p .stops + 1))
+        (now (starts .entry)) ⌝ }
 {
     if last {
         let next = p.trips + 1;
@@ -239,8 +249,8 @@ fn end_lines(p: Progress, line: u32) -> Lines
 // Reads all lines of a text, into the words of stations and stops and the places where trips begin.
 fn read_lines(text: &[u8], body: &mut [u16], starts: &mut [u16]) -> Lines
     requires { ⌜ (length (now text) ≤ 65536) × (length (now body) ≡ 8320) × (length (now starts) ≡ 257) ⌝ }
-    ensures { λ r. ⌜ LinesRead (readLines (now (text .entry))) r (now (body .exit)) (now (starts .exit)) (now (body .entry))
-        (now (starts .entry)) ⌝ }
+    ensures { λ r. ⌜ LinesRead (readLines (now (text .entry))) r (now (body .exit)) (now (starts .exit))
+        (now (body .entry)) (now (starts .entry)) ⌝ }
 {
     starts[0] = 0;
     let n = text.len();

@@ -1,19 +1,17 @@
 -- The ways out of `shape`. The fields are read from the part of the line behind its first two bytes, and their values
 -- stand in a local array, of which as many words count as there are fields, seven at most.
-use mathlib.Core.Path.{_≡_, refl, sym, ap, _∙_}
-use mathlib.Core.Bool.{Bool, true, false}
-use mathlib.Core.List.{List, [], _∷_, _++_}
-use Prim.Native.Nat.{ℕ, zero, suc, _+_, _-_, _≤_, _<_, min}
+use mathlib.Core.Path.{_≡_, sym, _∙_}
+use mathlib.Core.List.{List}
+use Prim.Native.Nat.{ℕ, _-_, _≤_, _<_, min}
 use native.Mathlib.Omega.{arith}
 use borrow.Author.Tests.{eq-eqb, ne-eqb}
-use lib.Dec.{eqb}
 use lib.ListN.{length, take, drop, getD, length-drop, List·getD-eq-default}
 use lib.Seq.{take-all}
 use Rattle.words.specs.Put.{put, getD-put}
 use Rattle.text.specs.Number.{fieldValues}
 use Rattle.text.specs.Shape.{stationOf, stopOf, stationShape, stopShape, shapeOf}
 use Rattle.text.specs.declared.Line.{Line}
-use Rattle.text.specs.declared.Line.the-variants.{Station, Stop, Shapeless}
+use Rattle.text.specs.declared.Line.the-variants.{Shapeless}
 
 pub too-short : (line : List ℕ) → length line < 2 → Shapeless ≡ shapeOf line
 unfolding shapeOf

@@ -1,12 +1,11 @@
 -- A turn of `field_values`: of the values l of all fields, k are written, and those from index `from` on are left.
 -- The field at `from` ends at index `end`.
-use mathlib.Core.Path.{_≡_, refl, sym, ap, _∙_}
-use mathlib.Core.List.{List, [], _∷_, _++_, map}
+use mathlib.Core.Path.{_≡_, sym, ap, _∙_}
+use mathlib.Core.List.{List, [], _∷_, _++_}
 use Prim.Native.Nat.{ℕ, zero, suc, _+_, _-_, _≤_, _<_, min}
-use native.Mathlib.Nat.{add-sub-cancel-left}
 use native.Mathlib.Numerals.{add-one}
-use native.Mathlib.Omega.{arith, by-contra}
-use lib.ListN.{length, take, drop, getD, set, length-drop}
+use native.Mathlib.Omega.{arith}
+use lib.ListN.{length, take, drop, set, length-drop}
 use lib.Seq.{drop-drop, take-all, length-take-le}
 use native.Mathlib.Decide.{ℕ-discrete}
 use Rattle.words.specs.Put.{put, put-next}

@@ -1,7 +1,6 @@
 // What a timetable text says, line by line: pieces, numbers, the two shapes of a line, and the value ranges.
 ghost use mathlib.Core.Path.{_≡_};
-ghost use Prim.Native.Nat.{ℕ, _+_, _≤_, _<_, min};
-ghost use mathlib.Core.List.{map};
+ghost use Prim.Native.Nat.{_+_, _≤_, _<_, min};
 ghost use lib.ListN.{length, take, drop};
 ghost use Rattle.words.specs.Put.{put};
 ghost use Rattle.text.specs.Piece.{pieceLength};
@@ -65,7 +64,9 @@ pub enum Line {
 // The index of the first byte mark at or after index from, or the length where there is none.
 pub fn piece_end(s: &[u8], mark: u8, from: usize) -> usize
     requires { ⌜ from ≤ length (now s) ⌝ }
-    ensures { λ r. ⌜ (r ≡ from + pieceLength mark (drop from (now (s .entry)))) × (from ≤ r) × (r ≤ length (now (s .entry))) ⌝ }
+    ensures { λ r. ⌜ (r ≡ from + pieceLength mark (drop from (now (s .entry))))
+        × (from ≤ r)
+        × (r ≤ length (now (s .entry))) ⌝ }
 {
     let mut i = from;
     loop {

@@ -1,11 +1,11 @@
 -- The ways out of the functions that decide question 9.
 use mathlib.Core.Path.{_≡_, refl, sym, ap, _∙_}
-use mathlib.Core.Bool.{Bool, true, false, not, cond, _&&_}
-use mathlib.Core.List.{List, [], _∷_, map}
-use Prim.Native.Nat.{ℕ, zero, suc, _+_, _-_, _≤_, _<_}
+use mathlib.Core.Bool.{Bool, true, false, not, _&&_}
+use mathlib.Core.List.{List, [], _∷_}
+use Prim.Native.Nat.{ℕ, _+_, _≤_, _<_}
 use native.Mathlib.Omega.{arith}
 use borrow.Author.Tests.{le-leb, lt-leb, eq-eqb, ne-eqb, leb-true, eqb-true, not-true, not-false}
-use lib.Dec.{leb, ltb, eqb}
+use lib.Dec.{leb, eqb}
 use Rattle.questions.specs.Question.{and-left, and-right, and-true, and-false}
 use Rattle.timetable.specs.Timetable.{
   Station,
@@ -103,7 +103,8 @@ module _ (w : List ℕ) (n : ℕ) (whole : Bool) (before : Stop) (i end : ℕ)
       unfolding runs
       last =
           left
-          ∙ ap (runs n before) (stops-more w i end (omega arith) ∙ ap (λ l. stopAt w i ∷ l) (stops-none w (i + 1) end (omega arith)))
+          ∙ ap (runs n before)
+          (stops-more w i end (omega arith) ∙ ap (λ l. stopAt w i ∷ l) (stops-none w (i + 1) end (omega arith)))
           ∙ rw (after, is)
 
       pub run-ends : t ≡ true → (u : Bool) → u ≡ ends s → u ≡ whole
@@ -151,7 +152,9 @@ rise-most : (b : ℕ) (l : List ℕ) (n : ℕ) → rise b l n ≡ true → b ≤
 unfolding rise
 rise-most b [] n e = omega (arith, eqb-true b n e)
 rise-most b (c ∷ l) n e =
-    omega (arith, leb-true b c (and-left (leb b c) (rise c l n) e), rise-most c l n (and-right (leb b c) (rise c l n) e))
+    let here = leb-true b c (and-left (leb b c) (rise c l n) e) in
+    let later = rise-most c l n (and-right (leb b c) (rise c l n) e) in
+    omega (arith, here, later)
 
 rise-beyond : (b : ℕ) (l : List ℕ) (n : ℕ) → n < b → rise b l n ≡ false
 rise-beyond b l n h = by-test (rise b l n) (rise-most b l n)
@@ -160,7 +163,8 @@ rise-beyond b l n h = by-test (rise b l n) (rise-most b l n)
     by-test true f = absurd (omega (arith, f refl))
     by-test false f = refl
 
-module _ (w : List ℕ) (n stops k first trips : ℕ) (whole : Bool) (left : whole ≡ tripsTest w n stops k first trips) where
+module _ (w : List ℕ) (n stops k first trips : ℕ) (whole : Bool)
+    (left : whole ≡ tripsTest w n stops k first trips) where
   pub trips-done : k ≤ trips → trips ≤ k → eqb first stops ≡ whole
   unfolding tripsTest rise validTrips
   trips-done h g =

@@ -1,29 +1,24 @@
 -- How the code decides question 9, part by part. No reader of the promise needs this file: `decided` shows that the
 -- parts come to `isTimetable`.
 use mathlib.Core.Path.{_≡_, refl, sym, ap, _∙_}
-use mathlib.Core.Bool.{Bool, true, false, not, cond, _&&_}
-use mathlib.Core.List.{List, [], _∷_, _++_, map}
-use Prim.Native.Nat.{ℕ, zero, suc, _+_, _-_, _*_, _≤_, _<_}
+use mathlib.Core.Bool.{Bool, true, _&&_}
+use mathlib.Core.List.{List, [], _∷_, map}
+use Prim.Native.Nat.{ℕ, zero, suc, _+_, _-_, _≤_, _<_}
 use native.Mathlib.Nat.{sub-zero}
 use native.Mathlib.Numerals.{add-one}
 use native.Mathlib.Omega.{arith}
-use borrow.Author.Tests.{le-leb, lt-leb, eq-eqb, ne-eqb, leb-true, eqb-true, not-true, not-false}
-use lib.Dec.{leb, ltb, eqb}
-use lib.ListN.{length, getD, length-append, length-map}
-use Rattle.questions.specs.Question.{and-left, and-right, and-both, and-false, same-tests}
+use borrow.Author.Tests.{leb-true, eqb-true}
+use lib.Dec.{leb, eqb}
+use lib.ListN.{length, length-append, length-map}
+use Rattle.questions.specs.Question.{and-left, and-right, and-both, same-tests}
 use Rattle.timetable.specs.Timetable.{
   Station,
   Stop,
   Trip,
-  Timetable,
   stopsOf,
   listed,
   leaves,
-  ends,
   follows,
-  runs,
-  validTrip,
-  validStation,
   validStations,
   validTrips,
   counted,

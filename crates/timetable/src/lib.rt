@@ -1,8 +1,7 @@
 // The abstract timetable, the words that hold it, and question 9: could these words come from an accepted text?
 ghost use mathlib.Core.Path.{_≡_};
-ghost use mathlib.Core.List.{map};
-ghost use Prim.Native.Nat.{_+_, _-_, _*_, _≤_, _<_};
-ghost use lib.ListN.{length, getD};
+ghost use Prim.Native.Nat.{_+_, _*_, _≤_, _<_};
+ghost use lib.ListN.{length};
 ghost use Rattle.timetable.specs.Timetable.{
   validStation,
   listed,

@@ -1,13 +1,24 @@
 -- Words put into a lent slice. "Words past a result keep their values": so do the words before it.
 -- All of this speaks of lists of numbers, and so of words of any width.
-use mathlib.Core.Path.{_≡_, refl, sym, ap, _∙_}
+use mathlib.Core.Path.{_≡_, refl}
 use mathlib.Core.List.{List, [], _∷_, _++_, append-assoc, append-nil}
-use Prim.Native.Nat.{ℕ, zero, suc, _+_, _≤_, _<_}
+use Prim.Native.Nat.{ℕ, suc, _+_, _≤_, _<_}
 use native.Mathlib.Nat.{add-zero, zero-add}
 use native.Mathlib.Numerals.{add-one}
 use native.Mathlib.Omega.{arith}
-use lib.ListN.{length, take, drop, set, getD, length-append, length-take, length-drop, take-append-drop, List·getD-append}
-use lib.Seq.{drop-cons, set-at, take-suc, take-length, take-at, drop-at, drop-drop, length-take-le, drop-set-lt}
+use lib.ListN.{
+  length,
+  take,
+  drop,
+  set,
+  getD,
+  length-append,
+  length-take,
+  length-drop,
+  take-append-drop,
+  List·getD-append,
+}
+use lib.Seq.{drop-cons, set-at, take-suc, take-at, drop-at, drop-drop, length-take-le, drop-set-lt}
 
 -- `old` with `ws` in the place of the words from `at` on
 unfoldable pub put : ℕ → List ℕ → List ℕ → List ℕ
