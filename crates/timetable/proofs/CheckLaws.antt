@@ -29,14 +29,9 @@ use Rattle.timetable.specs.Check.{
   tripsAt,
   startsAt,
   tripsTest,
-  stations-more,
-  stations-none,
-  stops-more,
-  stops-none,
-  trips-more,
-  trips-none,
-  starts-more,
-  starts-none,
+  between,
+  between-more,
+  between-none,
 }
 
 -- ---- a first stop
@@ -73,12 +68,12 @@ module _ (n : ℕ) (b s : Stop) (t : Bool) (is : t ≡ follows n b s) where
 module _ (w : List ℕ) (n i : ℕ) (left : validStations (stationsAt w 0 n) ≡ validStations (stationsAt w i n)) where
   pub stations-done : n ≤ i → true ≡ validStations (stationsAt w 0 n)
   unfolding validStations
-  stations-done h = sym (left ∙ ap validStations (stations-none w i n h))
+  stations-done h = sym (left ∙ ap validStations (between-none (stationAt w) i n h))
 
   module _ (h : i < n) (s : Station) (is : s ≡ stationAt w i) (t : Bool) (test : t ≡ validStation s) where
     next : validStations (stationsAt w 0 n) ≡ (t && validStations (stationsAt w (i + 1) n))
     unfolding validStations
-    next = left ∙ ap validStations (stations-more w i n h) ∙ rw (test, is)
+    next = left ∙ ap validStations (between-more (stationAt w) i n h) ∙ rw (test, is)
 
     pub station-bad : not t ≡ true → false ≡ validStations (stationsAt w 0 n)
     station-bad e = sym (next ∙ rw (not-true t e))
@@ -95,7 +90,7 @@ module _ (w : List ℕ) (n : ℕ) (whole : Bool) (before : Stop) (i end : ℕ)
     (left : whole ≡ runs n before (stopsAt w i end)) where
   pub run-short : i ≡ end → false ≡ whole
   unfolding runs
-  run-short e = sym (left ∙ ap (runs n before) (stops-none w i end (omega arith)))
+  run-short e = sym (left ∙ ap (runs n before) (between-none (stopAt w) i end (omega arith)))
 
   module _ (s : Stop) (is : s ≡ stopAt w i) (h : i ≤ end) (g : i ≡ end → ⊥) where
     module _ (e : i + 1 ≡ end) (t : Bool) (after : t ≡ follows n before s) where
@@ -104,7 +99,7 @@ module _ (w : List ℕ) (n : ℕ) (whole : Bool) (before : Stop) (i end : ℕ)
       last =
           left
           ∙ ap (runs n before)
-          (stops-more w i end (omega arith) ∙ ap (λ l. stopAt w i ∷ l) (stops-none w (i + 1) end (omega arith)))
+          (between-more (stopAt w) i end (omega arith) ∙ ap (λ l. stopAt w i ∷ l) (between-none (stopAt w) (i + 1) end (omega arith)))
           ∙ rw (after, is)
 
       pub run-ends : t ≡ true → (u : Bool) → u ≡ ends s → u ≡ whole
@@ -117,9 +112,9 @@ module _ (w : List ℕ) (n : ℕ) (whole : Bool) (before : Stop) (i end : ℕ)
       middle : whole ≡ (t && runs n s (stopsAt w (i + 1) end))
       unfolding runs passes
       middle =
-          let two = stops-more w (i + 1) end (omega arith) in
+          let two = between-more (stopAt w) (i + 1) end (omega arith) in
           left
-          ∙ ap (runs n before) (stops-more w i end (omega arith) ∙ ap (λ l. stopAt w i ∷ l) two)
+          ∙ ap (runs n before) (between-more (stopAt w) i end (omega arith) ∙ ap (λ l. stopAt w i ∷ l) two)
           ∙ rw (on, is, two)
 
       pub run-breaks : not t ≡ true → false ≡ whole
@@ -132,12 +127,12 @@ module _ (w : List ℕ) (n : ℕ) (whole : Bool) (before : Stop) (i end : ℕ)
 module _ (w : List ℕ) (n first end : ℕ) where
   pub trip-empty : end ≤ first → false ≡ validTrip n (stopsAt w first end)
   unfolding validTrip
-  trip-empty h = sym (ap (validTrip n) (stops-none w first end h))
+  trip-empty h = sym (ap (validTrip n) (between-none (stopAt w) first end h))
 
   module _ (h : first < end) (s : Stop) (is : s ≡ stopAt w first) (t : Bool) (test : t ≡ begins n s) where
     begun : validTrip n (stopsAt w first end) ≡ (t && runs n (stopAt w first) (stopsAt w (first + 1) end))
     unfolding validTrip begins
-    begun = ap (validTrip n) (stops-more w first end h) ∙ rw (test, is)
+    begun = ap (validTrip n) (between-more (stopAt w) first end h) ∙ rw (test, is)
 
     pub trip-unbegun : not t ≡ true → false ≡ validTrip n (stopsAt w first end)
     trip-unbegun y = sym (begun ∙ rw (not-true t y))
@@ -170,14 +165,14 @@ module _ (w : List ℕ) (n stops k first trips : ℕ) (whole : Bool)
   trips-done h g =
       sym
       (left
-      ∙ rw (starts-none w (k + 1) (trips + 1) (omega arith), trips-none w k trips g)
+      ∙ rw (between-none (startAt w) (k + 1) (trips + 1) (omega arith), between-none (tripAt w) k trips g)
       (and-true (eqb first stops)))
 
   module _ (h : k < trips) (end : ℕ) (is-end : end ≡ startAt w (k + 1)) where
     rises : rise first (startsAt w (k + 1) (trips + 1)) stops
         ≡ (leb first end && rise end (startsAt w (k + 1 + 1) (trips + 1)) stops)
     unfolding rise
-    rises = rw (starts-more w (k + 1) (trips + 1) (omega arith), is-end)
+    rises = rw (between-more (startAt w) (k + 1) (trips + 1) (omega arith), is-end)
 
     pub trip-falls : end < first → false ≡ whole
     unfolding tripsTest
@@ -191,8 +186,8 @@ module _ (w : List ℕ) (n stops k first trips : ℕ) (whole : Bool)
 
     module _ (is-first : first ≡ startAt w k) (t : Bool) (test : t ≡ validTrip n (stopsAt w first end)) where
       goes : validTrips n (tripsAt w k trips) ≡ (t && validTrips n (tripsAt w (k + 1) trips))
-      unfolding validTrips tripAt stopsAt
-      goes = rw (trips-more w k trips h, test, is-first, is-end)
+      unfolding validTrips tripAt between
+      goes = rw (between-more (tripAt w) k trips h, test, is-first, is-end)
 
       pub trip-bad : not t ≡ true → false ≡ whole
       unfolding tripsTest
