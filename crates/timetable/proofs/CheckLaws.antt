@@ -99,7 +99,8 @@ module _ (w : List ℕ) (n : ℕ) (whole : Bool) (before : Stop) (i end : ℕ)
       last =
           left
           ∙ ap (runs n before)
-          (between-more (stopAt w) i end (omega arith) ∙ ap (λ l. stopAt w i ∷ l) (between-none (stopAt w) (i + 1) end (omega arith)))
+          (between-more (stopAt w) i end (omega arith)
+          ∙ ap (λ l. stopAt w i ∷ l) (between-none (stopAt w) (i + 1) end (omega arith)))
           ∙ rw (after, is)
 
       pub run-ends : t ≡ true → (u : Bool) → u ≡ ends s → u ≡ whole

@@ -1,6 +1,14 @@
 -- A refused line writes nothing. One that has its yes is within the limits, so that its words have room and fit.
 use borrow.Author.Needs.{needs}
-use Rattle.reading.proofs.YesLaws.{stop-room, station-word, arrive-word, depart-word, ride-word, trips-below, stops-below}
+use Rattle.reading.proofs.YesLaws.{
+  stop-room,
+  station-word,
+  arrive-word,
+  depart-word,
+  ride-word,
+  trips-below,
+  stops-below,
+}
 use Rattle.reading.proofs.TakeLaws.{
   refused-next,
   refused-body,
