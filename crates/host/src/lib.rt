@@ -7,11 +7,14 @@ ghost use Rattle.reading.specs.Reading.{readReply, readWords};
 ghost use Rattle.host.specs.Packed.{packed, packedReply};
 use reading::Reply;
 
+// What 1 in the upper half of a reply counts.
+const UPPER: u64 = 4294967296;
+
 // The refusal's number, or 0, in the upper half, and the count or line in the lower.
 fn pack(number: u32, low: u32) -> u64
     ensures { λ r. ⌜ r ≡ packed number low ⌝ }
 {
-    number as u64 * 4294967296 + low as u64
+    number as u64 * UPPER + low as u64
 }
 
 fn pack_reply(reply: Reply) -> u64

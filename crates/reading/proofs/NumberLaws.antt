@@ -3,7 +3,7 @@ use mathlib.Core.Path.{_≡_}
 use mathlib.Core.Bool.{Bool, true, false, _&&_, _||_}
 use Prim.Native.Nat.{ℕ, _+_, _≤_, _<_}
 use borrow.Author.Tests.{lt-ltb, le-ltb, le-leb, lt-leb, eq-eqb, ne-eqb}
-use lib.Dec.{leb, eqb}
+use lib.Dec.{leb, ltb, eqb}
 use Rattle.text.specs.Range.{inRange, rangeNumber, range-in, range-out}
 use Rattle.text.specs.declared.StationLine.{StationLine}
 use Rattle.text.specs.declared.StopLine.{StopLine}
@@ -151,12 +151,13 @@ module _ (p : Progress) (l : StopLine) (a : ℕ) (is-a : a ≡ rangeNumber 3 (l 
               stops-full h = simp (stop-in-range, stop-in-place, lt-ltb (p .trips) 256 trips, le-ltb (p .stops) 2048 h)
 
               module _ (stops : p .stops < 2048) (f : Bool) (is-f : f ≡ stopFits p l) where
+                stop-counted : (ltb (p .trips) 256 && ltb (p .stops) 2048) ≡ true
+                stop-counted = simp (lt-ltb (p .trips) 256 trips, lt-ltb (p .stops) 2048 stops)
+
                 pub stop-taken : f ≡ true → 0 ≡ stopNumber p l
                 unfolding stopNumber
-                stop-taken h =
-                    simp (stop-in-range, stop-in-place, lt-ltb (p .trips) 256 trips, lt-ltb (p .stops) 2048 stops, ← is-f, h)
+                stop-taken h = simp (stop-in-range, stop-in-place, stop-counted, ← is-f, h)
 
                 pub stop-refused : f ≡ false → 6 ≡ stopNumber p l
                 unfolding stopNumber
-                stop-refused h =
-                    simp (stop-in-range, stop-in-place, lt-ltb (p .trips) 256 trips, lt-ltb (p .stops) 2048 stops, ← is-f, h)
+                stop-refused h = simp (stop-in-range, stop-in-place, stop-counted, ← is-f, h)

@@ -24,6 +24,19 @@ use text::StopLine;
 
 const LINE_END: u8 = 10;
 
+const TEXT_MOST: usize = 65536;
+
+const STATIONS_MOST: usize = timetable::STATIONS_MOST as usize;
+
+const TRIPS_MOST: usize = timetable::TRIPS_MOST as usize;
+
+const STOPS_MOST: usize = timetable::STOPS_MOST as usize;
+
+// The words of all stations and stops, at the limits, and the places where trips begin.
+const BODY_WORDS: usize = 2 * STATIONS_MOST + 4 * STOPS_MOST;
+
+const STARTS_WORDS: usize = TRIPS_MOST + 1;
+
 // How far the lines of a text have come: stations, ended trips, stops in all, stops of the begun trip, and the station
 // and departure of the stop before, where a trip has begun.
 pub struct Progress {
@@ -68,7 +81,7 @@ fn station_number(p: Progress, l: StationLine) -> u32
     if l.number as usize != p.stations + 1 {
         return 4;
     }
-    if 64 <= p.stations {
+    if STATIONS_MOST <= p.stations {
         return 5;
     }
     0
@@ -120,10 +133,10 @@ fn stop_number(p: Progress, l: StopLine) -> u32
     if l.stop as usize != p.begun + 1 {
         return 4;
     }
-    if 256 <= p.trips {
+    if TRIPS_MOST <= p.trips {
         return 5;
     }
-    if 2048 <= p.stops {
+    if STOPS_MOST <= p.stops {
         return 5;
     }
     if stop_fits(p, l) {
@@ -313,14 +326,14 @@ pub fn read(text: &[u8], timetable: &mut [u16]) -> Reply
     ensures reply { λ r. ⌜ r ≡ readReply (now (text .entry)) (length (now (timetable .entry))) ⌝ }
     ensures words { λ _. ⌜ now (timetable .exit) ≡ readWords (now (text .entry)) (now (timetable .entry)) ⌝ }
 {
-    if timetable.len() < 16384 {
+    if timetable.len() < timetable::WORDS_LEAST {
         return Reply::Refused { number: 8, line: 0 };
     }
-    if 65536 < text.len() {
+    if TEXT_MOST < text.len() {
         return Reply::Refused { number: 1, line: 0 };
     }
-    let mut body = [0u16; 8320];
-    let mut starts = [0u16; 257];
+    let mut body = [0u16; BODY_WORDS];
+    let mut starts = [0u16; STARTS_WORDS];
     match read_lines(text, &mut body, &mut starts) {
         Lines::Refused { number, line } => {
             return Reply::Refused { number, line };

@@ -25,8 +25,15 @@ pub const NO_NUMBER: u32 = 10001;
 
 const NUMBER_MOST: u32 = 9999;
 
-// The fields of the longest line and one more, which shows a line that is too long.
-const FIELDS_MOST: usize = 7;
+const DIGITS_MOST: usize = 4;
+
+// The fields behind the first of a station line and of a stop line.
+const STATION_FIELDS: usize = 3;
+
+const STOP_FIELDS: usize = 6;
+
+// One field more than the longest line has shows a line that is too long.
+const FIELDS_MOST: usize = STOP_FIELDS + 1;
 
 // The kinds of fields that have a value range.
 pub const CHANGE_MINUTES: u8 = 1;
@@ -101,7 +108,7 @@ pub fn field_value(field: &[u8]) -> u32
     if n == 0 {
         return EMPTY;
     }
-    if 4 < n {
+    if DIGITS_MOST < n {
         return NO_NUMBER;
     }
     if field[0] == ZERO {
@@ -243,16 +250,16 @@ pub fn shape(line: &[u8]) -> Line
     if line[1] != COMMA {
         return Line::Shapeless;
     }
-    let mut values = [0u32; 7];
+    let mut values = [0u32; FIELDS_MOST];
     let count = field_values(&line[2..n], &mut values);
     if line[0] == STATION {
-        if count != 3 {
+        if count != STATION_FIELDS {
             return Line::Shapeless;
         }
         return station_line(values[0], values[1], values[2]);
     }
     if line[0] == STOP {
-        if count != 6 {
+        if count != STOP_FIELDS {
             return Line::Shapeless;
         }
         return stop_line(

@@ -23,6 +23,23 @@ ghost use Rattle.timetable.specs.Words.{
 };
 ghost use Rattle.timetable.specs.Check.{begins, passes, stationsAt, stopsAt, tripsTest};
 
+// The words that every lent timetable slice has at least.
+pub const WORDS_LEAST: usize = 16384;
+
+pub const STATIONS_MOST: u32 = 64;
+
+pub const TRIPS_MOST: u32 = 256;
+
+pub const STOPS_MOST: u32 = 2048;
+
+const CHANGE_MINUTES_MOST: u32 = 240;
+
+const CHANGE_PENALTY_MOST: u32 = 1000;
+
+const LAST_MINUTE: u32 = 2879;
+
+const RIDE_PENALTY_MOST: u32 = 100;
+
 // A station: what a change there takes and costs.
 pub struct Station {
     pub minutes: u32,
@@ -84,13 +101,13 @@ pub fn start_at(words: &[u16], k: usize) -> usize
 fn station_is_valid(s: Station) -> bool
     ensures { λ r. ⌜ r ≡ validStation s ⌝ }
 {
-    if 240 < s.minutes {
+    if CHANGE_MINUTES_MOST < s.minutes {
         return false;
     }
     if s.points < 1 {
         return false;
     }
-    s.points <= 1000
+    s.points <= CHANGE_PENALTY_MOST
 }
 
 // The stop's station is one of n.
@@ -106,10 +123,10 @@ fn is_listed(n: u32, s: Stop) -> bool
 fn stop_leaves(s: Stop) -> bool
     ensures { λ r. ⌜ r ≡ leaves s ⌝ }
 {
-    if 2879 < s.depart {
+    if LAST_MINUTE < s.depart {
         return false;
     }
-    s.points <= 100
+    s.points <= RIDE_PENALTY_MOST
 }
 
 fn stop_ends(s: Stop) -> bool
@@ -134,7 +151,7 @@ fn stop_follows(n: u32, b: Stop, s: Stop) -> bool
     if s.arrive <= b.depart {
         return false;
     }
-    s.arrive <= 2879
+    s.arrive <= LAST_MINUTE
 }
 
 // A trip's first stop: listed, with no arrival, and left again.
@@ -255,15 +272,15 @@ pub fn is_timetable(words: &[u16]) -> bool
     if stations < 1 {
         return false;
     }
-    if 64 < stations {
+    if STATIONS_MOST < stations {
         return false;
     }
     let trips = words::word(words, 1);
-    if 256 < trips {
+    if TRIPS_MOST < trips {
         return false;
     }
     let stops = words::word(words, 2);
-    if 2048 < stops {
+    if STOPS_MOST < stops {
         return false;
     }
     if start_at(words, 0) != 0 {
@@ -279,7 +296,7 @@ pub fn is_timetable(words: &[u16]) -> bool
 pub fn timetable_number(words: &[u16]) -> u32
     ensures { λ r. ⌜ r ≡ timetableNumber (now (words .entry)) ⌝ }
 {
-    if words.len() < 16384 {
+    if words.len() < WORDS_LEAST {
         return 8;
     }
     if is_timetable(words) {
