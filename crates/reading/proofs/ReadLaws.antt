@@ -1,27 +1,15 @@
 -- The ways out of the call.
 use mathlib.Core.Path.{_≡_, refl, sym, ap, subst, _∙_}
-use mathlib.Core.Bool.{Bool, true, false, cond}
-use mathlib.Core.List.{List, [], _∷_, _++_, append-nil}
+use mathlib.Core.List.{List, _∷_, _++_, append-nil}
 use Prim.Native.Nat.{ℕ, _+_, _*_, _≤_, _<_}
 use native.Mathlib.Omega.{arith}
 use borrow.Author.Tests.{le-leb, lt-leb}
-use lib.Dec.{leb}
 use lib.ListN.{length, take, length-append}
 use Rattle.words.specs.Put.{put, take-put}
 use Rattle.timetable.specs.Timetable.{Timetable, stopsOf}
-use Rattle.timetable.specs.Words.{stationWords, stopWords, startWords, words}
+use Rattle.timetable.specs.Words.{startWords, words}
 use Rattle.timetable.specs.WordLaws.{length-stationWords, length-stopWords, length-startWords}
-use Rattle.reading.specs.Reading.{
-    Outcome,
-    Accepted,
-    Refused,
-    readLines,
-    reading,
-    replyTo,
-    readReply,
-    written,
-    readWords
-}
+use Rattle.reading.specs.Reading.{Outcome, Accepted, Refused, readLines, reading, readReply, readWords}
 use Rattle.reading.specs.Model.{Within, bodyWords, progressOf, LinesRead, tableWords}
 use Rattle.reading.specs.declared.Progress.{Progress}
 use Rattle.reading.specs.declared.Lines.{Lines}
@@ -89,12 +77,12 @@ module _ (text old : List ℕ) where
             let f = l .0 in
             let same : m ≡ n = cc in
             record {
-                timetable = t;
-                accepted = e ∙ ap (Accepted t) same;
-                is-progress = cc;
-                within = l .1;
-                is-body = l .2;
-                is-starts = l .3
+              timetable = t;
+              accepted = e ∙ ap (Accepted t) same;
+              is-progress = cc;
+              within = l .1;
+              is-body = l .2;
+              is-starts = l .3;
             }
         is-held (Refused k m) e l = let z : _≡_ {A = ℕ} 0 1 = cc in absurd (omega arith)
 
@@ -112,7 +100,7 @@ module _ (text old : List ℕ) where
         body-taken =
             let t = held .timetable in
             let long : length (bodyWords t) ≡ 2 * (progressOf t) .stations + 4 * (progressOf t) .stops =
-                simp (length-append, length-stationWords, length-stopWords, append-nil) in
+            simp (length-append, length-stationWords, length-stopWords, append-nil) in
             ap (λ (x : Progress). take (2 * x .stations + 4 * x .stops) body) (held .is-progress)
             ∙ ap (λ k. take k body) (sym long)
             ∙ ap (take (length (bodyWords t))) (held .is-body)

@@ -2,14 +2,14 @@
 use mathlib.Core.Path.{_≡_, refl, sym, ap, _∙_}
 use mathlib.Core.Bool.{Bool, true, false, cond}
 use mathlib.Core.List.{List}
-use Prim.Native.Nat.{ℕ, _+_, _-_, _*_, _≤_}
+use Prim.Native.Nat.{ℕ, _+_, _-_, _*_}
 use native.Mathlib.Omega.{arith}
 use borrow.Author.Tests.{eq-eqb, ne-eqb, le-leb}
 use lib.Dec.{leb, eqb}
 use Rattle.words.specs.Put.{put}
 use Rattle.text.specs.Shape.{shapeOf}
 use Rattle.text.specs.declared.Line.{Line}
-use Rattle.text.specs.declared.Line.the-variants.{Station, Stop, Shapeless}
+use Rattle.text.specs.declared.Line.the-variants.{Station, Shapeless}
 use Rattle.text.specs.declared.StationLine.{StationLine}
 use Rattle.reading.specs.Draft.{lineNumber}
 use Rattle.reading.specs.Model.{advance, nextOf, lineWords, bodyAfter, startsWith, startsAfter, endOf}

@@ -1,7 +1,7 @@
 -- A timetable as far as the lines of a text have come, and the questions that document 01 puts to the next line.
-use mathlib.Core.Bool.{Bool, true, false, not, cond, _&&_, _||_}
+use mathlib.Core.Bool.{Bool, true, false, not, _&&_, _||_}
 use mathlib.Core.List.{List, [], _∷_, _++_}
-use Prim.Native.Nat.{ℕ, zero, suc, _+_}
+use Prim.Native.Nat.{ℕ, _+_}
 use lib.Dec.{leb, ltb, eqb}
 use lib.ListN.{length}
 use Rattle.questions.specs.Question.{ask, firstNo}
@@ -10,7 +10,7 @@ use Rattle.text.specs.declared.Line.{Line}
 use Rattle.text.specs.declared.Line.the-variants.{Station as StationIn, Stop as StopIn, Shapeless}
 use Rattle.text.specs.declared.StationLine.{StationLine}
 use Rattle.text.specs.declared.StopLine.{StopLine}
-use Rattle.timetable.specs.Timetable.{Station, Stop, Trip, Timetable, stopsOf, stationsMost, tripsMost, stopsMost}
+use Rattle.timetable.specs.Timetable.{Station, Stop, Trip, stopsOf, stationsMost, tripsMost, stopsMost}
 use Rattle.reading.specs.declared.Progress.{Progress}
 
 -- stations and ended trips, and the stops of a trip that has begun and not ended
@@ -33,12 +33,12 @@ final (s ∷ u ∷ l) = final (u ∷ l)
 abbrev pub progress : Draft → Progress
 progress d =
     record {
-        stations = length (d .stations);
-        trips = length (d .trips);
-        stops = length (stopsOf (d .trips) ++ d .begun);
-        begun = length (d .begun);
-        station = (final (d .begun)) .station;
-        depart = (final (d .begun)) .depart
+      stations = length (d .stations);
+      trips = length (d .trips);
+      stops = length (stopsOf (d .trips) ++ d .begun);
+      begun = length (d .begun);
+      station = (final (d .begun)) .station;
+      depart = (final (d .begun)) .depart;
     }
 
 -- ---- the questions to a station line
@@ -78,9 +78,9 @@ stopFits p l =
     leb 1 (l .station)
     && leb (l .station) (p .stations)
     && (eqb (p .begun) 0
-        || not (eqb (l .station) (p .station))
-        && ltb (p .depart) (l .arrive)
-        && (l .last || leb (l .arrive) (l .depart)))
+    || not (eqb (l .station) (p .station))
+    && ltb (p .depart) (l .arrive)
+    && (l .last || leb (l .arrive) (l .depart)))
 
 unfoldable pub stopNumber : Progress → StopLine → ℕ
 stopNumber p l =

@@ -1,17 +1,17 @@
 -- How the code reads: it keeps the progress, and the words of stations and stops in one array, where trips begin in
 -- another. No reader of the promise needs this file; proofs/ shows that it comes to the same as Reading.
 use mathlib.Core.Path.{_≡_}
-use mathlib.Core.Bool.{Bool, true, false, cond, _&&_}
+use mathlib.Core.Bool.{cond, _&&_}
 use mathlib.Core.List.{List, [], _∷_, _++_}
-use Prim.Native.Nat.{ℕ, zero, suc, _+_, _-_, _*_, _≤_}
+use Prim.Native.Nat.{ℕ, _+_, _-_, _*_, _≤_}
 use lib.Dec.{leb, eqb}
-use lib.ListN.{length, take, set}
+use lib.ListN.{take, set}
 use Rattle.words.specs.Put.{put}
 use Rattle.text.specs.declared.Line.{Line}
 use Rattle.text.specs.declared.Line.the-variants.{Station as StationIn, Stop as StopIn, Shapeless}
 use Rattle.timetable.specs.Timetable.{Timetable, stopsOf}
 use Rattle.timetable.specs.Words.{stationWords, stopWords, startWords}
-use Rattle.reading.specs.Draft.{Draft, progress, lineNumber}
+use Rattle.reading.specs.Draft.{progress, lineNumber}
 use Rattle.reading.specs.Reading.{Outcome, Accepted, Refused}
 use Rattle.reading.specs.declared.Progress.{Progress}
 use Rattle.reading.specs.declared.Next.{Next}
@@ -30,30 +30,30 @@ pub record Within (p : Progress) : Type 0 where
 abbrev pub advance : Progress → Line → Progress
 advance p (StationIn l) =
     record {
-        stations = p .stations + 1;
-        trips = p .trips;
-        stops = p .stops;
-        begun = p .begun;
-        station = p .station;
-        depart = p .depart
+      stations = p .stations + 1;
+      trips = p .trips;
+      stops = p .stops;
+      begun = p .begun;
+      station = p .station;
+      depart = p .depart;
     }
 advance p (StopIn l) =
     cond (l .last)
     (record {
-        stations = p .stations;
-        trips = p .trips + 1;
-        stops = p .stops + 1;
-        begun = 0;
-        station = 0;
-        depart = 0
+      stations = p .stations;
+      trips = p .trips + 1;
+      stops = p .stops + 1;
+      begun = 0;
+      station = 0;
+      depart = 0;
     })
     (record {
-        stations = p .stations;
-        trips = p .trips;
-        stops = p .stops + 1;
-        begun = p .begun + 1;
-        station = l .station;
-        depart = l .depart
+      stations = p .stations;
+      trips = p .trips;
+      stops = p .stops + 1;
+      begun = p .begun + 1;
+      station = l .station;
+      depart = l .depart;
     })
 advance p Shapeless = p
 

@@ -1,8 +1,8 @@
 -- What a timetable text means: a timetable and its count of lines, or the refusal's number and line.
-use mathlib.Core.Bool.{Bool, true, false, cond, _&&_}
+use mathlib.Core.Bool.{cond, _&&_}
 use mathlib.Core.List.{List, [], _∷_}
-use Prim.Native.Nat.{ℕ, zero, suc, _+_, _-_}
-use lib.Dec.{leb, ltb, eqb}
+use Prim.Native.Nat.{ℕ, _+_, _-_}
+use lib.Dec.{leb, eqb}
 use lib.ListN.{length}
 use Rattle.words.specs.Put.{put}
 use Rattle.text.specs.Piece.{pieces}

@@ -1,9 +1,9 @@
 -- "Value ranges: change minutes 0 to 240, change penalty 1 to 1,000, times 0 to 2,879 (minutes from midnight, two
--- days), ride penalty 0 to 100." By the field's kind number: 1 change minutes, 2 change penalty, 3 time, 4 ride penalty.
--- "An empty field has no range": as a 0 it passes, for times and ride penalties may be 0.
-use mathlib.Core.Path.{_≡_, refl, sym, _∙_}
+-- days), ride penalty 0 to 100." By the field's kind number: 1 change minutes, 2 change penalty, 3 time, 4 ride
+-- penalty. "An empty field has no range": as a 0 it passes, for times and ride penalties may be 0.
+use mathlib.Core.Path.{_≡_, refl}
 use mathlib.Core.Bool.{Bool, true, false, cond, _&&_}
-use Prim.Native.Nat.{ℕ, zero, suc, _≤_, _<_}
+use Prim.Native.Nat.{ℕ, _≤_}
 use native.Mathlib.Omega.{arith}
 use borrow.Author.Tests.{leb-true}
 use lib.Dec.{leb, eqb}

@@ -1,9 +1,9 @@
 -- The words of a timetable (docs/LAYOUT.md): S, T, N; change minutes and penalty of each station; station, arrive,
 -- depart and ride penalty of each stop, trip by trip; the place of each trip's first stop among all stops, and N.
-use mathlib.Core.Bool.{Bool, true, false, cond, _&&_}
+use mathlib.Core.Bool.{Bool, _&&_}
 use mathlib.Core.List.{List, [], _∷_, _++_, map}
 use Prim.Native.Nat.{ℕ, zero, suc, _+_, _-_, _*_}
-use lib.Dec.{leb, ltb, eqb}
+use lib.Dec.{leb, eqb}
 use lib.ListN.{length, getD}
 use Rattle.questions.specs.Question.{ask, firstNo}
 use Rattle.timetable.specs.Timetable.{Station, Stop, Trip, Timetable, stopsOf, valid}
@@ -54,10 +54,10 @@ stopPlace w i = 3 + 2 * stationCount w + 4 * i
 unfoldable pub stopAt : List ℕ → ℕ → Stop
 stopAt w i =
     record {
-        station = getD w (stopPlace w i) 0;
-        arrive = getD w (stopPlace w i + 1) 0;
-        depart = getD w (stopPlace w i + 2) 0;
-        points = getD w (stopPlace w i + 3) 0
+      station = getD w (stopPlace w i) 0;
+      arrive = getD w (stopPlace w i + 1) 0;
+      depart = getD w (stopPlace w i + 2) 0;
+      points = getD w (stopPlace w i + 3) 0;
     }
 
 -- the place of trip k's first stop, trips counted from 0
@@ -70,8 +70,8 @@ tripAt w k = map (stopAt w) (numbersFrom (startAt w k) (startAt w (k + 1) - star
 unfoldable pub timetableOf : List ℕ → Timetable
 timetableOf w =
     record {
-        stations = map (stationAt w) (numbersFrom 0 (stationCount w));
-        trips = map (tripAt w) (numbersFrom 0 (tripCount w))
+      stations = map (stationAt w) (numbersFrom 0 (stationCount w));
+      trips = map (tripAt w) (numbersFrom 0 (tripCount w));
     }
 
 -- ---- question 9, as it is decided on words

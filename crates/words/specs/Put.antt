@@ -1,13 +1,24 @@
 -- Words put into a lent slice. "Words past a result keep their values": so do the words before it.
 -- All of this speaks of lists of numbers, and so of words of any width.
-use mathlib.Core.Path.{_≡_, refl, sym, ap, _∙_}
+use mathlib.Core.Path.{_≡_, refl}
 use mathlib.Core.List.{List, [], _∷_, _++_, append-assoc, append-nil}
-use Prim.Native.Nat.{ℕ, zero, suc, _+_, _≤_, _<_}
+use Prim.Native.Nat.{ℕ, suc, _+_, _≤_, _<_}
 use native.Mathlib.Nat.{add-zero, zero-add}
 use native.Mathlib.Numerals.{add-one}
 use native.Mathlib.Omega.{arith}
-use lib.ListN.{length, take, drop, set, getD, length-append, length-take, length-drop, take-append-drop, List·getD-append}
-use lib.Seq.{drop-cons, set-at, take-suc, take-length, take-at, drop-at, drop-drop, length-take-le, drop-set-lt}
+use lib.ListN.{
+  length,
+  take,
+  drop,
+  set,
+  getD,
+  length-append,
+  length-take,
+  length-drop,
+  take-append-drop,
+  List·getD-append,
+}
+use lib.Seq.{drop-cons, set-at, take-suc, take-at, drop-at, drop-drop, length-take-le, drop-set-lt}
 
 -- `old` with `ws` in the place of the words from `at` on
 unfoldable pub put : ℕ → List ℕ → List ℕ → List ℕ
@@ -29,12 +40,12 @@ put-more at n ws old w e h =
     let long : length (take at old ++ ws) ≡ at + n = simp (length-append, length-take) (omega arith) in
     let past : at + length (ws ++ (w ∷ [])) ≡ suc (at + n) = simp length-append (omega arith) in
     rw (
-        e,
-        drop-cons old (at + n) 0 h,
-        set-at _ _ _ w (at + n) long,
-        past,
-        ← append-assoc,
-        append-assoc _ (w ∷ []) _
+      e,
+      drop-cons old (at + n) 0 h,
+      set-at _ _ _ w (at + n) long,
+      past,
+      ← append-assoc,
+      append-assoc _ (w ∷ []) _,
     )
 
 pub put-next : (n : ℕ) (ws old : List ℕ) (w : ℕ) → length ws ≡ n → n < length old
@@ -68,13 +79,13 @@ put-append at n a b old e h =
     let long : length (take at old ++ a) ≡ at + n = simp (length-append, length-take) (omega arith) in
     let past : at + length (a ++ b) ≡ at + n + length b = simp length-append (omega arith) in
     rw (
-        e,
-        take-at (take at old ++ a) (drop (at + n) old) (at + n) long,
-        ← drop-drop (length b) (at + n) (take at old ++ a ++ drop (at + n) old),
-        drop-at (take at old ++ a) (drop (at + n) old) (at + n) long,
-        drop-drop (length b) (at + n) old,
-        past,
-        append-assoc (take at old) a b
+      e,
+      take-at (take at old ++ a) (drop (at + n) old) (at + n) long,
+      ← drop-drop (length b) (at + n) (take at old ++ a ++ drop (at + n) old),
+      drop-at (take at old ++ a) (drop (at + n) old) (at + n) long,
+      drop-drop (length b) (at + n) old,
+      past,
+      append-assoc (take at old) a b,
     )
 
 -- a turn of a loop that copies the first n words of src, and its end

@@ -60,9 +60,7 @@ pub fn put_three(dst: &mut [u16], at: usize, a: u32, b: u32, c: u32)
 
 // Writes four numbers as words, from index at on.
 pub fn put_four(dst: &mut [u16], at: usize, a: u32, b: u32, c: u32, d: u32)
-    requires {
-        ⌜ (at + 4 ≤ length (now dst)) × (a < 65536) × (b < 65536) × (c < 65536) × (d < 65536) ⌝
-    }
+    requires { ⌜ (at + 4 ≤ length (now dst)) × (a < 65536) × (b < 65536) × (c < 65536) × (d < 65536) ⌝ }
     ensures { λ _. ⌜ now (dst .exit) ≡ put at (a ∷ b ∷ c ∷ d ∷ []) (now (dst .entry)) ⌝ }
     ensures { λ _. ⌜ length (now (dst .exit)) ≡ length (now (dst .entry)) ⌝ }
 {
