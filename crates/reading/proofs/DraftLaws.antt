@@ -20,7 +20,8 @@ use Rattle.timetable.specs.WordLaws.{
   stopsOf-append,
   startWords-append,
 }
-use Rattle.reading.specs.Draft.{Draft, final, progress, lineNumber, stationOfLine, stopOfLine, withStop, withLine}
+use Rattle.reading.specs.Draft.{Draft, final, stationOfLine, stopOfLine, withStop, withLine}
+use Rattle.reading.specs.Progress.{progress, lineNumberAt}
 use Rattle.reading.specs.Model.{Within, advance, lineWords, startsWith}
 use Rattle.reading.specs.declared.Progress.{Progress}
 use Rattle.reading.proofs.YesLaws.{station-yes, StopYes, stop-yes}
@@ -73,7 +74,7 @@ stop-body d s true =
 stop-body d s false =
     rw (← append-assoc (stopsOf (d .trips)) (d .begun), stopWords-append (stopsIn d) (s ∷ []), append-assoc)
 
-pub body-grows : (d : Draft) (line : Line) → lineNumber (progress d) line ≡ 0
+pub body-grows : (d : Draft) (line : Line) → lineNumberAt (progress d) line ≡ 0
     → bodyOf (withLine d line) ≡ bodyOf d ++ lineWords line
 unfolding stationWords stopWords
 body-grows d (StationIn l) e =
@@ -101,7 +102,7 @@ module _ (d : Draft) (starts old : List ℕ) (is : starts ≡ put 0 (startWords 
       (length-startWords 0 (d .trips)) room)
   stop-starts l false room = is
 
-  pub starts-grow : (line : Line) → lineNumber (progress d) line ≡ 0 → length old ≡ 257
+  pub starts-grow : (line : Line) → lineNumberAt (progress d) line ≡ 0 → length old ≡ 257
       → startsWith (progress d) line starts ≡ put 0 (startWords 0 ((withLine d line) .trips)) old
   starts-grow (StationIn l) e h = is
   starts-grow (StopIn l) e h =
@@ -110,7 +111,7 @@ module _ (d : Draft) (starts old : List ℕ) (is : starts ≡ put 0 (startWords 
   starts-grow Shapeless e h = is
 
 -- ---- the limits
-pub within-grows : (p : Progress) (line : Line) → Within p → lineNumber p line ≡ 0 → Within (advance p line)
+pub within-grows : (p : Progress) (line : Line) → Within p → lineNumberAt p line ≡ 0 → Within (advance p line)
 within-grows p (StationIn l) w e =
     let all = station-yes p l 0 (sym e) refl in
     record { stations = omega arith; trips = w .trips; stops = w .stops; begun = w .begun }

@@ -16,7 +16,8 @@ use Rattle.text.specs.declared.Line.{Line}
 use Rattle.timetable.specs.Timetable.{Trip, Timetable}
 use Rattle.timetable.specs.Words.{stationWords, stopWords, startWords}
 use Rattle.timetable.specs.WordLaws.{length-startWords, start-first}
-use Rattle.reading.specs.Draft.{Draft, blank, progress, lineNumber, withLine}
+use Rattle.reading.specs.Draft.{Draft, blank, withLine, lineNumber}
+use Rattle.reading.specs.Progress.{progress, lineNumberAt, same-number}
 use Rattle.reading.specs.Reading.{Accepted, Refused, ended, readFrom, readLines}
 use Rattle.reading.specs.Model.{
   Within,
@@ -49,11 +50,21 @@ use Rattle.reading.proofs.DraftLaws.{
 module _ (d : Draft) (line : ℕ) where
   pub read-line : (s text : List ℕ)
       → readFrom d line (s ∷ pieces 10 text)
-      ≡ cond (eqb (lineNumber (progress d) (shapeOf s)) 0)
+      ≡ cond (eqb (lineNumberAt (progress d) (shapeOf s)) 0)
       (readFrom (withLine d (shapeOf s)) (line + 1) (pieces 10 text))
-      (Refused (lineNumber (progress d) (shapeOf s)) line)
+      (Refused (lineNumberAt (progress d) (shapeOf s)) line)
   unfolding readFrom
-  read-line s text = let more = pieces-some 10 text in rw (more .2)
+  read-line s text =
+      let more = pieces-some 10 text in
+      let asked : readFrom d line (s ∷ pieces 10 text)
+          ≡ cond (eqb (lineNumber d (shapeOf s)) 0)
+          (readFrom (withLine d (shapeOf s)) (line + 1) (pieces 10 text))
+          (Refused (lineNumber d (shapeOf s)) line) =
+          rw (more .2) in
+      asked
+      ∙ ap
+      (λ n. cond (eqb n 0) (readFrom (withLine d (shapeOf s)) (line + 1) (pieces 10 text)) (Refused n line))
+      (same-number d (shapeOf s))
 
   pub read-rest : (s : List ℕ) → (length s ≡ 0 → ⊥) → readFrom d line (s ∷ []) ≡ Refused 2 line
   unfolding readFrom
@@ -212,7 +223,7 @@ module _
         (more : end ≡ length text → ⊥)
       where
         number : ℕ
-        number = lineNumber (progress (k .draft)) (lineAt text from end)
+        number = lineNumberAt (progress (k .draft)) (lineAt text from end)
 
         read-on : readLines text
             ≡ cond (eqb number 0)
@@ -263,12 +274,12 @@ module _
             rw (is-number m e) (subst (λ o. LinesRead o (LinesRefused number line) b s b₀ s₀) (sym is) refl)
 
         module _ (q : Progress) (on : r ≡ On q) where
-          accepted : lineNumber (progress (k .draft)) (lineAt text from end) ≡ 0
+          accepted : lineNumberAt (progress (k .draft)) (lineAt text from end) ≡ 0
           unfolding number
           accepted = has-yes q on
 
-          accepted-here : lineNumber p (lineAt text from end) ≡ 0
-          accepted-here = ap (λ x. lineNumber x (lineAt text from end)) (k .is-progress) ∙ accepted
+          accepted-here : lineNumberAt p (lineAt text from end) ≡ 0
+          accepted-here = ap (λ x. lineNumberAt x (lineAt text from end)) (k .is-progress) ∙ accepted
 
           next : Draft
           next = withLine (k .draft) (lineAt text from end)
@@ -300,7 +311,7 @@ module _
               let place : 2 * p .stations + 4 * p .stops ≡ 0 + length (bodyOf (k .draft)) =
               ap (λ (x : Progress). 2 * x .stations + 4 * x .stops) (k .is-progress) ∙ omega arith in
               body-after
-              ∙ simp (eq-eqb (lineNumber p (lineAt text from end)) 0 accepted-here)
+              ∙ simp (eq-eqb (lineNumberAt p (lineAt text from end)) 0 accepted-here)
               (rw (k .is-body, place, body-grows (k .draft) (lineAt text from end) accepted)
               (put-append 0 (length (bodyOf (k .draft))) (bodyOf (k .draft)) (lineWords (lineAt text from end)) body₀
               refl (omega (arith, k .within, k .body-room))))
@@ -309,7 +320,7 @@ module _
           unfolding startsAfter next
           next-starts =
               starts-after
-              ∙ simp (eq-eqb (lineNumber p (lineAt text from end)) 0 accepted-here)
+              ∙ simp (eq-eqb (lineNumberAt p (lineAt text from end)) 0 accepted-here)
               (ap (λ x. startsWith x (lineAt text from end) starts) (k .is-progress)
               ∙ starts-grow (k .draft) starts starts₀ (k .is-starts) (lineAt text from end) accepted (k .starts-room))
 

@@ -11,17 +11,8 @@ use Rattle.questions.specs.Question.{ask, firstNo, yes-here, yes-later, and-lef
 use Rattle.text.specs.Range.{inRange, minutes-bound, points-bound, time-bound, ride-bound}
 use Rattle.text.specs.declared.StationLine.{StationLine}
 use Rattle.text.specs.declared.StopLine.{StopLine}
-use Rattle.reading.specs.Draft.{
-  stationNumber,
-  stationInRange,
-  stationInPlace,
-  stationCounted,
-  stopNumber,
-  stopInRange,
-  stopInPlace,
-  stopCounted,
-  stopFits,
-}
+use Rattle.reading.specs.Draft.{stationInRange, stopInRange}
+use Rattle.reading.specs.Progress.{stationNumberAt, placeOfStation, roomForStation, stopNumberAt, placeOfStop, roomForStop, stopFitsAt}
 use Rattle.reading.specs.Model.{Within}
 use Rattle.reading.specs.declared.Progress.{Progress}
 
@@ -52,10 +43,10 @@ pub record StationYes (p : Progress) (l : StationLine) : Type 0 where
   pub turn : l .number ≡ p .stations + 1
   pub room : p .stations < 64
 
-pub station-yes : (p : Progress) (l : StationLine) (n : ℕ) → n ≡ stationNumber p l → n ≡ 0 → StationYes p l
-unfolding stationNumber
+pub station-yes : (p : Progress) (l : StationLine) (n : ℕ) → n ≡ stationNumberAt p l → n ≡ 0 → StationYes p l
+unfolding stationNumberAt
 station-yes p l n is e =
-    let all = three-yes (stationInRange l) (stationInPlace p l) (stationCounted p) (sym is ∙ e) in
+    let all = three-yes (stationInRange l) (placeOfStation p l) (roomForStation p) (sym is ∙ e) in
     let points = points-bound (l .points) (and-right (inRange 1 (l .minutes)) (inRange 2 (l .points)) (all .0)) in
     record {
       minutes = minutes-bound (l .minutes) (and-left (inRange 1 (l .minutes)) (inRange 2 (l .points)) (all .0));
@@ -70,7 +61,7 @@ station-yes p l n is e =
     }
 
 -- its words have room, and fit
-module _ (p : Progress) (l : StationLine) (n : ℕ) (is : n ≡ stationNumber p l) (e : n ≡ 0) where
+module _ (p : Progress) (l : StationLine) (n : ℕ) (is : n ≡ stationNumberAt p l) (e : n ≡ 0) where
   pub station-room : (body : List ℕ) → length body ≡ 8320 → 2 * p .stations + 4 * p .stops + 2 ≤ length body
   station-room body h = omega (arith, station-yes p l n is e)
 
@@ -89,18 +80,18 @@ pub record StopYes (p : Progress) (l : StopLine) : Type 0 where
   pub trips : p .trips < 256
   pub stops : p .stops < 2048
   pub station : l .station ≤ p .stations
-  pub fits : stopFits p l ≡ true
+  pub fits : stopFitsAt p l ≡ true
 
-stop-station : (p : Progress) (l : StopLine) → stopFits p l ≡ true → l .station ≤ p .stations
-unfolding stopFits
+stop-station : (p : Progress) (l : StopLine) → stopFitsAt p l ≡ true → l .station ≤ p .stations
+unfolding stopFitsAt
 stop-station p l e =
     leb-true (l .station) (p .stations)
     (and-right (leb 1 (l .station)) (leb (l .station) (p .stations)) (and-left _ (eqb (p .begun) 0 || _) e))
 
-pub stop-yes : (p : Progress) (l : StopLine) (n : ℕ) → n ≡ stopNumber p l → n ≡ 0 → StopYes p l
-unfolding stopNumber
+pub stop-yes : (p : Progress) (l : StopLine) (n : ℕ) → n ≡ stopNumberAt p l → n ≡ 0 → StopYes p l
+unfolding stopNumberAt
 stop-yes p l n is e =
-    let all = four-yes (stopInRange l) (stopInPlace p l) (stopCounted p) (stopFits p l) (sym is ∙ e) in
+    let all = four-yes (stopInRange l) (placeOfStop p l) (roomForStop p) (stopFitsAt p l) (sym is ∙ e) in
     let times = and-left (inRange 3 (l .arrive) && inRange 3 (l .depart)) (inRange 4 (l .points)) (all .0) in
     record {
       arrive = time-bound (l .arrive) (and-left (inRange 3 (l .arrive)) (inRange 3 (l .depart)) times);
@@ -121,7 +112,7 @@ stop-yes p l n is e =
     }
 
 -- its words have room, and fit
-module _ (p : Progress) (l : StopLine) (n : ℕ) (is : n ≡ stopNumber p l) (e : n ≡ 0) where
+module _ (p : Progress) (l : StopLine) (n : ℕ) (is : n ≡ stopNumberAt p l) (e : n ≡ 0) where
   pub arrive-word : l .arrive < 65536
   arrive-word = omega (arith, stop-yes p l n is e)
 

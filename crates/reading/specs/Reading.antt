@@ -9,7 +9,7 @@ use Rattle.text.specs.Piece.{pieces}
 use Rattle.text.specs.Shape.{shapeOf}
 use Rattle.timetable.specs.Timetable.{Timetable}
 use Rattle.timetable.specs.Words.{words}
-use Rattle.reading.specs.Draft.{Draft, blank, progress, lineNumber, withLine}
+use Rattle.reading.specs.Draft.{Draft, blank, lineNumber, withLine}
 use Rattle.reading.specs.declared.Reply.{Reply}
 use Rattle.reading.specs.declared.Reply.the-variants.{Done as ReplyDone, Refused as ReplyRefused}
 
@@ -31,7 +31,7 @@ readFrom d line [] = ended d line
 readFrom d line (s ∷ []) = cond (eqb (length s) 0) (ended d line) (Refused 2 line)
 readFrom d line (s ∷ u ∷ l) =
     let rest = readFrom (withLine d (shapeOf s)) (line + 1) (u ∷ l) in
-    cond (eqb (lineNumber (progress d) (shapeOf s)) 0) rest (Refused (lineNumber (progress d) (shapeOf s)) line)
+    cond (eqb (lineNumber d (shapeOf s)) 0) rest (Refused (lineNumber d (shapeOf s)) line)
 
 -- "at most .. 65,536 bytes"
 abbrev pub textMost : ℕ

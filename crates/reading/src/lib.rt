@@ -6,7 +6,7 @@ ghost use lib.ListN.{length, set};
 ghost use Rattle.words.specs.Put.{put};
 ghost use Rattle.text.specs.Shape.{shapeOf};
 ghost use Rattle.text.specs.declared.Line.the-variants.{Station, Stop};
-ghost use Rattle.reading.specs.Draft.{stationNumber, stopNumber, stopFits};
+ghost use Rattle.reading.specs.Progress.{stationNumberAt, stopNumberAt, stopFitsAt};
 ghost use Rattle.reading.specs.Reading.{readLines, readReply, readWords};
 ghost use Rattle.reading.specs.Model.{
   Within,
@@ -67,7 +67,7 @@ pub enum Reply {
 // Questions 3 to 5 to a station line: 0, or the number of the first no.
 fn station_number(p: Progress, l: StationLine) -> u32
     requires { ⌜ Within p ⌝ }
-    ensures { λ r. ⌜ r ≡ stationNumber p l ⌝ }
+    ensures { λ r. ⌜ r ≡ stationNumberAt p l ⌝ }
 {
     if text::range_number(text::CHANGE_MINUTES, l.minutes) != 0 {
         return 3;
@@ -90,7 +90,7 @@ fn station_number(p: Progress, l: StationLine) -> u32
 // Question 6 to a stop line.
 fn stop_fits(p: Progress, l: StopLine) -> bool
     requires { ⌜ Within p ⌝ }
-    ensures { λ r. ⌜ r ≡ stopFits p l ⌝ }
+    ensures { λ r. ⌜ r ≡ stopFitsAt p l ⌝ }
 {
     if l.station < 1 {
         return false;
@@ -116,7 +116,7 @@ fn stop_fits(p: Progress, l: StopLine) -> bool
 // Questions 3 to 6 to a stop line: 0, or the number of the first no.
 fn stop_number(p: Progress, l: StopLine) -> u32
     requires { ⌜ Within p ⌝ }
-    ensures { λ r. ⌜ r ≡ stopNumber p l ⌝ }
+    ensures { λ r. ⌜ r ≡ stopNumberAt p l ⌝ }
 {
     if text::range_number(text::TIME, l.arrive) != 0 {
         return 3;
