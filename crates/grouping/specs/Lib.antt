@@ -1,1 +1,4 @@
 pub mod Grouped
+pub mod Steps
+pub mod Order
+pub mod Joined
