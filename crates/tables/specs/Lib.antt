@@ -1,2 +1,4 @@
 pub mod Tables
 pub mod Model
+pub mod Spelled
+pub mod Same
