@@ -1,2 +1,4 @@
 pub mod Tables
 pub mod Model
+pub mod Sums
+pub mod Fits
