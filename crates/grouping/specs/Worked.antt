@@ -1,7 +1,7 @@
 -- The lines of timetable M in the arrays: line 1 has trip 1, line 2 has trips 3 and 2.
 use mathlib.Core.Path.{_≡_, refl}
 use mathlib.Core.List.{[], _∷_}
-use Rattle.connections.specs.Worked.{variant, M}
+use Rattle.timetable.specs.Worked.{variant, M}
 use Rattle.lines.specs.Lines.{inOrder, lines}
 use Rattle.lines.specs.Once.{onLines}
 use Rattle.grouping.specs.Grouped.{endsFrom}

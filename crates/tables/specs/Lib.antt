@@ -2,3 +2,5 @@ pub mod Tables
 pub mod Model
 pub mod Spelled
 pub mod Same
+pub mod Sums
+pub mod Fits
