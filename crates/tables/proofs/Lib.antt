@@ -8,3 +8,4 @@ pub mod BlocksLaws
 pub mod CallLaws
 pub mod StationLaws
 pub mod PairLaws
+pub mod BodyLaws
