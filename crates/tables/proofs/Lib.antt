@@ -9,3 +9,4 @@ pub mod CallLaws
 pub mod StationLaws
 pub mod PairLaws
 pub mod BodyLaws
+pub mod TableLaws
