@@ -1,10 +1,10 @@
 -- The ways out of the functions that put the questions to a line, on plain values.
-use mathlib.Core.Path.{_≡_}
+use mathlib.Core.Path.{_≡_, _∙_}
 use mathlib.Core.Bool.{Bool, true, false, _&&_, _||_}
 use Prim.Native.Nat.{ℕ, _+_, _≤_, _<_}
 use borrow.Author.Tests.{lt-ltb, le-ltb, le-leb, lt-leb, eq-eqb, ne-eqb}
 use lib.Dec.{leb, ltb, eqb}
-use Rattle.text.specs.Range.{inRange, rangeNumber, range-in, range-out}
+use Rattle.text.specs.Range.{inRange, rangeNumber, range-in, range-out, range-three}
 use Rattle.text.specs.declared.StationLine.{StationLine}
 use Rattle.text.specs.declared.StopLine.{StopLine}
 use Rattle.reading.specs.Progress.{stationNumberAt, stopNumberAt, stopFitsAt}
@@ -12,14 +12,18 @@ use Rattle.reading.specs.declared.Progress.{Progress}
 
 -- ---- a station line
 module _ (p : Progress) (l : StationLine) (m : ℕ) (is-m : m ≡ rangeNumber 1 (l .minutes)) where
-  pub minutes-refused : (m ≡ 0 → ⊥) → 3 ≡ stationNumberAt p l
+  pub minutes-refused : (m ≡ 0 → ⊥) → m ≡ stationNumberAt p l
   unfolding stationNumberAt
-  minutes-refused h = simp (range-out 1 (l .minutes) m is-m h)
+  minutes-refused h =
+      range-three 1 (l .minutes) m is-m h
+      ∙ simp (range-out 1 (l .minutes) m is-m h)
 
   module _ (in-m : m ≡ 0) (q : ℕ) (is-q : q ≡ rangeNumber 2 (l .points)) where
-    pub points-refused : (q ≡ 0 → ⊥) → 3 ≡ stationNumberAt p l
+    pub points-refused : (q ≡ 0 → ⊥) → q ≡ stationNumberAt p l
     unfolding stationNumberAt
-    points-refused h = simp (range-in 1 (l .minutes) m is-m in-m, range-out 2 (l .points) q is-q h)
+    points-refused h =
+        range-three 2 (l .points) q is-q h
+        ∙ simp (range-in 1 (l .minutes) m is-m in-m, range-out 2 (l .points) q is-q h)
 
     module _ (in-q : q ≡ 0) where
       station-in-range : (inRange 1 (l .minutes) && inRange 2 (l .points)) ≡ true
@@ -100,20 +104,25 @@ module _ (p : Progress) (l : StopLine) where
 
 -- ---- a stop line
 module _ (p : Progress) (l : StopLine) (a : ℕ) (is-a : a ≡ rangeNumber 3 (l .arrive)) where
-  pub arrive-refused : (a ≡ 0 → ⊥) → 3 ≡ stopNumberAt p l
+  pub arrive-refused : (a ≡ 0 → ⊥) → a ≡ stopNumberAt p l
   unfolding stopNumberAt
-  arrive-refused h = simp (range-out 3 (l .arrive) a is-a h)
+  arrive-refused h =
+      range-three 3 (l .arrive) a is-a h
+      ∙ simp (range-out 3 (l .arrive) a is-a h)
 
   module _ (in-a : a ≡ 0) (d : ℕ) (is-d : d ≡ rangeNumber 3 (l .depart)) where
-    pub depart-refused : (d ≡ 0 → ⊥) → 3 ≡ stopNumberAt p l
+    pub depart-refused : (d ≡ 0 → ⊥) → d ≡ stopNumberAt p l
     unfolding stopNumberAt
-    depart-refused h = simp (range-in 3 (l .arrive) a is-a in-a, range-out 3 (l .depart) d is-d h)
+    depart-refused h =
+        range-three 3 (l .depart) d is-d h
+        ∙ simp (range-in 3 (l .arrive) a is-a in-a, range-out 3 (l .depart) d is-d h)
 
     module _ (in-d : d ≡ 0) (q : ℕ) (is-q : q ≡ rangeNumber 4 (l .points)) where
-      pub ride-refused : (q ≡ 0 → ⊥) → 3 ≡ stopNumberAt p l
+      pub ride-refused : (q ≡ 0 → ⊥) → q ≡ stopNumberAt p l
       unfolding stopNumberAt
       ride-refused h =
-          simp (
+          range-three 4 (l .points) q is-q h
+          ∙ simp (
             range-in 3 (l .arrive) a is-a in-a,
             range-in 3 (l .depart) d is-d in-d,
             range-out 4 (l .points) q is-q h,

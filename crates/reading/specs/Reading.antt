@@ -79,3 +79,20 @@ lineOf (ReplyRefused number line) = line
 abbrev pub countOf : Reply → ℕ
 countOf (ReplyDone lines) = lines
 countOf (ReplyRefused number line) = 0
+
+-- the three values that document 01 gives to each reply
+pub record Values : Type 0 where
+  pub number : ℕ
+  pub line : ℕ
+  pub count : ℕ
+
+abbrev pub valuesOf : Reply → Values
+valuesOf r = record { number = numberOf r; line = lineOf r; count = countOf r }
+
+abbrev pub outcomeValues : Outcome → Values
+outcomeValues (Accepted t lines) = record { number = 0; line = 0; count = lines }
+outcomeValues (Refused number line) = record { number = number; line = line; count = 0 }
+
+unfoldable pub readValues : List ℕ → ℕ → Values
+readValues text n =
+    cond (leb slicesLeast n) (outcomeValues (reading text)) (record { number = 8; line = 0; count = 0 })

@@ -7,7 +7,7 @@ ghost use Rattle.words.specs.Put.{put};
 ghost use Rattle.text.specs.Shape.{shapeOf};
 ghost use Rattle.text.specs.declared.Line.the-variants.{Station, Stop};
 ghost use Rattle.reading.specs.Progress.{stationNumberAt, stopNumberAt, stopFitsAt};
-ghost use Rattle.reading.specs.Reading.{readLines, readReply, readWords};
+ghost use Rattle.reading.specs.Reading.{readLines, readReply, valuesOf, readValues, readWords};
 ghost use Rattle.reading.specs.Model.{
   Within,
   advance,
@@ -69,11 +69,13 @@ fn station_number(p: Progress, l: StationLine) -> u32
     requires { ⌜ Within p ⌝ }
     ensures { λ r. ⌜ r ≡ stationNumberAt p l ⌝ }
 {
-    if text::range_number(text::CHANGE_MINUTES, l.minutes) != 0 {
-        return 3;
+    let minutes = text::range_number(text::CHANGE_MINUTES, l.minutes);
+    if minutes != 0 {
+        return minutes;
     }
-    if text::range_number(text::CHANGE_PENALTY, l.points) != 0 {
-        return 3;
+    let points = text::range_number(text::CHANGE_PENALTY, l.points);
+    if points != 0 {
+        return points;
     }
     if p.stops != 0 {
         return 4;
@@ -118,14 +120,17 @@ fn stop_number(p: Progress, l: StopLine) -> u32
     requires { ⌜ Within p ⌝ }
     ensures { λ r. ⌜ r ≡ stopNumberAt p l ⌝ }
 {
-    if text::range_number(text::TIME, l.arrive) != 0 {
-        return 3;
+    let arrive = text::range_number(text::TIME, l.arrive);
+    if arrive != 0 {
+        return arrive;
     }
-    if text::range_number(text::TIME, l.depart) != 0 {
-        return 3;
+    let depart = text::range_number(text::TIME, l.depart);
+    if depart != 0 {
+        return depart;
     }
-    if text::range_number(text::RIDE_PENALTY, l.points) != 0 {
-        return 3;
+    let points = text::range_number(text::RIDE_PENALTY, l.points);
+    if points != 0 {
+        return points;
     }
     if l.trip as usize != p.trips + 1 {
         return 4;
@@ -324,6 +329,7 @@ fn write_timetable(timetable: &mut [u16], p: Progress, body: &[u16], starts: &[u
 // Reads a text into the lent words of a timetable.
 pub fn read(text: &[u8], timetable: &mut [u16]) -> Reply
     ensures reply { λ r. ⌜ r ≡ readReply (now (text .entry)) (length (now (timetable .entry))) ⌝ }
+    ensures values { λ r. ⌜ valuesOf r ≡ readValues (now (text .entry)) (length (now (timetable .entry))) ⌝ }
     ensures words { λ _. ⌜ now (timetable .exit) ≡ readWords (now (text .entry)) (now (timetable .entry)) ⌝ }
 {
     if timetable.len() < timetable::WORDS_LEAST {

@@ -3,13 +3,17 @@
 use borrow.Author.Needs.{needs}
 use Rattle.reading.proofs.ReadLaws.{
   short-reply,
+  short-values,
   short-words,
   long-reply,
+  long-values,
   long-words,
   refused-reply,
+  refused-values,
   refused-words,
   accepted-within,
   done-reply,
+  done-values,
   done-words,
 }
 use Rattle.reading.proofs.read.Statement.{statement}
@@ -19,16 +23,16 @@ pub read-spec : {M : Type 1} → statement M
 read-spec =
     tie.close
     (tie.spec
-    (λ c. (search short-reply, search short-words))
-    (λ c. (search long-reply, search long-words))
+    (λ c. (search short-reply, (search short-values, search short-words)))
+    (λ c. (search long-reply, (search long-values, search long-words)))
     (λ c. search needs)
     (λ c. search needs)
     (λ c. search needs)
     (λ c. search needs)
-    (λ c. (search refused-reply, search refused-words))
+    (λ c. (search refused-reply, (search refused-values, search refused-words)))
     (λ c. search needs)
     (λ c. search needs)
     (λ c. search needs)
     (λ c κs. (search accepted-within, search needs, search needs, search needs))
     (λ c. search needs)
-    (λ c. (search done-reply, search done-words)))
+    (λ c. (search done-reply, (search done-values, search done-words))))
