@@ -10,6 +10,7 @@ use native.Mathlib.Omega.{arith}
 use borrow.Author.Tests.{leb-true, eqb-true}
 use lib.Dec.{leb, eqb}
 use lib.ListN.{length, length-append, length-map}
+use Rattle.lists.specs.Lists.{range}
 use Rattle.questions.specs.Question.{and-left, and-right, and-both, same-tests}
 use Rattle.timetable.specs.Timetable.{
   Station,
@@ -24,20 +25,7 @@ use Rattle.timetable.specs.Timetable.{
   counted,
   valid,
 }
-use Rattle.timetable.specs.Words.{
-  stationCount,
-  tripCount,
-  stopCount,
-  numbersFrom,
-  stationAt,
-  stopAt,
-  startAt,
-  tripAt,
-  timetableOf,
-  rise,
-  chained,
-  isTimetable,
-}
+use Rattle.timetable.specs.Words.{stationCount, tripCount, stopCount, stationAt, stopAt, startAt, tripAt, timetableOf, rise, chained, isTimetable}
 
 -- a trip's first stop
 unfoldable pub begins : ℕ → Stop → Bool
@@ -49,7 +37,7 @@ passes n b s = follows n b s && leb (s .arrive) (s .depart) && leaves s
 
 -- what f gives for the numbers from i up to n
 unfoldable pub between : {A : Type 0} → (ℕ → A) → ℕ → ℕ → List A
-between f i n = map f (numbersFrom i (n - i))
+between f i n = map f (range i (n - i))
 
 -- the stations, stops, trips and starts from one number up to another
 abbrev pub stationsAt : List ℕ → ℕ → ℕ → List Station
@@ -84,25 +72,25 @@ module _ {A : Type 0} (f : ℕ → A) (i n : ℕ) where
       rw none
 
 -- ---- the parts come to question 9
-pub length-numbersFrom : (i n : ℕ) → length (numbersFrom i n) ≡ n
-length-numbersFrom i zero = refl
-length-numbersFrom i (suc n) = ap suc (length-numbersFrom (suc i) n)
+pub length-range : (i n : ℕ) → length (range i n) ≡ n
+length-range i zero = refl
+length-range i (suc n) = ap suc (length-range (suc i) n)
 
 pub length-trip : (w : List ℕ) (k : ℕ) → length (tripAt w k) ≡ startAt w (suc k) - startAt w k
 unfolding tripAt
 length-trip w k =
-    length-map (numbersFrom (startAt w k) (startAt w (k + 1) - startAt w k)) (stopAt w)
-    ∙ length-numbersFrom (startAt w k) (startAt w (k + 1) - startAt w k)
+    length-map (range (startAt w k) (startAt w (k + 1) - startAt w k)) (stopAt w)
+    ∙ length-range (startAt w k) (startAt w (k + 1) - startAt w k)
     ∙ ap (λ j. startAt w j - startAt w k) (add-one k)
 
 -- trips that stand one behind the other have as many stops as lie between the first's beginning and the last's end
-stops-between : (w : List ℕ) (k m n : ℕ) → rise (startAt w k) (map (startAt w) (numbersFrom (suc k) m)) n ≡ true
-    → startAt w k + length (stopsOf (map (tripAt w) (numbersFrom k m))) ≡ n
+stops-between : (w : List ℕ) (k m n : ℕ) → rise (startAt w k) (map (startAt w) (range (suc k) m)) n ≡ true
+    → startAt w k + length (stopsOf (map (tripAt w) (range k m))) ≡ n
 unfolding rise
 stops-between w k zero n e = omega (arith, eqb-true (startAt w k) n e)
 stops-between w k (suc m) n e =
     let up : Bool = leb (startAt w k) (startAt w (suc k)) in
-    let rest : Bool = rise (startAt w (suc k)) (map (startAt w) (numbersFrom (suc (suc k)) m)) n in
+    let rest : Bool = rise (startAt w (suc k)) (map (startAt w) (range (suc (suc k)) m)) n in
     let later = stops-between w (suc k) m n (and-right up rest e) in
     simp length-append
     (omega (arith, later, length-trip w k, leb-true (startAt w k) (startAt w (suc k)) (and-left up rest e)))
@@ -124,17 +112,17 @@ module _ (w : List ℕ) where
   pub length-stations : length ((timetableOf w) .stations) ≡ stationCount w
   unfolding timetableOf
   length-stations =
-      length-map (numbersFrom 0 (stationCount w)) (stationAt w) ∙ length-numbersFrom 0 (stationCount w)
+      length-map (range 0 (stationCount w)) (stationAt w) ∙ length-range 0 (stationCount w)
 
   pub length-trips : length ((timetableOf w) .trips) ≡ tripCount w
   unfolding timetableOf
-  length-trips = length-map (numbersFrom 0 (tripCount w)) (tripAt w) ∙ length-numbersFrom 0 (tripCount w)
+  length-trips = length-map (range 0 (tripCount w)) (tripAt w) ∙ length-range 0 (tripCount w)
 
   abbrev pub zeroed : Bool
   zeroed = eqb (startAt w 0) 0
 
   abbrev pub rising : Bool
-  rising = rise 0 (map (startAt w) (numbersFrom 1 (tripCount w))) (stopCount w)
+  rising = rise 0 (map (startAt w) (range 1 (tripCount w))) (stopCount w)
 
   pub length-stops : zeroed ≡ true → rising ≡ true → length (stopsOf ((timetableOf w) .trips)) ≡ stopCount w
   unfolding timetableOf
