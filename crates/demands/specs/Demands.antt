@@ -10,7 +10,7 @@ use Rattle.timetable.specs.Timetable.{Timetable, lastMinute}
 use Rattle.lists.specs.Lists.{_∈_}
 use Rattle.results.specs.Results.{Answers, costs}
 use Rattle.connections.specs.Connections.{Net, net, Connection, Feasible, stations}
-use Rattle.connections.specs.Planner.{plannerList, measure, rowsOf}
+use Rattle.connections.specs.Planner.{plannerList, measure, rideCount, rowsOf}
 use Rattle.stores.specs.Stored.{stored, Target, Sequence}
 use Rattle.stores.specs.Words.{nodes, arcs, entriesMost, storeWords, readable, wellMade, keptList, answer}
 use Rattle.lines.specs.DirectRides.{directs, directRows, firstRides}
@@ -26,6 +26,9 @@ pub record DemandTwo (t : Timetable) : Type 0 where
   -- "The direct rides shown carry exactly the costs that are optimal, by Definition 2 of the 2010 transfer pattern
   -- paper, among direct rides, one ride for each"
   pub direct : (a m b : ℕ) → Answers (measure m) (directs (net t) a m b) (directRows (net t) a m b)
+  -- the direct rides are the feasible connections of one ride
+  pub directs-are : (a m b : ℕ) (c : Connection)
+      → c ∈ directs (net t) a m b ↔ (Feasible (net t) a m b c × (rideCount c ≡ 1))
   -- the first trips of the lines have these costs
   pub by-lines : (a m b : ℕ)
       → costs (measure m) (firstRides (t .trips) a m b) ≡ costs (measure m) (directs (net t) a m b)

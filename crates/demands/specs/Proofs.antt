@@ -19,7 +19,7 @@ use Rattle.stores.specs.Words.{storeWords, readable, holds, keptList, answer}
 use Rattle.stores.specs.KeptLaws.{kept-exactly}
 use Rattle.stores.specs.StoredLaws.{stored-in, stored-out, store-read, store-well-made}
 use Rattle.lines.specs.DirectRides.{directs, directRows}
-use Rattle.lines.specs.DirectLaws.{direct-costs}
+use Rattle.lines.specs.DirectLaws.{directs-exactly, direct-costs}
 use Rattle.demands.specs.Demands.{Query, DemandTwo, DemandThree}
 
 module _ (n : Net) (ok : Sound n) where
@@ -101,7 +101,12 @@ module _ (t : Timetable) (v : T (valid t)) where
 
   pub demand-two : DemandTwo t
   demand-two =
-      record { direct = direct-answers (net t); by-lines = direct-costs t; store = store-holds (net t) ok }
+      record {
+        direct = direct-answers (net t);
+        directs-are = directs-exactly t;
+        by-lines = direct-costs t;
+        store = store-holds (net t) ok;
+      }
 
   pub demand-three : DemandThree t
   demand-three =
