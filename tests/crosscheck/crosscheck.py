@@ -197,6 +197,7 @@ def other_store(rnd, planner, source):
             arcs.add((pattern[-1], before))
         if rnd.random() < 0.2:
             nodes.append((rnd.choice(stations), rnd.randint(0, len(nodes))))
+            nodes.append(rnd.choice(nodes))
     arcs |= {(source, rnd.randint(0, len(nodes))) for _ in range(2)}
     told = nodes + sorted(arcs)
     behind = [rnd.randint(0, 9) for _ in range(rnd.randint(0, 2))]
@@ -279,19 +280,18 @@ def equations(seed):
             claims.append(("answer (net %s) (%s) %d %d %d" % (name, words, source, minutes[0], b),
                            table(planner.rows(kept, minutes[0]))))
     # stores that no store call wrote, and ill-made words
-    words = other_store(rnd, planner, source)
-    claims.append(("wellMade %d (%s)" % (len(stations), numbers(words)), "true"))
-    assert planner.well_made(words)
-    held = planner.read(source, words)
-    for b in range(1, len(stations) + 1):
-        if b != source:
-            kept = [c for c in planner.connections(source, minutes[1], b) if planner.pattern(source, c) in held]
-            claims.append(("answer (net %s) (%s) %d %d %d" % (name, numbers(words), source, minutes[1], b),
-                           table(planner.rows(kept, minutes[1]))))
-    for _ in range(8):
-        changed = spoilt(rnd, words)
-        made = "true" if planner.well_made(changed) else "false"
-        claims.append(("wellMade %d (%s)" % (len(stations), numbers(changed)), made))
+    for a in range(1, len(stations) + 1):
+        words = other_store(rnd, planner, a)
+        assert planner.well_made(words)
+        held = planner.read(a, words)
+        for b in range(1, len(stations) + 1):
+            if b != a:
+                kept = [c for c in planner.connections(a, minutes[0], b) if planner.pattern(a, c) in held]
+                claims.append(("answer (net %s) (%s) %d %d %d" % (name, numbers(words), a, minutes[0], b),
+                               table(planner.rows(kept, minutes[0]))))
+        for lent in [words] + [spoilt(rnd, words) for _ in range(4)]:
+            made = "true" if planner.well_made(lent) else "false"
+            claims.append(("wellMade %d (%s)" % (len(stations), numbers(lent)), made))
     return name, as_timetable(stations, trips), claims, planner.ties
 
 
