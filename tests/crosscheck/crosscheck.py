@@ -234,7 +234,7 @@ use mathlib.Core.Bool.{true, false}
 use mathlib.Core.List.{List, [], _∷_}
 use Rattle.timetable.specs.Timetable.{Timetable, validStation, listed, leaves, ends, follows, runs}
 use Rattle.timetable.specs.Timetable.{validTrip, validStations, validTrips, counted, valid}
-use Rattle.results.specs.Results.{dominates, equal, result}
+use Rattle.results.specs.Results.{dominates, equal, entries, result}
 use Rattle.connections.specs.Rides.{ridePoints, ridesOf}
 use Rattle.connections.specs.Connections.{net, changesOf}
 use Rattle.connections.specs.Planner.{connections, plannerList, tieKey, rowsOf}
@@ -246,9 +246,10 @@ use Rattle.lines.specs.Lines.{inOrder, lines, lineNumbers, calls}
 use Rattle.lines.specs.DirectRides.{directs, directRows}
 """
 
-OPENED = """validStation listed leaves ends follows runs validTrip validStations validTrips counted valid dominates equal result
-    ridePoints ridesOf changesOf connections plannerList tieKey rowsOf optimals optimalStations stored nodes arcs encode
-    storeWords readable wellMade keptList answer inOrder lines calls directs directRows"""
+OPENED = """validStation listed leaves ends follows runs validTrip validStations validTrips counted valid
+    dominates equal entries result ridePoints ridesOf changesOf connections plannerList tieKey rowsOf optimals
+    optimalStations stored nodes arcs encode storeWords readable wellMade keptList answer inOrder lines calls directs
+    directRows"""
 
 
 def equations(seed):

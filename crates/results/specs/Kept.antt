@@ -1,16 +1,16 @@
 -- A shorter list with the result of the whole. If it keeps every undominated candidate, the result is the same, rows
 -- and all: whatever beats a candidate on the whole list, an undominated one below it beats it on the shorter. If it
 -- only has one for each that is no worse, the costs are the same.
-use mathlib.Core.Path.{_≡_, refl, sym, _∙_}
-use mathlib.Core.List.{List, [], _∷_, List·Memᴰ·head as here, Memᴰ·cast}
+use mathlib.Core.Path.{_≡_, refl, sym, ap, _∙_}
+use mathlib.Core.List.{List, [], _∷_, map, List·Memᴰ·head as here, Memᴰ·cast}
 use native.Mathlib.Omega.{arith}
 use lib.Dec.{T}
 use Rattle.lists.specs.Lists.{_∈_}
 use Rattle.lists.specs.Members.{none}
 use Rattle.lists.specs.Sorting.{Inside, rising-unique}
-use Rattle.results.specs.Results.{Measure, pair, over, result, costs, Undominated, Picked}
+use Rattle.results.specs.Results.{Measure, pair, told, over, entries, result, costs, Undominated, Picked}
 use Rattle.results.specs.Domination.{NoWorse, Better, dominates-in, dominates-out, undominated-same}
-use Rattle.results.specs.Picks.{result-in, result-out, result-rising, costs-in, costs-out, costs-rising}
+use Rattle.results.specs.Picks.{entries-in, entries-out, entries-rising, costs-in, costs-out, costs-rising}
 use Rattle.results.specs.Picks.{undominated-cost, optimum}
 
 -- one with the cost and row of another has its pair
@@ -47,19 +47,23 @@ module _ {X : Type 0} (m : Measure X) (whole kept : List X) (sub : (c : X) → c
           first = λ e i q. p .first e (keeps e (undominated-cost m whole c e u i q)) q;
         }
 
-    pub result-kept : result m kept ≡ result m whole
-    result-kept =
-        rising-unique (result m kept) (result m whole) (result-rising m kept) (result-rising m whole) to from
+    entries-kept : entries m kept ≡ entries m whole
+    entries-kept =
+        rising-unique (entries m kept) (entries m whole) (entries-rising m kept) (entries-rising m whole) to from
       where
-        to : Inside (result m kept) (result m whole)
+        to : Inside (entries m kept) (entries m whole)
         to z i =
-            let r = result-out m kept z i in
-            Memᴰ·cast (sym (r .2)) (result-in m whole (r .0) (picked-whole (r .0) (r .1)))
+            let r = entries-out m kept z i in
+            Memᴰ·cast (sym (r .2)) (entries-in m whole (r .0) (picked-whole (r .0) (r .1)))
 
-        from : Inside (result m whole) (result m kept)
+        from : Inside (entries m whole) (entries m kept)
         from z i =
-            let r = result-out m whole z i in
-            Memᴰ·cast (sym (r .2)) (result-in m kept (r .0) (picked-part (r .0) (r .1)))
+            let r = entries-out m whole z i in
+            Memᴰ·cast (sym (r .2)) (entries-in m kept (r .0) (picked-part (r .0) (r .1)))
+
+    pub result-kept : result m kept ≡ result m whole
+    unfolding result
+    result-kept = ap (map (told m)) entries-kept
 
     pub empty-kept : kept ≡ [] → whole ≡ []
     empty-kept e = go whole refl
