@@ -1,11 +1,11 @@
 #!/usr/bin/env python3
 """A cross-check of the definitions themselves.
 
-This program lists connections by brute force on small random timetables, in plain Python and from document 01 alone, and
-works out rows, stores, lines, calls, and what other stores hold, well made or not. It writes each answer as an equation
-about the definitions in crates/*/specs and has the checker close every one by computation, in a scratch copy of the
-crates. It proves nothing; it is how we see that the definitions say what we mean. Not part of the gate: stores are
-computed from all 2,880 minutes, so it takes minutes.
+This program lists connections by brute force on small random timetables, in plain Python and from document 01 alone,
+and works out rows, stores, lines, calls, and what other stores hold, well made or not. It writes each answer as an
+equation about the definitions in crates/*/specs and has the checker close every one by computation, in a scratch copy
+of the crates. It proves nothing; it is how we see that the definitions say what we mean. Not part of the gate: stores
+are computed from all 2,880 minutes.
 
     python3 tests/crosscheck/crosscheck.py [seed ..]
 
@@ -180,8 +180,8 @@ def entries(words):
 
 
 def other_store(rnd, planner, source):
-    """A well-made store that no store call wrote: of any patterns, with nodes that are repeated or that no arc uses, arcs
-    to the source, and words behind."""
+    """A well-made store that no store call wrote: of any patterns, with nodes that are repeated or that no arc uses,
+    arcs to the source, and words behind."""
     stations = range(1, len(planner.stations) + 1)
     every = {planner.pattern(source, c) for b in stations for c in planner.connections(source, 0, b)}
     nodes, arcs = [], set()

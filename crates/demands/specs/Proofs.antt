@@ -7,7 +7,7 @@ use Prim.Native.Nat.{ℕ}
 use lib.Dec.{T}
 use Rattle.timetable.specs.Timetable.{Timetable, valid}
 use Rattle.lists.specs.Lists.{_∈_, filter}
-use Rattle.results.specs.Results.{row, Undominated, Answers}
+use Rattle.results.specs.Results.{row, Undominated, Picked, Answers}
 use Rattle.results.specs.Answered.{result-answers}
 use Rattle.results.specs.Kept.{result-kept, empty-kept}
 use Rattle.connections.specs.Connections.{Feasible, Net, net, Connection, duration, penalty, stations}
@@ -71,15 +71,18 @@ module _ (n : Net) (ok : Sound n) where
               is = refl;
             }
 
+    keeps-picked : (c : Connection) → Picked (measure m) (plannerList n a m b) c → c ∈ keptList n made a m b
+    keeps-picked c p = keeps c (p .best)
+
     same-rows : answer n made a m b ≡ rowsOf m (plannerList n a m b)
     unfolding answer rowsOf
     same-rows =
-        result-kept (measure m) (plannerList n a m b) (keptList n made a m b) (kept-planned made a m b) keeps
+        result-kept (measure m) (plannerList n a m b) (keptList n made a m b) (kept-planned made a m b) keeps-picked
 
     same-none : (keptList n made a m b ≡ []) ↔ (plannerList n a m b ≡ [])
     unfolding keptList
     same-none = (
-      empty-kept (measure m) (plannerList n a m b) (keptList n made a m b) (kept-planned made a m b) keeps,
+      empty-kept (measure m) (plannerList n a m b) (keptList n made a m b) (kept-planned made a m b) keeps-picked,
       ap (filter (holds (readable made))),
     )
 

@@ -28,7 +28,7 @@ unfoldable pub equal : Cost → Cost → Bool
 equal x y = eqb (x .minutes) (y .minutes) && eqb (x .points) (y .points)
 
 -- What a candidate costs, the key by which those of equal cost are ordered, and the row. It is told from cost and key
--- alone, so candidates of one cost and key have one row; and it may begin with any word, since rows are ordered by cost.
+-- alone, so candidates of one cost and key have one row; it may begin with any word, since rows are ordered by cost.
 pub record Measure (X : Type 0) : Type 0 where
   pub cost : X → Cost
   pub key : X → List ℕ
