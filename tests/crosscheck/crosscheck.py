@@ -1,10 +1,11 @@
 #!/usr/bin/env python3
 """A cross-check of the definitions themselves.
 
-This program lists connections by brute force on small random timetables, in plain Python and from document 01 alone, and
-works out rows, stores, lines and calls. It writes each answer as an equation about the definitions in crates/*/specs and
-has the checker close every one by computation, in a scratch copy of the repository. It proves nothing; it is how we see that
-the definitions say what we mean. Not part of the gate: stores are computed from all 2,880 minutes, so it takes minutes.
+This program lists connections by brute force on small random timetables, in plain Python and from document 01 alone,
+and works out rows, stores, lines, calls, and what other stores hold, well made or not. It writes each answer as an
+equation about the definitions in crates/*/specs and has the checker close every one by computation, in a scratch copy
+of the crates. It proves nothing; it is how we see that the definitions say what we mean. Not part of the gate: stores
+are computed from all 2,880 minutes.
 
     python3 tests/crosscheck/crosscheck.py [seed ..]
 
@@ -20,6 +21,7 @@ import sys
 import tempfile
 
 LAST_MINUTE = 2879
+CRATES = ["timetable", "lists", "results", "connections", "stores", "lines"]
 SEEDS = [11, 15, 18, 2296]
 
 
@@ -129,6 +131,30 @@ class Planner:
         told = [(node[-1], number[node[:-1]]) for node in nodes] + arcs
         return [len(nodes), len(arcs)] + [word for entry in told for word in entry]
 
+    def well_made(self, words):
+        """Question 13, in the order of document 01."""
+        if len(words) < 2 or len(words) < 2 + 2 * words[0] + 2 * words[1] or max(words[:2]) > 16383:
+            return False
+        nodes, arcs = entries(words)
+        known = all(1 <= station <= len(self.stations) for station, _ in nodes + arcs)
+        below = all(parent < number for number, (_, parent) in enumerate(nodes, 1))
+        if not known or not below or any(before > len(nodes) for _, before in arcs):
+            return False
+        rising = all(arc < another for arc, another in zip(arcs, arcs[1:]))
+        return rising and all(len(pattern) <= 64 for pattern in self.read(0, words))
+
+    def read(self, source, words):
+        """The patterns of well-made words, each from the arc back to the root."""
+        nodes, arcs = entries(words)
+        found = []
+        for target, before in arcs:
+            pattern = [target]
+            while before:
+                station, before = nodes[before - 1]
+                pattern.insert(0, station)
+            found.append(tuple([source] + pattern))
+        return found
+
     def lines(self):
         lines = []
         for z in sorted(range(len(self.trips)), key=lambda z: (self.trips[z][0][2], z)):
@@ -145,6 +171,47 @@ class Planner:
     def calls(self, station):
         return [[i, p] for i, line in enumerate(self.lines(), 1)
                 for p, stop in enumerate(self.trips[line[0]], 1) if stop[0] == station]
+
+
+def entries(words):
+    """The nodes and the arcs, as pairs."""
+    both = [(words[i], words[i + 1]) for i in range(2, 2 + 2 * words[0] + 2 * words[1], 2)]
+    return both[:words[0]], both[words[0]:]
+
+
+def other_store(rnd, planner, source):
+    """A well-made store that no store call wrote: of any patterns, with nodes that are repeated or that no arc uses,
+    arcs to the source, and words behind."""
+    stations = range(1, len(planner.stations) + 1)
+    every = {planner.pattern(source, c) for b in stations for c in planner.connections(source, 0, b)}
+    nodes, arcs = [], set()
+    for pattern in sorted(every):
+        if rnd.random() < 0.7:
+            before = 0
+            for station in pattern[1:-1]:
+                known = [i for i, node in enumerate(nodes, 1) if node == (station, before)]
+                if not known or rnd.random() < 0.3:
+                    nodes.append((station, before))
+                    known.append(len(nodes))
+                before = rnd.choice(known)
+            arcs.add((pattern[-1], before))
+        if rnd.random() < 0.2:
+            nodes.append((rnd.choice(stations), rnd.randint(0, len(nodes))))
+            nodes.append(rnd.choice(nodes))
+    arcs |= {(source, rnd.randint(0, len(nodes))) for _ in range(2)}
+    told = nodes + sorted(arcs)
+    behind = [rnd.randint(0, 9) for _ in range(rnd.randint(0, 2))]
+    return [len(nodes), len(arcs)] + [word for entry in told for word in entry] + behind
+
+
+def spoilt(rnd, words):
+    """The words with a few changed or left out: well made or not."""
+    words = list(words)
+    if rnd.random() < 0.3:
+        return words[:rnd.randint(0, len(words) - 1)]
+    i = rnd.randint(0, len(words) - 1)
+    words[i] = rnd.choice([0, words[i] + 1, rnd.randint(0, len(words)), 65535])
+    return words
 
 
 def numbers(row):
@@ -167,20 +234,22 @@ use mathlib.Core.Bool.{true, false}
 use mathlib.Core.List.{List, [], _∷_}
 use Rattle.timetable.specs.Timetable.{Timetable, validStation, listed, leaves, ends, follows, runs}
 use Rattle.timetable.specs.Timetable.{validTrip, validStations, validTrips, counted, valid}
-use Rattle.results.specs.Results.{dominates, equal, result}
+use Rattle.results.specs.Results.{dominates, equal, entries, result}
 use Rattle.connections.specs.Rides.{ridePoints, ridesOf}
 use Rattle.connections.specs.Connections.{net, changesOf}
 use Rattle.connections.specs.Planner.{connections, plannerList, tieKey, rowsOf}
-use Rattle.connections.specs.Worked.{station, stop, planned}
+use Rattle.timetable.specs.Worked.{station, stop}
+use Rattle.connections.specs.Worked.{planned}
 use Rattle.stores.specs.Stored.{optimals, optimalStations, stored}
 use Rattle.stores.specs.Words.{nodes, arcs, encode, storeWords, readable, wellMade, keptList, answer}
 use Rattle.lines.specs.Lines.{inOrder, lines, lineNumbers, calls}
 use Rattle.lines.specs.DirectRides.{directs, directRows}
 """
 
-OPENED = """validStation listed leaves ends follows runs validTrip validStations validTrips counted valid dominates equal result
-    ridePoints ridesOf changesOf connections plannerList tieKey rowsOf optimals optimalStations stored nodes arcs encode
-    storeWords readable wellMade keptList answer inOrder lines calls directs directRows"""
+OPENED = """validStation listed leaves ends follows runs validTrip validStations validTrips counted valid
+    dominates equal entries result ridePoints ridesOf changesOf connections plannerList tieKey rowsOf optimals
+    optimalStations stored nodes arcs encode storeWords readable wellMade keptList answer inOrder lines calls directs
+    directRows"""
 
 
 def equations(seed):
@@ -211,7 +280,34 @@ def equations(seed):
             kept = [c for c in planner.connections(source, minutes[0], b) if planner.pattern(source, c) in left]
             claims.append(("answer (net %s) (%s) %d %d %d" % (name, words, source, minutes[0], b),
                            table(planner.rows(kept, minutes[0]))))
+    # stores that no store call wrote, and ill-made words
+    for a in range(1, len(stations) + 1):
+        words = other_store(rnd, planner, a)
+        assert planner.well_made(words)
+        held = planner.read(a, words)
+        for b in range(1, len(stations) + 1):
+            if b != a:
+                kept = [c for c in planner.connections(a, minutes[0], b) if planner.pattern(a, c) in held]
+                claims.append(("answer (net %s) (%s) %d %d %d" % (name, numbers(words), a, minutes[0], b),
+                               table(planner.rows(kept, minutes[0]))))
+        for lent in [words] + [spoilt(rnd, words) for _ in range(4)]:
+            made = "true" if planner.well_made(lent) else "false"
+            claims.append(("wellMade %d (%s)" % (len(stations), numbers(lent)), made))
     return name, as_timetable(stations, trips), claims, planner.ties
+
+
+def rests_on(root, wanted):
+    """The lines of crates.txt for these crates and all that they rest on, in its order."""
+    with open(os.path.join(root, "crates.txt")) as file:
+        listed = [line for line in file if line.strip() and not line.startswith("#")]
+    below = {line.split(":")[0].strip(): line.split(":")[1].split() for line in listed}
+    needed, todo = set(), list(wanted)
+    while todo:
+        crate = todo.pop()
+        if crate not in needed:
+            needed.add(crate)
+            todo += below[crate]
+    return [line for line in listed if line.split(":")[0].strip() in needed]
 
 
 def main():
@@ -228,12 +324,12 @@ def main():
             text.append("%s-%d : %s ≡ %s\nunfolding %s %s\n%s-%d = refl\n" % (name, i, call, value, name, OPENED, name, i))
             where["%s-%d" % (name, i)] = (call, value)
     with tempfile.TemporaryDirectory() as scratch:
-        for crate in ("timetable", "lists", "results", "connections", "stores", "lines"):
+        kept = rests_on(root, CRATES)
+        names = [line.split(":")[0].strip() for line in kept]
+        for crate in names:
             shutil.copytree(os.path.join(root, "crates", crate), os.path.join(scratch, "crates", crate))
-        with open(os.path.join(root, "crates.txt")) as listed:
-            kept = [line for line in listed if line.split(":")[0] in os.listdir(os.path.join(scratch, "crates"))]
         with open(os.path.join(scratch, "crates.txt"), "w") as listed:
-            listed.writelines(kept + ["equations: timetable lists results connections stores lines\n"])
+            listed.writelines(kept + ["equations: %s\n" % " ".join(names)])
         os.makedirs(os.path.join(scratch, "crates", "equations", "src"))
         os.makedirs(os.path.join(scratch, "crates", "equations", "specs"))
         for path, content in (("src/lib.rt", "// The cross-check's equations.\n"), ("specs/Lib.antt", "pub mod Equations\n"),

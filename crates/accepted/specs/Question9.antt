@@ -1,21 +1,29 @@
 -- Question 9: "Could the timetable words come from an accepted text?" The test isTimetable has a yes exactly for the
 -- words that do, and what reading wrote, with number 0, always has its yes.
-use mathlib.Core.Path.{_≡_, sym, ap, _∙_}
-use mathlib.Core.Bool.{true}
+use mathlib.Core.Path.{_≡_, refl, sym, ap, subst, _∙_}
+use mathlib.Core.Bool.{Bool, true, false, cond, _&&_}
 use mathlib.Core.Logic.{_↔_}
-use mathlib.Core.List.{List, _++_}
-use Prim.Native.Nat.{ℕ, _≤_}
+use mathlib.Core.List.{List, [], _∷_, _++_}
+use Prim.Native.Nat.{ℕ, zero, suc, _+_, _-_, _≤_}
+use lib.Dec.{leb, eqb, eqb·suc-zero}
 use lib.ListN.{length, take, drop, take-append-drop}
 use lib.Seq.{take-append-seam}
 use native.Mathlib.Nat.{zero-add}
 use native.Mathlib.Omega.{arith}
-use borrow.Author.Tests.{le-leb}
+use borrow.Author.Tests.{leb-true, le-leb}
 use Rattle.words.specs.Put.{put}
+use Rattle.text.specs.Piece.{pieces}
+use Rattle.text.specs.Shape.{shapeOf}
 use Rattle.timetable.specs.Timetable.{Timetable, valid}
 use Rattle.timetable.specs.Words.{words, timetableOf, isTimetable}
-use Rattle.reading.specs.Reading.{Accepted, textMost, reading, slicesLeast, readWords}
+use Rattle.reading.specs.declared.Reply.{Reply}
+use Rattle.reading.specs.declared.Reply.the-variants.{Refused as ReplyRefused}
+use Rattle.reading.specs.Draft.{Draft, blank, progress, lineNumber, withLine}
+use Rattle.reading.specs.Reading.{Outcome, Accepted, Refused, ended, readFrom, textMost, readLines, reading}
+use Rattle.reading.specs.Reading.{slicesLeast, replyTo, readReply, readWords, numberOf}
 use Rattle.accepted.specs.Lists.{both, Below}
 use Rattle.accepted.specs.Valid.{Valid, is-valid}
+use Rattle.accepted.specs.Passes.{read-more}
 use Rattle.accepted.specs.WrittenOut.{linesOf, textOf}
 use Rattle.accepted.specs.TextReadBack.{text-bytes, text-short}
 use Rattle.accepted.specs.Taken.{valid-accepted}
@@ -104,3 +112,73 @@ module _ (text : List ℕ) (t : Timetable) (n : ℕ) (e : reading text ≡ Accep
 pub read-again : (w : List ℕ) (c : ComesFromText w) → slicesLeast ≤ length w → readWords (c .text) w ≡ w
 unfolding behind
 read-again w c h = read-writes (c .text) (c .timetable) (c .lines) (c .accepted) w h ∙ sym (begins w c)
+
+-- ---- no refusal has number 0, so that a reply with number 0 has an accepted text
+abbrev Numbered : Outcome → Type 0
+Numbered (Accepted t n) = Unit {0}
+Numbered (Refused number line) = 1 ≤ number
+
+either-numbered : (test : Bool) (x y : Outcome) → Numbered x → Numbered y → Numbered (cond test x y)
+either-numbered true x y h g = h
+either-numbered false x y h g = g
+
+line-numbered : (number line : ℕ) (x : Outcome) → Numbered x → Numbered (cond (eqb number 0) x (Refused number line))
+line-numbered zero line x h = h
+line-numbered (suc n) line x h = rw (eqb·suc-zero n) (omega arith)
+
+end-numbered : (d : Draft) (line : ℕ) → Numbered (ended d line)
+unfolding ended
+end-numbered d line =
+    let whole : Timetable = record { stations = d .stations; trips = d .trips } in
+    either-numbered (leb 1 (length (d .stations)) && eqb (length (d .begun)) 0)
+    (Accepted whole (line - 1)) (Refused 7 line) tt (omega arith)
+
+from-numbered : (d : Draft) (line : ℕ) (l : List (List ℕ)) → Numbered (readFrom d line l)
+unfolding readFrom
+from-numbered d line [] = end-numbered d line
+from-numbered d line (s ∷ []) =
+    either-numbered (eqb (length s) 0) (ended d line) (Refused 2 line) (end-numbered d line) (omega arith)
+from-numbered d line (s ∷ u ∷ l) =
+    let number = lineNumber (progress d) (shapeOf s) in
+    let after = withLine d (shapeOf s) in
+    subst Numbered (sym (read-more d line s u l))
+    (line-numbered number line (readFrom after (line + 1) (u ∷ l)) (from-numbered after (line + 1) (u ∷ l)))
+
+reading-numbered : (text : List ℕ) → Numbered (reading text)
+unfolding reading readLines
+reading-numbered text =
+    let lines = pieces 10 text in
+    either-numbered (leb (length text) textMost) (readFrom blank 1 lines) (Refused 1 0)
+    (from-numbered blank 1 lines) (omega arith)
+
+-- reading took this text, into a slice of n words
+pub record Read (text : List ℕ) (n : ℕ) : Type 0 where
+  pub long : slicesLeast ≤ n
+  pub timetable : Timetable
+  pub lines : ℕ
+  pub accepted : reading text ≡ Accepted timetable lines
+
+long-zero : (test : Bool) (x : Reply) → numberOf (cond test x (ReplyRefused 8 0)) ≡ 0
+    → (test ≡ true) × (numberOf x ≡ 0)
+long-zero true x e = (refl, e)
+long-zero false x e = absurd (omega arith)
+
+outcome-zero : (x : Outcome) → Numbered x → numberOf (replyTo x) ≡ 0
+    → (t : Timetable) × (n : ℕ) × (x ≡ Accepted t n)
+outcome-zero (Accepted t n) h e = (t, n, refl)
+outcome-zero (Refused number line) h e = absurd (omega arith)
+
+-- "Success has number 0", and nothing else has
+pub number-zero : (text : List ℕ) (n : ℕ) → numberOf (readReply text n) ≡ 0 → Read text n
+unfolding readReply
+number-zero text n e =
+    let c = long-zero (leb slicesLeast n) (replyTo (reading text)) e in
+    let o = outcome-zero (reading text) (reading-numbered text) (c .1) in
+    record { long = leb-true slicesLeast n (c .0); timetable = o .0; lines = o .1; accepted = o .2 }
+
+-- what reading wrote, with number 0, has its yes: no premise but the reply
+pub zero-has-yes : (text old : List ℕ) → numberOf (readReply text (length old)) ≡ 0
+    → isTimetable (readWords text old) ≡ true
+zero-has-yes text old e =
+    let r = number-zero text (length old) e in
+    read-has-yes text (r .timetable) (r .lines) (r .accepted) old (r .long)

@@ -7,7 +7,7 @@ use native.Mathlib.Omega.{arith}
 use lib.ListN.{length}
 use Rattle.timetable.specs.Timetable.{Timetable}
 use Rattle.lists.specs.Lists.{_∈_, tail}
-use Rattle.results.specs.Results.{lead}
+use Rattle.results.specs.Picks.{lead}
 use Rattle.connections.specs.Rides.{Ride}
 use Rattle.connections.specs.Connections.{Change, Net, net, Connection, direct, onward, Feasible, ready}
 use Rattle.connections.specs.Planner.{numbers}

@@ -57,7 +57,7 @@ tieKey c = (lastMinute - departure c) ∷ rideCount c ∷ numbers c
 
 -- "rows in rising duration: duration, penalty, number of rides, then trip, boarding stop, alighting stop per ride"
 abbrev pub measure : ℕ → Measure Connection
-measure t = record { cost = cost t; key = tieKey; tells = tail }
+measure t = record { cost = cost t; key = tieKey; tells = λ x k. x .minutes ∷ x .points ∷ tail k }
 
 -- the rows of a list of connections, for a query at minute t
 unfoldable pub rowsOf : ℕ → List Connection → List (List ℕ)

@@ -1,13 +1,16 @@
 -- The rides and changes of a timetable by their places, and how a ride's penalty is summed stop by stop.
 use mathlib.Core.Path.{_≡_, refl, sym, ap, _∙_}
 use mathlib.Core.List.{List, [], _∷_, Memᴰ·map, Memᴰ·of-map}
-use Prim.Native.Nat.{ℕ, zero, suc, _+_, _-_, _≤_, _<_}
+use Prim.Native.Nat.{ℕ, zero, suc, _+_, _≤_, _<_}
 use native.Mathlib.Omega.{arith}
+use lib.Dec.{T}
 use lib.ListN.{length, getD}
 use Rattle.timetable.specs.Timetable.{Station, Stop, Trip}
-use Rattle.lists.specs.Lists.{_∈_, range}
-use Rattle.lists.specs.Members.{concatMap-in, concatMap-out, range-in, range-out}
-use Rattle.connections.specs.Rides.{Ride, noStop, ridePoints, rideAt, ridesFrom, tripRides, ridesOf}
+use Rattle.lists.specs.Lists.{_∈_, filter, range}
+use Rattle.lists.specs.Tests.{reads, writes}
+use Rattle.lists.specs.Members.{filter-in, filter-out, concatMap-in, concatMap-out, range-in, range-out}
+use Rattle.connections.specs.Rides.{Ride, noStop, ridePoints, rideAt, mayRide, ridesFrom, tripRides}
+use Rattle.connections.specs.Rides.{ridesOf}
 use Rattle.connections.specs.Connections.{Change, changeAt, changesOf}
 
 -- a ride of the timetable: a trip, a stop to board at and a later stop to alight at
@@ -27,16 +30,16 @@ module _ (t : List Trip) where
       let i = concatMap-out (λ z. tripRides (getD t z []) z) (range 0 (length t)) m in
       let l = getD t (i .0) [] in
       let j = concatMap-out (ridesFrom l (i .0)) (range 0 (length l)) (i .2) in
-      let k = Memᴰ·of-map (rideAt l (i .0) (j .0)) (range (suc (j .0)) (length l - suc (j .0))) (j .2) in
+      let k = Memᴰ·of-map (rideAt l (i .0) (j .0)) (filter (mayRide l (j .0)) (range 0 (length l))) (j .2) in
       let a = range-out 0 (length t) (i .0) (i .1) in
-      let c = range-out (suc (j .0)) (length l - suc (j .0)) (k .0) (k .1) in
+      let may = filter-out {x = k .0} (mayRide l (j .0)) (range 0 (length l)) (k .1) .1 in
       record {
         z = i .0;
         x = j .0;
         y = k .0;
         listed = omega arith;
-        later = omega arith;
-        inside = omega arith;
+        later = search reads;
+        inside = search reads;
         is = k .2;
       }
 
@@ -44,7 +47,8 @@ module _ (t : List Trip) where
   unfolding ridesOf
   rides-in z x y h g i =
       let l = getD t z [] in
-      let alight = range-in (suc x) (length l - suc x) y (omega arith) (omega arith) in
+      let may : T (mayRide l x y) = search writes in
+      let alight = filter-in (mayRide l x) (range-in 0 (length l) y (omega arith) (omega arith)) may in
       let board = range-in 0 (length l) x (omega arith) (omega arith) in
       let trip = range-in 0 (length t) z (omega arith) (omega arith) in
       let on-trip = concatMap-in (ridesFrom l z) board (Memᴰ·map (rideAt l z x) alight) in

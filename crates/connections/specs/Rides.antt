@@ -1,11 +1,13 @@
 -- Rides. Document 01: "A ride is a trip, a stop to board at and a later stop to alight at." A ride carries what the
 -- timetable says of it, so that nobody has to look it up again. Places count from 0, numbers from 1: the trip at place
 -- z is trip z + 1.
+use mathlib.Core.Bool.{Bool, _&&_}
 use mathlib.Core.List.{List, [], _∷_, map}
-use Prim.Native.Nat.{ℕ, zero, suc, _+_, _-_}
+use Prim.Native.Nat.{ℕ, zero, suc, _+_}
+use lib.Dec.{ltb}
 use lib.ListN.{length, getD}
 use Rattle.timetable.specs.Timetable.{Stop, Trip}
-use Rattle.lists.specs.Lists.{concatMap, range}
+use Rattle.lists.specs.Lists.{filter, concatMap, range}
 
 pub record Ride : Type 0 where
   -- the numbers by which it is shown
@@ -44,9 +46,14 @@ rideAt l z x y =
       points = ridePoints l x y;
     }
 
--- the rides on a trip that board at place x: all later stops are open to alight at
+-- "a stop to board at and a later stop to alight at": who boards trip l at place x may alight at place y. Every stop is
+-- open to both; all that lists rides, from trips or from lines, asks here.
+abbrev pub mayRide : (l : Trip) (x y : ℕ) → Bool
+mayRide l x y = ltb x y && ltb y (length l)
+
+-- the rides on a trip that board at place x
 abbrev pub ridesFrom : (l : Trip) (z x : ℕ) → List Ride
-ridesFrom l z x = map (rideAt l z x) (range (suc x) (length l - suc x))
+ridesFrom l z x = map (rideAt l z x) (filter (mayRide l x) (range 0 (length l)))
 
 abbrev pub tripRides : (l : Trip) (z : ℕ) → List Ride
 tripRides l z = concatMap (ridesFrom l z) (range 0 (length l))

@@ -6,7 +6,7 @@ use lib.Dec.{T}
 use Rattle.timetable.specs.Timetable.{Station, Stop, Timetable, validStation, listed, leaves, ends, follows, runs}
 use Rattle.timetable.specs.Timetable.{validTrip, validStations, validTrips, counted, valid}
 use Rattle.timetable.specs.Worked.{station, stop, variant, M}
-use Rattle.results.specs.Results.{dominates, equal, result}
+use Rattle.results.specs.Results.{dominates, equal, entries, result}
 use Rattle.connections.specs.Rides.{ridePoints, ridesOf}
 use Rattle.connections.specs.Connections.{net, changesOf}
 use Rattle.connections.specs.Planner.{connections, plannerList, tieKey, rowsOf}
@@ -30,7 +30,7 @@ twoRides d p t x y t′ x′ y′ = d ∷ p ∷ 2 ∷ t ∷ x ∷ y ∷ t′ ∷
 -- Both durations are measured from 470. Trip 1 stays at station 2 for one minute, and who stays aboard needs no change
 -- minutes; who arrives at 500 with 3 change minutes cannot leave at 502, and takes trip 2.
 pub case-a : planned M 1 470 3 ≡ twoRides 50 10 1 1 2 2 1 2 ∷ oneRide 90 0 1 1 3 ∷ []
-unfolding M variant ridesOf ridePoints changesOf plannerList connections result dominates equal rowsOf tieKey
+unfolding M variant ridesOf ridePoints changesOf plannerList connections entries result dominates equal rowsOf tieKey
 case-a = refl
 
 pub case-a-none : plannerList (net M) 1 481 3 ≡ []
@@ -38,11 +38,11 @@ unfolding M variant ridesOf ridePoints changesOf plannerList connections
 case-a-none = refl
 
 pub case-g : planned M 2 501 3 ≡ oneRide 14 0 3 1 2 ∷ []
-unfolding M variant ridesOf ridePoints changesOf plannerList connections result dominates equal rowsOf tieKey
+unfolding M variant ridesOf ridePoints changesOf plannerList connections entries result dominates equal rowsOf tieKey
 case-g = refl
 
 pub case-h : planned M 2 503 3 ≡ oneRide 17 0 2 1 2 ∷ []
-unfolding M variant ridesOf ridePoints changesOf plannerList connections result dominates equal rowsOf tieKey
+unfolding M variant ridesOf ridePoints changesOf plannerList connections entries result dominates equal rowsOf tieKey
 case-h = refl
 
 -- The customer's first exercise: "the 8:00 takes twenty minutes, the 8:05 takes thirty". Whoever reaches the stop at
@@ -55,7 +55,7 @@ valley =
     }
 
 pub late-and-slow : planned valley 1 483 2 ≡ oneRide 32 0 2 1 2 ∷ []
-unfolding valley ridesOf ridePoints changesOf plannerList connections result dominates equal rowsOf tieKey
+unfolding valley ridesOf ridePoints changesOf plannerList connections entries result dominates equal rowsOf tieKey
 late-and-slow = refl
 
 -- "Of connections with equal cost the one shown departs latest."
@@ -67,5 +67,5 @@ alike =
     }
 
 pub latest-shown : planned alike 1 470 2 ≡ oneRide 30 0 2 1 2 ∷ []
-unfolding alike ridesOf ridePoints changesOf plannerList connections result dominates equal rowsOf tieKey
+unfolding alike ridesOf ridePoints changesOf plannerList connections entries result dominates equal rowsOf tieKey
 latest-shown = refl

@@ -2,15 +2,15 @@
 -- promise is said with the same words; Proofs shows that every accepted timetable meets both.
 use mathlib.Core.Path.{_≡_}
 use mathlib.Core.Logic.{_↔_}
-use mathlib.Core.List.{List, [], _++_}
+use mathlib.Core.List.{List, [], _∷_, _++_}
 use Prim.Native.Nat.{ℕ, _≤_}
 use lib.Dec.{T}
 use lib.ListN.{length}
 use Rattle.timetable.specs.Timetable.{Timetable, lastMinute}
 use Rattle.lists.specs.Lists.{_∈_}
-use Rattle.results.specs.Results.{Answers, costs}
-use Rattle.connections.specs.Connections.{Net, net, Connection, Feasible, stations}
-use Rattle.connections.specs.Planner.{plannerList, measure, rowsOf}
+use Rattle.results.specs.Results.{Answers, row, costs}
+use Rattle.connections.specs.Connections.{Net, net, Connection, Feasible, duration, penalty, stations}
+use Rattle.connections.specs.Planner.{plannerList, measure, rideCount, numbers, rowsOf}
 use Rattle.stores.specs.Stored.{stored, Target, Sequence}
 use Rattle.stores.specs.Words.{nodes, arcs, entriesMost, storeWords, readable, wellMade, keptList, answer}
 use Rattle.lines.specs.DirectRides.{directs, directRows, firstRides}
@@ -26,6 +26,9 @@ pub record DemandTwo (t : Timetable) : Type 0 where
   -- "The direct rides shown carry exactly the costs that are optimal, by Definition 2 of the 2010 transfer pattern
   -- paper, among direct rides, one ride for each"
   pub direct : (a m b : ℕ) → Answers (measure m) (directs (net t) a m b) (directRows (net t) a m b)
+  -- the direct rides are the feasible connections of one ride
+  pub directs-are : (a m b : ℕ) (c : Connection)
+      → c ∈ directs (net t) a m b ↔ (Feasible (net t) a m b c × (rideCount c ≡ 1))
   -- the first trips of the lines have these costs
   pub by-lines : (a m b : ℕ)
       → costs (measure m) (firstRides (t .trips) a m b) ≡ costs (measure m) (directs (net t) a m b)
@@ -52,6 +55,10 @@ pub record DemandThree (t : Timetable) : Type 0 where
       → c ∈ keptList (net t) w a m b ↔ (Feasible (net t) a m b c × (stations c ∈ readable w))
   pub struck-answers : (w : List ℕ) (a m b : ℕ)
       → Answers (measure m) (keptList (net t) w a m b) (answer (net t) w a m b)
+  -- "rows in rising duration: duration, penalty, number of rides, then trip, boarding stop, alighting stop per ride":
+  -- what the row of a connection says, so that its pair is the connection's cost
+  pub row-is : (m : ℕ) (c : Connection)
+      → row (measure m) c ≡ duration m c ∷ penalty c ∷ rideCount c ∷ numbers c
   -- "That 9, 10 and 13 have their yes for what reading, building and a store call wrote for this timetable, with number
   -- 0, is part of the claim and no premise": 13
   pub well-made : (a : ℕ) (post : List ℕ) → 1 ≤ a → a ≤ (net t) .stations

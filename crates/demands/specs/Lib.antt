@@ -1,3 +1,4 @@
 pub mod Demands
 pub mod Proofs
+pub mod Accepted
 pub mod Cases

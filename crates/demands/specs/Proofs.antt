@@ -2,16 +2,16 @@
 -- optimal connection on the list, and a list that keeps those has the result of the whole.
 use mathlib.Core.Path.{_≡_, refl, sym, ap, subst}
 use mathlib.Core.Logic.{_↔_}
-use mathlib.Core.List.{List, [], _++_}
+use mathlib.Core.List.{List, [], _∷_, _++_}
 use Prim.Native.Nat.{ℕ}
 use lib.Dec.{T}
 use Rattle.timetable.specs.Timetable.{Timetable, valid}
 use Rattle.lists.specs.Lists.{_∈_, filter}
-use Rattle.results.specs.Results.{Undominated, Answers}
+use Rattle.results.specs.Results.{row, Undominated, Picked, Answers}
 use Rattle.results.specs.Answered.{result-answers}
 use Rattle.results.specs.Kept.{result-kept, empty-kept}
-use Rattle.connections.specs.Connections.{Feasible, Net, net, Connection, stations}
-use Rattle.connections.specs.Planner.{plannerList, measure, rowsOf}
+use Rattle.connections.specs.Connections.{Feasible, Net, net, Connection, duration, penalty, stations}
+use Rattle.connections.specs.Planner.{plannerList, measure, rideCount, numbers, tieKey, rowsOf}
 use Rattle.connections.specs.Sound.{Sound, sound}
 use Rattle.connections.specs.Listed.{listed, optimal-out}
 use Rattle.stores.specs.Stored.{Sequence}
@@ -19,7 +19,7 @@ use Rattle.stores.specs.Words.{storeWords, readable, holds, keptList, answer}
 use Rattle.stores.specs.KeptLaws.{kept-exactly}
 use Rattle.stores.specs.StoredLaws.{stored-in, stored-out, store-read, store-well-made}
 use Rattle.lines.specs.DirectRides.{directs, directRows}
-use Rattle.lines.specs.DirectLaws.{direct-costs}
+use Rattle.lines.specs.DirectLaws.{directs-exactly, direct-costs}
 use Rattle.demands.specs.Demands.{Query, DemandTwo, DemandThree}
 
 module _ (n : Net) (ok : Sound n) where
@@ -71,15 +71,18 @@ module _ (n : Net) (ok : Sound n) where
               is = refl;
             }
 
+    keeps-picked : (c : Connection) → Picked (measure m) (plannerList n a m b) c → c ∈ keptList n made a m b
+    keeps-picked c p = keeps c (p .best)
+
     same-rows : answer n made a m b ≡ rowsOf m (plannerList n a m b)
     unfolding answer rowsOf
     same-rows =
-        result-kept (measure m) (plannerList n a m b) (keptList n made a m b) (kept-planned made a m b) keeps
+        result-kept (measure m) (plannerList n a m b) (keptList n made a m b) (kept-planned made a m b) keeps-picked
 
     same-none : (keptList n made a m b ≡ []) ↔ (plannerList n a m b ≡ [])
     unfolding keptList
     same-none = (
-      empty-kept (measure m) (plannerList n a m b) (keptList n made a m b) (kept-planned made a m b) keeps,
+      empty-kept (measure m) (plannerList n a m b) (keptList n made a m b) (kept-planned made a m b) keeps-picked,
       ap (filter (holds (readable made))),
     )
 
@@ -89,6 +92,10 @@ module _ (n : Net) (ok : Sound n) where
 
     made-answers : Answers (measure m) (plannerList n a m b) (answer n made a m b)
     made-answers = subst (Answers (measure m) (plannerList n a m b)) (sym same-rows) rows-answer
+
+row-says : (m : ℕ) (c : Connection) → row (measure m) c ≡ duration m c ∷ penalty c ∷ rideCount c ∷ numbers c
+unfolding tieKey
+row-says m c = refl
 
 direct-answers : (n : Net) (a m b : ℕ) → Answers (measure m) (directs n a m b) (directRows n a m b)
 unfolding directRows rowsOf
@@ -101,7 +108,12 @@ module _ (t : Timetable) (v : T (valid t)) where
 
   pub demand-two : DemandTwo t
   demand-two =
-      record { direct = direct-answers (net t); by-lines = direct-costs t; store = store-holds (net t) ok }
+      record {
+        direct = direct-answers (net t);
+        directs-are = directs-exactly t;
+        by-lines = direct-costs t;
+        store = store-holds (net t) ok;
+      }
 
   pub demand-three : DemandThree t
   demand-three =
@@ -112,5 +124,6 @@ module _ (t : Timetable) (v : T (valid t)) where
         made-none = same-none (net t) ok;
         kept = kept-pair (net t) ok;
         struck-answers = answer-answers (net t) ok;
+        row-is = row-says;
         well-made = λ a post h g. store-well-made (net t) ok a h g post;
       }

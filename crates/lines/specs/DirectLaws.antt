@@ -4,18 +4,18 @@ use mathlib.Core.Path.{_≡_, refl, sym, ap, subst, _∙_}
 use mathlib.Core.Bool.{Bool, _&&_}
 use mathlib.Core.Logic.{_↔_}
 use mathlib.Core.List.{List, [], Memᴰ·map, Memᴰ·of-map, Memᴰ·cast}
-use Prim.Native.Nat.{ℕ, suc, _-_, _≤_, _<_}
+use Prim.Native.Nat.{ℕ, _≤_, _<_}
 use native.Mathlib.Omega.{arith}
 use lib.Dec.{T, leb, eqb, eqb→eq}
 use lib.ListN.{length, getD}
 use Rattle.timetable.specs.Timetable.{Trip, Timetable}
 use Rattle.lists.specs.Lists.{_∈_, filter, firstOf, range}
 use Rattle.lists.specs.Tests.{reads, writes, eq→eqb}
-use Rattle.lists.specs.Members.{filter-in, filter-out, first-out, concatMap-in, concatMap-out, range-in, range-out}
+use Rattle.lists.specs.Members.{filter-in, filter-out, first-out, concatMap-in, concatMap-out, range-in}
 use Rattle.results.specs.Results.{costs}
 use Rattle.results.specs.Domination.{NoWorse}
 use Rattle.results.specs.Kept.{costs-covered}
-use Rattle.connections.specs.Rides.{Ride, rideAt}
+use Rattle.connections.specs.Rides.{Ride, rideAt, mayRide}
 use Rattle.connections.specs.Connections.{Net, net, Connection, direct, onward, Feasible, arrival, penalty, cost}
 use Rattle.connections.specs.Planner.{boardable, measure, rideCount}
 use Rattle.connections.specs.RideLaws.{Taken, rides-in, rides-out}
@@ -53,6 +53,9 @@ module _ (t : List Trip) where
   abbrev boardsAt : (a : ℕ) (l : List ℕ) (x : ℕ) → Bool
   boardsAt a l x = eqb (stationOn t l x) a
 
+  abbrev alightsAt : (b : ℕ) (l : List ℕ) (x y : ℕ) → Bool
+  alightsAt b l x y = mayRide (course t l) x y && eqb (stationOn t l y) b
+
   first-ride : (a u b : ℕ) (c : Connection) → c ∈ firstRides t a u b → FirstRide a u b c
   unfolding firstRides
   first-ride a u b c m =
@@ -61,13 +64,11 @@ module _ (t : List Trip) where
       let size = length (course t l) in
       let j = concatMap-out (firstFrom t u b l) (filter (boardsAt a l) (range 0 size)) (i .2) in
       let x = j .0 in
-      let later = range (suc x) (size - suc x) in
-      let k = concatMap-out (firstTo t u l x) (filter (boardsAt b l) later) (j .2) in
+      let k = concatMap-out (firstTo t u l x) (filter (alightsAt b l x) (range 0 size)) (j .2) in
       let y = k .0 in
       let w = Memᴰ·of-map (λ z. direct (rideAt (getD t z []) z x y)) (firstOf (inTime t u x) l) (k .2) in
       let fx = filter-out (boardsAt a l) (range 0 size) (j .1) in
-      let fy = filter-out (boardsAt b l) later (k .1) in
-      let h = range-out (suc x) (size - suc x) y (fy .0) in
+      let fy = filter-out (alightsAt b l x) (range 0 size) (k .1) .1 in
       record {
         line = l;
         x = x;
@@ -76,10 +77,10 @@ module _ (t : List Trip) where
         listed = i .1;
         pair =
             record {
-              later = omega arith;
-              inside = omega arith;
+              later = search reads;
+              inside = search reads;
               board = eqb→eq (stationOn t l x) a (fx .1);
-              alight = eqb→eq (stationOn t l y) b (fy .1);
+              alight = search reads;
             };
         first = w .1;
         is = w .2;
@@ -93,9 +94,10 @@ module _ (t : List Trip) where
       let h = p .later in
       let g = p .inside in
       let at-x = range-in 0 size x (omega arith) (omega arith) in
-      let at-y = range-in (suc x) (size - suc x) y (omega arith) (omega arith) in
+      let at-y = range-in 0 size y (omega arith) (omega arith) in
+      let to = p .alight in
       let boards = filter-in (boardsAt a l) at-x (eq→eqb (stationOn t l x) a (p .board)) in
-      let alights = filter-in (boardsAt b l) at-y (eq→eqb (stationOn t l y) b (p .alight)) in
+      let alights = filter-in (alightsAt b l x) at-y (search writes) in
       let ride = Memᴰ·map (λ z. direct (rideAt (getD t z []) z x y)) f in
       let from-x = concatMap-in (firstTo t u l x) alights ride in
       concatMap-in (firstOn t a u b) m (concatMap-in (firstFrom t u b l) boards from-x)

@@ -2,12 +2,12 @@
 -- query)?" Its rows are those of the list of all single rides. The first trips of the lines are enough for their costs.
 use mathlib.Core.Bool.{Bool, _&&_}
 use mathlib.Core.List.{List, [], map}
-use Prim.Native.Nat.{ℕ, suc, _-_}
+use Prim.Native.Nat.{ℕ}
 use lib.Dec.{leb, eqb}
 use lib.ListN.{length, getD}
 use Rattle.timetable.specs.Timetable.{Trip}
 use Rattle.lists.specs.Lists.{filter, firstOf, concatMap, range}
-use Rattle.connections.specs.Rides.{noStop, rideAt}
+use Rattle.connections.specs.Rides.{noStop, rideAt, mayRide}
 use Rattle.connections.specs.Connections.{Net, Connection, direct}
 use Rattle.connections.specs.Planner.{boardable, rowsOf}
 use Rattle.lines.specs.Lines.{lines, course, stationOn}
@@ -30,12 +30,12 @@ inTime t u x z = leb u ((getD (getD t z []) x noStop) .depart)
 abbrev pub firstTo : List Trip → (u : ℕ) (l : List ℕ) (x y : ℕ) → List Connection
 firstTo t u l x y = map (λ z. direct (rideAt (getD t z []) z x y)) (firstOf (inTime t u x) l)
 
--- from place x to each later place of b
+-- from place x to each later place of b; the trips of a line agree in where one may ride
 abbrev pub firstFrom : List Trip → (u b : ℕ) (l : List ℕ) (x : ℕ) → List Connection
 firstFrom t u b l x =
     concatMap
     (firstTo t u l x)
-    (filter (λ y. eqb (stationOn t l y) b) (range (suc x) (length (course t l) - suc x)))
+    (filter (λ y. mayRide (course t l) x y && eqb (stationOn t l y) b) (range 0 (length (course t l))))
 
 -- from each place of a on line l
 abbrev pub firstOn : List Trip → (a u b : ℕ) (l : List ℕ) → List Connection

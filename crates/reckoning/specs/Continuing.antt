@@ -8,7 +8,7 @@ use Prim.Native.Nat.{ℕ, _+_, _≤_}
 use native.Mathlib.Omega.{arith}
 use lib.ListN.{length, length-append}
 use Rattle.lists.specs.Lists.{tail}
-use Rattle.results.specs.Results.{lead}
+use Rattle.results.specs.Picks.{lead}
 use Rattle.connections.specs.Connections.{Net, Connection, direct, onward, Feasible, ready, arrival, penalty, stations}
 use Rattle.connections.specs.Sound.{Sound}
 use Rattle.reckoning.specs.Along.{Along, Ends, Frontier}

@@ -11,7 +11,7 @@ use lib.ListN.{length}
 use Rattle.timetable.specs.Timetable.{lastMinute}
 use Rattle.lists.specs.Lists.{before, tail}
 use Rattle.lists.specs.Order.{before-cases, before-head, before-tail}
-use Rattle.results.specs.Results.{lead}
+use Rattle.results.specs.Picks.{lead}
 use Rattle.connections.specs.Rides.{Ride}
 use Rattle.connections.specs.Connections.{Change, Net, Connection, direct, onward, Feasible, ready, arrival, penalty}
 use Rattle.connections.specs.Connections.{stations, departure}

@@ -159,3 +159,17 @@ module _ (n : Net) (a t : ℕ) (val : ℕ → ℕ → ℕ) (inf : ℕ) where
 
       pub is-least : (x u p : ℕ) → Reaches n a t x u p → p ≡ val x u → Least n a t x u p
       is-least x u p g e = record { reached = g; least = λ q z. omega (arith, e, l .below x u q z) }
+
+-- two functions with these values agree everywhere
+module _ (n : Net) (a t : ℕ) (val other : ℕ → ℕ → ℕ) (inf : ℕ) where
+  least-below : LeastPenalties n a t val inf → LeastPenalties n a t other inf → (x u : ℕ) → val x u ≤ other x u
+  least-below l k x u =
+      either
+      (ltb (other x u) inf)
+      (λ h. l .below x u (other x u) (k .attained x u (ltb→lt (other x u) inf h)))
+      (λ h. omega (arith, l .capped x u, nltb→le (other x u) inf h))
+
+pub least-once : (n : Net) (a t : ℕ) (val other : ℕ → ℕ → ℕ) (inf : ℕ) → LeastPenalties n a t val inf
+    → LeastPenalties n a t other inf → (x u : ℕ) → val x u ≡ other x u
+least-once n a t val other inf l k x u =
+    omega (arith, least-below n a t val other inf l k x u, least-below n a t other val inf k l x u)

@@ -13,7 +13,7 @@ use Rattle.connections.specs.Connections.{Change, net, Changes, ready}
 use Rattle.connections.specs.RideLaws.{Taken, rides-in, rides-out}
 use Rattle.connections.specs.Sound.{Sound}
 use Rattle.reckoning.specs.Aboard.{sweep, joins, Boarded, attained}
-use Rattle.reckoning.specs.LeastPenalties.{LeastPenalties, Last, Start, Solves, solves-exactly}
+use Rattle.reckoning.specs.LeastPenalties.{LeastPenalties, Last, Start, Solves, solves-exactly, least-once}
 
 -- The start is station a from minute d on; val x u is the value at station x and minute u.
 module _ (t : Timetable) (a d : ℕ) (val : ℕ → ℕ → ℕ) (inf : ℕ) where
@@ -168,3 +168,11 @@ module _ (t : Timetable) (a d : ℕ) (val : ℕ → ℕ → ℕ) (inf : ℕ) whe
     λ e. solves-exactly (net t) a d val inf ok .0 (equations-solve e),
     λ l. solve-equations (solves-exactly (net t) a d val inf ok .1 l),
   )
+
+-- the only solution: two solutions of the equations agree
+pub only-solution : (t : Timetable) (a d : ℕ) (val other : ℕ → ℕ → ℕ) (inf : ℕ) → Sound (net t)
+    → Equations t a d val inf → Equations t a d other inf → (x u : ℕ) → val x u ≡ other x u
+only-solution t a d val other inf ok e f =
+    least-once (net t) a d val other inf
+    (equations-exactly t a d val inf ok .0 e)
+    (equations-exactly t a d other inf ok .0 f)

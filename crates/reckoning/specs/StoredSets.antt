@@ -1,7 +1,8 @@
 -- Theorem 7, for the store: the stored sequences of a source are those that close, at a minute at which something
 -- departs there, on the frontier of another station; all from the least penalties for that minute.
+use mathlib.Core.Path.{ap}
 use mathlib.Core.Logic.{_↔_}
-use mathlib.Core.List.{List}
+use mathlib.Core.List.{List, _∷_}
 use Prim.Native.Nat.{ℕ, suc, _<_}
 use native.Mathlib.Omega.{arith}
 use Rattle.timetable.specs.Timetable.{lastMinute}
@@ -11,7 +12,7 @@ use Rattle.connections.specs.Connections.{Net, departure}
 use Rattle.connections.specs.Sound.{Sound}
 use Rattle.connections.specs.OptimalLaws.{optimal-own-minute}
 use Rattle.stores.specs.Stored.{stored, Target}
-use Rattle.stores.specs.StoredLaws.{departures, departs, departures-in-time, stored-in, stored-out}
+use Rattle.stores.specs.StoredLaws.{departures, departs, departures-in-time, sequence-is, stored-in, stored-out}
 use Rattle.reckoning.specs.Along.{Reaches}
 use Rattle.reckoning.specs.LeastPenalties.{LeastPenalties}
 use Rattle.reckoning.specs.Sets.{Closes, minute-sequences}
@@ -45,7 +46,7 @@ module _
           elsewhere = s .elsewhere;
           closes =
               minute-sequences n a t (val t) ok inf (least t) (large t) (s .target) q .0
-              (record { connection = c; optimal = o; is = s .is });
+              (record { connection = c; optimal = o; is = sequence-is n ok a q s });
         }
 
     closed-stored : (q : List ℕ) → Closed q → q ∈ stored n a
@@ -65,7 +66,7 @@ module _
           in-time = omega arith;
           elsewhere = k .elsewhere;
           optimal = w .optimal;
-          is = w .is;
+          is = ap (λ q. a ∷ q) (w .is);
         })
 
     pub stored-exactly-closed : (q : List ℕ) → q ∈ stored n a ↔ Closed q

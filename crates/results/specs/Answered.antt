@@ -7,50 +7,45 @@ use mathlib.Core.List.{Memᴰ·cast}
 use Prim.Native.Nat.{ℕ, _<_}
 use native.Mathlib.Omega.{arith}
 use lib.Dec.{T}
-use lib.ListN.{length, take, length-map}
+use lib.ListN.{length, length-map}
 use Rattle.lists.specs.Lists.{_∈_, before, Rising}
-use Rattle.lists.specs.Members.{none}
+use Rattle.lists.specs.Members.{none, cons-cases}
 use Rattle.lists.specs.Order.{before-head, before-cases, before-irrefl, before-same}
 use Rattle.lists.specs.Sorting.{Inside, rising-unique}
-use Rattle.results.specs.Results.{Cost, Measure, pair, row, result, costs, Undominated, Picked, lead, Climbs}
-use Rattle.results.specs.Results.{Answers}
+use Rattle.results.specs.Results.{Cost, Measure, pair, row, entry, told, entries, result, costs, Undominated}
+use Rattle.results.specs.Results.{Picked, Climbs, Answers}
 use Rattle.results.specs.Domination.{dominates-in}
-use Rattle.results.specs.Picks.{result-in, result-out, result-rising, costs-in, costs-out, costs-rising, optimum}
-use Rattle.results.specs.Picks.{pick, picked-once}
+use Rattle.results.specs.Picks.{entries-in, entries-out, entries-rising, costs-in, costs-out, costs-rising}
+use Rattle.results.specs.Picks.{optimum, pick, picked-once}
 
-lead-before : (x z : List ℕ) → lead x < lead z → T (before x z)
-lead-before [] [] h = absurd (omega arith)
-lead-before [] (b ∷ z) h = tt
-lead-before (a ∷ x) [] h = absurd (omega arith)
-lead-before (a ∷ x) (b ∷ z) h = before-head a b x z h
+module _ {X : Type 0} (m : Measure X) where
+  -- a row is told from the entry
+  rows-told : (l : List X) → map (row m) l ≡ map (told m) (map (entry m) l)
+  rows-told [] = refl
+  rows-told (c ∷ l) = ap (λ z. row m c ∷ z) (rows-told l)
 
-pub climbs-rising : (l : List (List ℕ)) → Climbs l → Rising l
-climbs-rising [] c = tt
-climbs-rising (x ∷ l) c = (λ z i. lead-before x z (c .0 z i), climbs-rising l (c .1))
+  -- whatever words tell the duration first rise with it
+  climbs-rising : (f : X → List ℕ) (rest : X → List ℕ) → ((c : X) → f c ≡ (m .cost c) .minutes ∷ rest c)
+      → (l : List X) → Climbs m l → Rising (map f l)
+  climbs-rising f rest e [] h = tt
+  climbs-rising f rest e (c ∷ l) h = (above, climbs-rising f rest e l (h .1))
+    where
+      above : (z : List ℕ) → z ∈ map f l → T (before (f c) z)
+      above z i =
+          let y = Memᴰ·of-map f l i in
+          let d = y .0 in
+          let less = before-head ((m .cost c) .minutes) ((m .cost d) .minutes) (rest c) (rest d) (h .0 d (y .1)) in
+          before-same (sym (e c)) (sym (e d) ∙ y .2) less
 
-lead-take : (x : List ℕ) → lead (take 2 x) ≡ lead x
-lead-take [] = refl
-lead-take (d ∷ l) = refl
+  entries-climb : (l : List X) → Climbs m l → Rising (map (entry m) l)
+  entries-climb = climbs-rising (entry m) (λ c. (m .cost c) .points ∷ m .key c) (λ c. refl)
 
-pairs-climb : (l : List (List ℕ)) → Climbs l → Climbs (map (take 2) l)
-pairs-climb [] c = tt
-pairs-climb (x ∷ l) c = (above, pairs-climb l (c .1))
-  where
-    above : (z : List ℕ) → z ∈ map (take 2) l → lead (take 2 x) < lead z
-    above z i =
-        let y = Memᴰ·of-map (take 2) l i in
-        omega (arith, c .0 (y .0) (y .1), lead-take x, lead-take (y .0), ap lead (y .2))
-
--- a rising list climbs if no two of its rows have one duration
-climb : (l : List (List ℕ)) → Rising l
-    → ((x z : List ℕ) → x ∈ l → z ∈ l → T (before x z) → lead x < lead z) → Climbs l
-climb [] r h = tt
-climb (x ∷ l) r h =
-    ((λ z i. h x z (here refl) (there i) (r .0 z i)), climb l (r .1) (λ y z i k. h y z (there i) (there k)))
+  pairs-climb : (l : List X) → Climbs m l → Rising (map (pair m) l)
+  pairs-climb = climbs-rising (pair m) (λ c. (m .cost c) .points ∷ []) (λ c. refl)
 
 module _ {X : Type 0} (m : Measure X) (l : List X) where
-  -- of two rows the first has the smaller duration: else one would dominate the other, or they would be one row
-  apart : (c e : X) → Picked m l c → Picked m l e → T (before (row m c) (row m e))
+  -- of two entries the first has the smaller duration: else one would dominate the other, or they would be one entry
+  apart : (c e : X) → Picked m l c → Picked m l e → T (before (entry m c) (entry m e))
       → (m .cost c) .minutes < (m .cost e) .minutes
   apart c e p q t = split (before-cases (x .minutes) (y .minutes) (x .points ∷ u) (y .points ∷ v) t)
     where
@@ -61,125 +56,147 @@ module _ {X : Type 0} (m : Measure X) (l : List X) where
       y = m .cost e
 
       u : List ℕ
-      u = m .tells (m .key c)
+      u = m .key c
 
       v : List ℕ
-      v = m .tells (m .key e)
+      v = m .key e
 
-      one-row : x .minutes ≡ y .minutes → x .points ≡ y .points → ⊥
-      one-row h g =
+      one-entry : x .minutes ≡ y .minutes → x .points ≡ y .points → ⊥
+      one-entry h g =
           let k : m .cost c ≡ m .cost e = (λ i. record { minutes = h i; points = g i }) in
-          before-irrefl (row m e) (subst (λ z. T (before z (row m e))) (picked-once m l c e p q k) t)
+          before-irrefl (entry m e) (subst (λ z. T (before z (entry m e))) (picked-once m l c e p q k) t)
 
       tied : x .minutes ≡ y .minutes → (x .points < y .points) ⊎ ((x .points ≡ y .points) × T (before u v)) → ⊥
       tied h (inl g) = q .best .free c (p .best .listed) (dominates-in x y (omega arith))
-      tied h (inr g) = one-row h (g .0)
+      tied h (inr g) = one-entry h (g .0)
 
       split : (x .minutes < y .minutes) ⊎ ((x .minutes ≡ y .minutes) × T (before (x .points ∷ u) (y .points ∷ v)))
           → x .minutes < y .minutes
       split (inl h) = h
       split (inr h) = absurd (tied (h .0) (before-cases (x .points) (y .points) u v (h .1)))
 
-  pub result-climbs : Climbs (result m l)
-  result-climbs = climb (result m l) (result-rising m l) step
-    where
-      step : (x z : List ℕ) → x ∈ result m l → z ∈ result m l → T (before x z) → lead x < lead z
-      step x z i k t =
-          let r = result-out m l x i in
-          let s = result-out m l z k in
-          let b = before-same (sym (r .2)) (sym (s .2)) t in
-          omega (arith, apart (r .0) (s .0) (r .1) (s .1) b, ap lead (r .2), ap lead (s .2))
+  -- the candidates of entries, entry by entry
+  record Shown (es : List (List ℕ)) : Type 0 where
+    those : List X
+    are : map (entry m) those ≡ es
+    picked : (c : X) → c ∈ those → Picked m l c
 
-  -- the rows' pairs are the undominated costs, in this order
-  pub result-costs : map (take 2) (result m l) ≡ costs m l
-  result-costs =
-      rising-unique
-      (map (take 2) (result m l))
-      (costs m l)
-      (climbs-rising (map (take 2) (result m l)) (pairs-climb (result m l) result-climbs))
-      (costs-rising m l)
-      to
-      from
+  shown-of : (es : List (List ℕ)) → ((z : List ℕ) → z ∈ es → (c : X) × Picked m l c × (entry m c ≡ z)) → Shown es
+  shown-of [] f = record { those = []; are = refl; picked = λ c i. none i }
+  shown-of (z ∷ es) f =
+      let r = f z (here refl) in
+      let s = shown-of es (λ y i. f y (there i)) in
+      record {
+        those = r .0 ∷ s .those;
+        are = λ i. r .2 i ∷ s .are i;
+        picked = λ c i. cons-cases i (λ e. rw e (r .1)) (s .picked c);
+      }
+
+  -- picked ones whose entries rise rise in duration
+  climb : (s : List X) → ((c : X) → c ∈ s → Picked m l c) → Rising (map (entry m) s) → Climbs m s
+  climb [] p r = tt
+  climb (c ∷ s) p r = (above, climb s (λ e i. p e (there i)) (r .1))
     where
-      to : Inside (map (take 2) (result m l)) (costs m l)
+      above : (e : X) → e ∈ s → (m .cost c) .minutes < (m .cost e) .minutes
+      above e i = apart c e (p c (here refl)) (p e (there i)) (r .0 (entry m e) (Memᴰ·map (entry m) i))
+
+  shown : Shown (entries m l)
+  shown = shown-of (entries m l) (entries-out m l)
+
+  abbrev those : List X
+  those = shown .those
+
+  those-climb : Climbs m those
+  those-climb = climb those (shown .picked) (subst Rising (sym (shown .are)) (entries-rising m l))
+
+  -- each undominated cost is shown
+  those-in : (c : X) → Undominated m l c → (e : X) × (e ∈ those) × (m .cost e ≡ m .cost c)
+  those-in c u =
+      let p = pick m l c u in
+      let listed = subst (λ es. entry m (p .0) ∈ es) (sym (shown .are)) (entries-in m l (p .0) (p .1)) in
+      let i = Memᴰ·of-map (entry m) those listed in
+      let minutes : (m .cost (i .0)) .minutes ≡ (m .cost (p .0)) .minutes = cc (i .2) in
+      let points : (m .cost (i .0)) .points ≡ (m .cost (p .0)) .points = cc (i .2) in
+      (i .0, i .1, (λ k. record { minutes = minutes k; points = points k }) ∙ p .2)
+
+  result-rows : map (row m) those ≡ result m l
+  unfolding result
+  result-rows = rows-told m those ∙ ap (map (told m)) (shown .are)
+
+  -- the costs of those shown are the undominated ones, in this order
+  those-costs : map (pair m) those ≡ costs m l
+  those-costs =
+      rising-unique (map (pair m) those) (costs m l) (pairs-climb m those those-climb) (costs-rising m l) to from
+    where
+      to : Inside (map (pair m) those) (costs m l)
       to z i =
-          let y = Memᴰ·of-map (take 2) (result m l) i in
-          let r = result-out m l (y .0) (y .1) in
-          Memᴰ·cast (sym (y .2) ∙ ap (take 2) (sym (r .2))) (costs-in m l (r .0) (r .1 .best))
+          let y = Memᴰ·of-map (pair m) those i in
+          Memᴰ·cast (sym (y .2)) (costs-in m l (y .0) (shown .picked (y .0) (y .1) .best))
 
-      from : Inside (costs m l) (map (take 2) (result m l))
+      from : Inside (costs m l) (map (pair m) those)
       from z i =
           let r = costs-out m l z i in
-          let e = pick m l (r .0) (r .1) in
-          let same : take 2 (row m (e .0)) ≡ z = (λ k. (e .2 k) .minutes ∷ (e .2 k) .points ∷ []) ∙ r .2 in
-          Memᴰ·cast (sym same) (Memᴰ·map (take 2) (result-in m l (e .0) (e .1)))
+          let e = those-in (r .0) (r .1) in
+          let same : pair m (e .0) ≡ z = (λ k. (e .2 k) .minutes ∷ (e .2 k) .points ∷ []) ∙ r .2 in
+          Memᴰ·cast (sym same) (Memᴰ·map (pair m) (e .1))
 
   pub result-none : (result m l ≡ []) ↔ (l ≡ [])
-  unfolding result
+  unfolding result entries
   result-none = (go l refl, λ e. ap (result m) e)
     where
       go : (k : List X) → l ≡ k → result m l ≡ [] → l ≡ []
       go [] h e = h
       go (c ∷ k) h e =
           let o = optimum m l c (rw h (here refl)) in
-          let p = pick m l (o .one) (o .best) in
-          none (rw e at (result-in m l (p .0) (p .1)))
+          let s = those-in (o .one) (o .best) in
+          none (rw (result-rows ∙ e) at (Memᴰ·map (row m) (s .1)))
 
   -- theorem 6
   pub result-answers : Answers m l (result m l)
   result-answers =
       record {
-        pairs = λ d p. (to d p, from d p);
-        rising = result-climbs;
-        picked = result-out m l;
-        count = sym (length-map (result m l) (take 2)) ∙ ap length result-costs;
+        shows = those;
+        rows-are = result-rows;
+        pairs = λ x. (to x, from x);
+        rising = those-climb;
+        picked = shown .picked;
+        count = sym (ap length result-rows) ∙ row-count ∙ ap length those-costs;
         none = result-none;
       }
     where
-      to : (d p : ℕ) → (z : List ℕ) × (z ∈ result m l) × (take 2 z ≡ d ∷ p ∷ [])
-          → (c : X) × Undominated m l c × (pair m c ≡ d ∷ p ∷ [])
-      to d p z = let r = result-out m l (z .0) (z .1) in (r .0, r .1 .best, ap (take 2) (r .2) ∙ z .2)
+      row-count : length (map (row m) those) ≡ length (map (pair m) those)
+      row-count = length-map those (row m) ∙ sym (length-map those (pair m))
 
-      from : (d p : ℕ) → (c : X) × Undominated m l c × (pair m c ≡ d ∷ p ∷ [])
-          → (z : List ℕ) × (z ∈ result m l) × (take 2 z ≡ d ∷ p ∷ [])
-      from d p c =
-          let e = pick m l (c .0) (c .1) in
-          (row m (e .0), result-in m l (e .0) (e .1), (λ k. (e .2 k) .minutes ∷ (e .2 k) .points ∷ []) ∙ c .2)
+      to : (x : Cost) → (c : X) × (c ∈ those) × (m .cost c ≡ x) → (c : X) × Undominated m l c × (m .cost c ≡ x)
+      to x c = (c .0, shown .picked (c .0) (c .1) .best, c .2)
+
+      from : (x : Cost) → (c : X) × Undominated m l c × (m .cost c ≡ x) → (c : X) × (c ∈ those) × (m .cost c ≡ x)
+      from x c = let e = those-in (c .0) (c .1) in (e .0, e .1, e .2 ∙ c .2)
+
+  -- How a program shows that it found the result: its rows are those of candidates that rise in duration, each is
+  -- picked, and each picked cost is among them.
+  pub result-is : (s : List X) → Climbs m s → ((c : X) → c ∈ s → Picked m l c)
+      → ((c : X) → Picked m l c → (e : X) × (e ∈ s) × (m .cost e ≡ m .cost c)) → map (row m) s ≡ result m l
+  unfolding result
+  result-is s rising picked all = rows-told m s ∙ ap (map (told m)) same
+    where
+      to : Inside (map (entry m) s) (entries m l)
+      to z i =
+          let y = Memᴰ·of-map (entry m) s i in
+          Memᴰ·cast (sym (y .2)) (entries-in m l (y .0) (picked (y .0) (y .1)))
+
+      from : Inside (entries m l) (map (entry m) s)
+      from z i =
+          let r = entries-out m l z i in
+          let e = all (r .0) (r .1) in
+          let one = picked-once m l (r .0) (e .0) (r .1) (picked (e .0) (e .1)) (sym (e .2)) in
+          Memᴰ·cast (sym (r .2) ∙ one) (Memᴰ·map (entry m) (e .1))
+
+      same : map (entry m) s ≡ entries m l
+      same = rising-unique (map (entry m) s) (entries m l) (entries-climb m s rising) (entries-rising m l) to from
 
   -- and no other rows answer so
   pub answers-unique : (rows : List (List ℕ)) → Answers m l rows → rows ≡ result m l
   answers-unique rows a =
-      rising-unique rows (result m l) (climbs-rising rows (a .rising)) (result-rising m l) to from
-    where
-      to : Inside rows (result m l)
-      to z i = let r = a .picked z i in Memᴰ·cast (sym (r .2)) (result-in m l (r .0) (r .1))
-
-      -- the row of z's cost is picked too, and so is z
-      same-row : (c e : X) → Picked m l c → Picked m l e → pair m e ≡ pair m c → row m e ≡ row m c
-      same-row c e p q h =
-          let u : (m .cost e) .minutes ≡ (m .cost c) .minutes = cc in
-          let v : (m .cost e) .points ≡ (m .cost c) .points = cc in
-          picked-once m l e c q p (λ i. record { minutes = u i; points = v i })
-
-      from : Inside (result m l) rows
-      from z i =
-          let r = result-out m l z i in
-          let x = m .cost (r .0) in
-          let w = a .pairs (x .minutes) (x .points) .1 (r .0, r .1 .best, refl) in
-          let s = a .picked (w .0) (w .1) in
-          let h = same-row (r .0) (s .0) (r .1) (s .1) (ap (take 2) (s .2) ∙ w .2) in
-          Memᴰ·cast (sym (r .2) ∙ sym h ∙ s .2) (w .1)
-
-  -- How a program shows that it found the result: its rows rise, each is of a picked candidate, and each picked
-  -- candidate has its row.
-  pub result-is : (rows : List (List ℕ)) → Rising rows
-      → ((z : List ℕ) → z ∈ rows → (c : X) × Picked m l c × (row m c ≡ z))
-      → ((c : X) → Picked m l c → row m c ∈ rows) → rows ≡ result m l
-  result-is rows r f g =
-      rising-unique
-      rows
-      (result m l)
-      r
-      (result-rising m l)
-      (λ z i. let k = f z i in Memᴰ·cast (sym (k .2)) (result-in m l (k .0) (k .1)))
-      (λ z i. let k = result-out m l z i in Memᴰ·cast (sym (k .2)) (g (k .0) (k .1)))
+      sym (a .rows-are)
+      ∙ result-is (a .shows) (a .rising) (a .picked) (λ c p. a .pairs (m .cost c) .1 (c, p .best, refl))

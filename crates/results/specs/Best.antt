@@ -9,8 +9,9 @@ use native.Mathlib.Omega.{arith, by-contra}
 use lib.Dec.{T, ltb, ltb→lt, nltb→le}
 use Rattle.lists.specs.Lists.{_∈_, tail}
 use Rattle.lists.specs.Tests.{either}
-use Rattle.results.specs.Results.{Measure, pair, over, Undominated, lead}
+use Rattle.results.specs.Results.{Measure, pair, over, Undominated}
 use Rattle.results.specs.Domination.{dominates-in, dominates-out}
+use Rattle.results.specs.Picks.{lead}
 
 module _ {X : Type 0} (m : Measure X) (l : List X) (best : ℕ → ℕ) (inf : ℕ) where
   -- one on the list has this cost

@@ -1,8 +1,8 @@
--- Domination as arithmetic: neither part larger and the sum smaller. The sum serves proofs only, where `omega` reads
--- it; no definition adds the two.
+-- Domination in words, and as arithmetic: neither part larger and the sum smaller. The sum serves proofs only, where
+-- `omega` reads it; no definition adds the two.
 use mathlib.Core.Path.{_≡_}
 use mathlib.Core.Bool.{not}
-use mathlib.Core.Logic.{inl, inr}
+use mathlib.Core.Logic.{_⊎_, inl, inr, _↔_}
 use Prim.Native.Nat.{_+_, _≤_, _<_}
 use native.Mathlib.Omega.{arith, by-contra}
 use lib.Dec.{T, ltb, ltb→lt, nltb→le, le→leb}
@@ -13,6 +13,14 @@ pub record NoWorse (x y : Cost) : Type 0 where
   pub sooner : x .minutes ≤ y .minutes
   pub cheaper : x .points ≤ y .points
 
+-- "One cost dominates another if neither part is larger and one is smaller", as `dominates` computes it
+pub record Dominates (x y : Cost) : Type 0 where
+  pub sooner : x .minutes ≤ y .minutes
+  pub cheaper : x .points ≤ y .points
+  pub smaller : (x .minutes < y .minutes) ⊎ (x .points < y .points)
+
+-- The same for proofs: with neither part larger, one is smaller exactly if the sum is. It stands in no definition and
+-- in no statement that a reader must believe.
 pub record Better (x y : Cost) : Type 0 where
   pub sooner : x .minutes ≤ y .minutes
   pub cheaper : x .points ≤ y .points
@@ -40,6 +48,24 @@ module _ (x y : Cost) where
       cheaper s =
           let k : x .points < y .points = omega (arith, nltb→le (x .minutes) (y .minutes) s) in
           search (both, le→leb, or-r)
+
+  pub dominates-exactly : T (dominates x y) ↔ Dominates x y
+  unfolding dominates
+  dominates-exactly = (out, into)
+    where
+      out : T (dominates x y) → Dominates x y
+      out t =
+          record {
+            sooner = search reads;
+            cheaper = search reads;
+            smaller = elim (or-cases (ltb (x .minutes) (y .minutes)) (ltb (x .points) (y .points)) (search and-r)) [
+              | inl s ↦ inl (ltb→lt (x .minutes) (y .minutes) s)
+              | inr s ↦ inr (ltb→lt (x .points) (y .points) s)
+            ];
+          }
+
+      into : Dominates x y → T (dominates x y)
+      into h = elim (h .smaller) [ inl s ↦ dominates-in (omega (arith, h)) | inr s ↦ dominates-in (omega (arith, h)) ]
 
   -- what is no worse and does not dominate has the same cost
   pub undominated-same : NoWorse x y → ¬ T (dominates x y) → x ≡ y

@@ -1,5 +1,5 @@
 -- Who is shown: below each candidate lies an undominated one, and of the undominated ones of a cost one is picked. The
--- rows of a result are those of the picked ones, and two picked ones of one cost have one row.
+-- entries of a result are those of the picked ones, and two picked ones of one cost have one entry.
 use mathlib.Core.Path.{_≡_, refl, sym, _∙_}
 use mathlib.Core.Bool.{Bool, not, _&&_}
 use mathlib.Core.Logic.{_⊎_, inl, inr}
@@ -13,9 +13,14 @@ use Rattle.lists.specs.Tests.{either, both, and-l, and-r, or-l, or-r, or-cases}
 use Rattle.lists.specs.Members.{none, cons-cases, filter-in, filter-out, any-in, any-out}
 use Rattle.lists.specs.Order.{before-irrefl, before-trans, before-total}
 use Rattle.lists.specs.Sorting.{sort-in, sort-out, sort-rising}
-use Rattle.results.specs.Results.{equal, Measure, pair, row, over, undominated, ahead, shown, result, costs}
+use Rattle.results.specs.Results.{equal, Measure, pair, entry, over, undominated, ahead, shown, entries, costs}
 use Rattle.results.specs.Results.{Undominated, Picked}
 use Rattle.results.specs.Domination.{NoWorse, dominates-out, equal-in, equal-out}
+
+-- the first of some words
+abbrev pub lead : List ℕ → ℕ
+lead [] = 0
+lead (d ∷ l) = d
 
 module _ {X : Type 0} (m : Measure X) where
   module _ (l : List X) (c : X) where
@@ -48,22 +53,22 @@ module _ {X : Type 0} (m : Measure X) where
               | inr d ↦ p .first e (r .1) (search (equal-out, and-l)) (search and-r)
             ]
 
-  -- membership in the result and among the costs
-  pub result-out : (l : List X) (z : List ℕ) → z ∈ result m l → (c : X) × Picked m l c × (row m c ≡ z)
-  unfolding result
-  result-out l z i =
+  -- membership among the entries and the costs
+  pub entries-out : (l : List X) (z : List ℕ) → z ∈ entries m l → (c : X) × Picked m l c × (entry m c ≡ z)
+  unfolding entries
+  entries-out l z i =
       let picked = filter (shown m l) l in
-      let r = Memᴰ·of-map (row m) picked (sort-out (map (row m) picked) i) in
+      let r = Memᴰ·of-map (entry m) picked (sort-out (map (entry m) picked) i) in
       let k = filter-out (shown m l) l (r .1) in
       (r .0, shown-out l (r .0) (k .0) (k .1), r .2)
 
-  pub result-in : (l : List X) (c : X) → Picked m l c → row m c ∈ result m l
-  unfolding result
-  result-in l c p = sort-in (Memᴰ·map (row m) (filter-in (shown m l) (p .best .listed) (shown-in l c p)))
+  pub entries-in : (l : List X) (c : X) → Picked m l c → entry m c ∈ entries m l
+  unfolding entries
+  entries-in l c p = sort-in (Memᴰ·map (entry m) (filter-in (shown m l) (p .best .listed) (shown-in l c p)))
 
-  pub result-rising : (l : List X) → Rising (result m l)
-  unfolding result
-  result-rising l = sort-rising (map (row m) (filter (shown m l) l))
+  pub entries-rising : (l : List X) → Rising (entries m l)
+  unfolding entries
+  entries-rising l = sort-rising (map (entry m) (filter (shown m l) l))
 
   pub costs-out : (l : List X) (z : List ℕ) → z ∈ costs m l → (c : X) × Undominated m l c × (pair m c ≡ z)
   unfolding costs
@@ -186,10 +191,11 @@ module _ {X : Type 0} (m : Measure X) where
       first : (e : X) → e ∈ l → m .cost e ≡ m .cost (s .one) → ¬ T (before (m .key e) (m .key (s .one)))
       first e i h = s .first e i (equal-in (m .cost e) (m .cost c) (h ∙ q))
 
-  -- and has one row
-  pub picked-once : (l : List X) (x y : X) → Picked m l x → Picked m l y → m .cost x ≡ m .cost y → row m x ≡ row m y
+  -- and has one entry
+  pub picked-once : (l : List X) (x y : X) → Picked m l x → Picked m l y → m .cost x ≡ m .cost y
+      → entry m x ≡ entry m y
   picked-once l x y p q e =
       let k = before-total (m .key x) (m .key y)
       (not-T (before (m .key x) (m .key y)) (q .first x (p .best .listed) e))
       (not-T (before (m .key y) (m .key x)) (p .first y (q .best .listed) (sym e)))
-      in λ i. (e i) .minutes ∷ (e i) .points ∷ m .tells (k i)
+      in λ i. (e i) .minutes ∷ (e i) .points ∷ k i

@@ -3,13 +3,13 @@
 use mathlib.Core.Path.{_≡_}
 use mathlib.Core.Bool.{not}
 use mathlib.Core.Logic.{_≢_}
-use mathlib.Core.List.{List, map}
+use mathlib.Core.List.{List, _∷_, map}
 use Prim.Native.Nat.{ℕ, suc, _≤_}
 use lib.Dec.{eqb}
 use Rattle.timetable.specs.Timetable.{lastMinute}
 use Rattle.lists.specs.Lists.{filter, concatMap, range, sort}
 use Rattle.results.specs.Results.{undominated}
-use Rattle.connections.specs.Connections.{Net, Connection, Optimal, stations}
+use Rattle.connections.specs.Connections.{Net, Connection, Optimal, stations, pattern}
 use Rattle.connections.specs.Planner.{plannerList, measure}
 
 abbrev pub minutes : List ℕ
@@ -37,7 +37,7 @@ pub record Target (n : Net) (a b : ℕ) : Type 0 where
   pub other : b ≢ a
 
 -- "a store, where one is made, holds a sequence exactly if it is the pattern, by Definition 3, of an optimal connection
--- at some minute of the timetable"
+-- at some minute of the timetable"; q is that pattern without the source, with which every pattern begins
 pub record Sequence (n : Net) (a : ℕ) (q : List ℕ) : Type 0 where
   pub minute : ℕ
   pub target : ℕ
@@ -45,4 +45,4 @@ pub record Sequence (n : Net) (a : ℕ) (q : List ℕ) : Type 0 where
   pub in-time : minute ≤ lastMinute
   pub elsewhere : Target n a target
   pub optimal : Optimal n a minute target connection
-  pub is : stations connection ≡ q
+  pub is : pattern a connection ≡ a ∷ q

@@ -1,15 +1,15 @@
 -- The stored sequences in words: exactly the patterns of optimal connections at some minute. By theorem 2 the departure
 -- minutes of the source are enough to find them all, and by theorem 3 the words of a store are well made.
-use mathlib.Core.Path.{_≡_, sym, subst, _∙_}
+use mathlib.Core.Path.{_≡_, sym, ap, subst, _∙_}
 use mathlib.Core.Bool.{not}
 use mathlib.Core.Logic.{_≢_, _↔_}
-use mathlib.Core.List.{List, [], _++_, map, Memᴰ·map, Memᴰ·of-map, Memᴰ·cast}
+use mathlib.Core.List.{List, [], _∷_, _++_, map, Memᴰ·map, Memᴰ·of-map, Memᴰ·cast}
 use Prim.Native.Nat.{ℕ, suc, _≤_}
 use native.Mathlib.Omega.{arith}
 use lib.Dec.{T, eqb, eqb→eq, T-not, not-T}
 use lib.ListN.{length}
 use Rattle.timetable.specs.Timetable.{lastMinute, stationsMost}
-use Rattle.lists.specs.Lists.{_∈_, filter, concatMap, range, sort}
+use Rattle.lists.specs.Lists.{_∈_, filter, concatMap, range, sort, tail}
 use Rattle.lists.specs.Tests.{eq→eqb}
 use Rattle.lists.specs.Members.{filter-in, filter-out, concatMap-in, concatMap-out, range-in, range-out}
 use Rattle.lists.specs.Pigeonhole.{Within}
@@ -112,8 +112,12 @@ module _ (n : Net) (ok : Sound n) where
         in-time = omega arith;
         elsewhere = target-out n a (h .target) (h .in-targets);
         optimal = h .optimal;
-        is = h .is;
+        is = ap (λ q. a ∷ q) (h .is);
       }
+
+  -- without the source
+  pub sequence-is : (a : ℕ) (q : List ℕ) (s : Sequence n a q) → stations (s .connection) ≡ q
+  sequence-is a q s = ap tail (s .is)
 
   pub stored-in : (a : ℕ) (q : List ℕ) → Sequence n a q → q ∈ stored n a
   unfolding stored
@@ -128,7 +132,7 @@ module _ (n : Net) (ok : Sound n) where
             in-minutes = range-in 0 (suc lastMinute) (s .minute) (omega arith) (omega (arith, s .in-time));
             in-targets = target-in n a (s .target) (s .elsewhere);
             optimal = s .optimal;
-            is = s .is;
+            is = sequence-is a q s;
           }
 
   -- the second half of demand 2: which sequences are stored
@@ -136,7 +140,7 @@ module _ (n : Net) (ok : Sound n) where
   stored-exactly a q = (stored-out a q, stored-in a q)
 
   pub stored-full : (a : ℕ) (q : List ℕ) → q ∈ stored n a → q ≢ []
-  stored-full a q m e = let s = stored-out a q m in has-stations (s .connection) (s .is ∙ e)
+  stored-full a q m e = let s = stored-out a q m in has-stations (s .connection) (sequence-is a q s ∙ e)
 
   boards-departs : (a t : ℕ) (r : Ride) → Boards n a t r → r .depart ∈ departures n a
   unfolding departures
@@ -212,7 +216,7 @@ module _ (n : Net) (ok : Sound n) where
         let s = stored-out a q m in
         subst
         (Within (n .stations))
-        (s .is)
+        (sequence-is a q s)
         (stations-listed n ok a (s .minute) (s .target) (s .connection) (s .optimal .feasible))
 
     -- "no pattern above 64 stations"
@@ -222,7 +226,7 @@ module _ (n : Net) (ok : Sound n) where
         let other : a ≢ s .target = (λ e. s .elsewhere .other (sym e)) in
         subst
         (λ q. suc (length q) ≤ stationsMost)
-        (s .is)
+        (sequence-is a q s)
         (pattern-short n ok a (s .minute) (s .target) (s .connection) (s .optimal) other first last)
 
     pub store-small : length (nodes (stored n a)) ≤ entriesMost → length (arcs (stored n a)) ≤ entriesMost

@@ -5,7 +5,7 @@ use mathlib.Core.Bool.{true, false}
 use mathlib.Core.List.{List, [], _∷_, _++_}
 use Prim.Native.Nat.{ℕ, zero, suc}
 use Rattle.timetable.specs.Timetable.{Timetable}
-use Rattle.results.specs.Results.{dominates, equal, result}
+use Rattle.results.specs.Results.{dominates, equal, entries, result}
 use Rattle.connections.specs.Rides.{ridePoints, ridesOf}
 use Rattle.connections.specs.Connections.{net, changesOf}
 use Rattle.connections.specs.Planner.{connections, plannerList, tieKey, rowsOf}
@@ -35,7 +35,7 @@ unfolding variant ridesOf ridePoints changesOf plannerList connections dominates
 case-i = refl
 
 pub case-j : answer (net M) (0 ∷ 1 ∷ 3 ∷ 0 ∷ []) 1 470 3 ≡ oneRide 90 0 1 1 3 ∷ []
-unfolding M variant ridesOf ridePoints changesOf plannerList connections result dominates equal rowsOf tieKey
+unfolding M variant ridesOf ridePoints changesOf plannerList connections entries result dominates equal rowsOf tieKey
     answer keptList readable
 case-j = refl
 
