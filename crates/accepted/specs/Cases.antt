@@ -73,7 +73,21 @@ M-accepted = refl
 
 -- the text of M is the one that is written out from it
 pub M-written : textOf M ≡ textM
-unfolding textOf linesOf stationLines tripLines stopLines stationLine stopLine digits lined fielded bytes textM M variant
+unfolding
+    textOf
+    linesOf
+    stationLines
+    tripLines
+    stopLines
+    stationLine
+    stopLine
+    digits
+    lined
+    fielded
+    bytes
+    textM
+    M
+    variant
 M-written = refl
 
 -- three stations, three trips, seven stops; stations; the stops of each trip; where the trips begin, and the end

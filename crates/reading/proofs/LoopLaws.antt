@@ -57,10 +57,10 @@ module _ (d : Draft) (line : ℕ) where
   read-line s text =
       let more = pieces-some 10 text in
       let asked : readFrom d line (s ∷ pieces 10 text)
-          ≡ cond (eqb (lineNumber d (shapeOf s)) 0)
-          (readFrom (withLine d (shapeOf s)) (line + 1) (pieces 10 text))
-          (Refused (lineNumber d (shapeOf s)) line) =
-          rw (more .2) in
+      ≡ cond (eqb (lineNumber d (shapeOf s)) 0)
+      (readFrom (withLine d (shapeOf s)) (line + 1) (pieces 10 text))
+      (Refused (lineNumber d (shapeOf s)) line) =
+      rw (more .2) in
       asked
       ∙ ap
       (λ n. cond (eqb n 0) (readFrom (withLine d (shapeOf s)) (line + 1) (pieces 10 text)) (Refused n line))

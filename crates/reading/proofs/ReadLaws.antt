@@ -11,7 +11,19 @@ use Rattle.words.specs.Put.{put, take-put}
 use Rattle.timetable.specs.Timetable.{Timetable, stopsOf}
 use Rattle.timetable.specs.Words.{startWords, words}
 use Rattle.timetable.specs.WordLaws.{length-stationWords, length-stopWords, length-startWords}
-use Rattle.reading.specs.Reading.{Outcome, Accepted, Refused, readLines, reading, readReply, readWords, replyTo, valuesOf, outcomeValues, readValues}
+use Rattle.reading.specs.Reading.{
+  Outcome,
+  Accepted,
+  Refused,
+  readLines,
+  reading,
+  readReply,
+  readWords,
+  replyTo,
+  valuesOf,
+  outcomeValues,
+  readValues,
+}
 use Rattle.reading.specs.Model.{Within, bodyWords, progressOf, LinesRead, tableWords}
 use Rattle.reading.specs.declared.Progress.{Progress}
 use Rattle.reading.specs.declared.Lines.{Lines}

@@ -12,7 +12,15 @@ use Rattle.text.specs.Range.{inRange, minutes-bound, points-bound, time-bound, 
 use Rattle.text.specs.declared.StationLine.{StationLine}
 use Rattle.text.specs.declared.StopLine.{StopLine}
 use Rattle.reading.specs.Draft.{stationInRange, stopInRange}
-use Rattle.reading.specs.Progress.{stationNumberAt, placeOfStation, roomForStation, stopNumberAt, placeOfStop, roomForStop, stopFitsAt}
+use Rattle.reading.specs.Progress.{
+  stationNumberAt,
+  placeOfStation,
+  roomForStation,
+  stopNumberAt,
+  placeOfStop,
+  roomForStop,
+  stopFitsAt,
+}
 use Rattle.reading.specs.Model.{Within}
 use Rattle.reading.specs.declared.Progress.{Progress}
 

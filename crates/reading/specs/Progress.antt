@@ -13,17 +13,17 @@ use Rattle.text.specs.declared.StationLine.{StationLine}
 use Rattle.text.specs.declared.StopLine.{StopLine}
 use Rattle.timetable.specs.Timetable.{Stop, Trip, stationsMost, tripsMost, stopsMost}
 use Rattle.reading.specs.Draft.{
-    Draft,
-    final,
-    stopsIn,
-    stationInRange,
-    stationNumber,
-    stopInRange,
-    comesAfter,
-    goesOn,
-    stopFits,
-    stopNumber,
-    lineNumber
+  Draft,
+  final,
+  stopsIn,
+  stationInRange,
+  stationNumber,
+  stopInRange,
+  comesAfter,
+  goesOn,
+  stopFits,
+  stopNumber,
+  lineNumber,
 }
 use Rattle.reading.specs.declared.Progress.{Progress}
 
@@ -59,9 +59,9 @@ stopFitsAt p l =
     leb 1 (l .station)
     && leb (l .station) (p .stations)
     && (eqb (p .begun) 0
-        || not (eqb (l .station) (p .station))
-        && ltb (p .depart) (l .arrive)
-        && (l .last || leb (l .arrive) (l .depart)))
+    || not (eqb (l .station) (p .station))
+    && ltb (p .depart) (l .arrive)
+    && (l .last || leb (l .arrive) (l .depart)))
 
 unfoldable pub stopNumberAt : Progress → StopLine → ℕ
 stopNumberAt p l =
@@ -81,9 +81,9 @@ same-fits d l = ap (λ t. leb 1 (l .station) && leb (l .station) (length (d .sta
     by-begun : (b : Trip)
         → goesOn b l
         ≡ (eqb (length b) 0
-            || not (eqb (l .station) ((final b) .station))
-            && ltb ((final b) .depart) (l .arrive)
-            && (l .last || leb (l .arrive) (l .depart)))
+        || not (eqb (l .station) ((final b) .station))
+        && ltb ((final b) .depart) (l .arrive)
+        && (l .last || leb (l .arrive) (l .depart)))
     by-begun [] = refl
     by-begun (s ∷ r) = rw (eqb·suc-zero (length r))
 

@@ -45,8 +45,8 @@ blockAt w line =
     callsOf w (headOf line)
     ∷ length line
     ∷ (numbersAt line
-        ++ courseAt w (headOf line) 0 (callsOf w (headOf line))
-        ++ timesAt w line 0 (callsOf w (headOf line)))
+    ++ courseAt w (headOf line) 0 (callsOf w (headOf line))
+    ++ timesAt w line 0 (callsOf w (headOf line)))
 
 -- every trip of the line is a trip of the timetable and has a stop at place p
 pub record Calls (w line : List ℕ) (p : ℕ) : Type 0 where
@@ -131,7 +131,7 @@ unfoldable pub bodyAt : List ℕ → List ℕ
 bodyAt w =
     blocksAt w (linesAt w)
     ++ (pairPlaces w (linesAt w) (indexAt w + stationCount w + 1) 1 (stationCount w)
-        ++ pairsAt w (linesAt w) 1 (stationCount w))
+    ++ pairsAt w (linesAt w) 1 (stationCount w))
 
 unfoldable pub tableAt : List ℕ → List ℕ
 tableAt w =
@@ -140,6 +140,6 @@ tableAt w =
     ∷ tripCount w
     ∷ indexAt w
     ∷ (placesFrom w (4 + length (linesAt w)) (linesAt w)
-        ++ blocksAt w (linesAt w)
-        ++ pairPlaces w (linesAt w) (indexAt w + stationCount w + 1) 1 (stationCount w)
-        ++ pairsAt w (linesAt w) 1 (stationCount w))
+    ++ blocksAt w (linesAt w)
+    ++ pairPlaces w (linesAt w) (indexAt w + stationCount w + 1) 1 (stationCount w)
+    ++ pairsAt w (linesAt w) 1 (stationCount w))

@@ -66,6 +66,6 @@ tableWords n t =
     ∷ length t
     ∷ indexPlace t
     ∷ (linePlaces t (4 + length (lines t)) (lines t)
-        ++ allLineWords t (lines t)
-        ++ callPlaces t (indexPlace t + n + 1) 1 n
-        ++ allCallPairs t 1 n)
+    ++ allLineWords t (lines t)
+    ++ callPlaces t (indexPlace t + n + 1) 1 n
+    ++ allCallPairs t 1 n)

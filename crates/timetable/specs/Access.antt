@@ -12,29 +12,41 @@ use lib.ListN.{length, getD, length-map, List·getD-map}
 use Rattle.lists.specs.Lists.{range}
 use Rattle.questions.specs.Question.{and-left, and-right}
 use Rattle.timetable.specs.Timetable.{
-    Station,
-    Stop,
-    Trip,
-    Timetable,
-    listed,
-    leaves,
-    validTrip,
-    validTrips,
-    validStations,
-    runs,
-    counted,
-    valid
+  Station,
+  Stop,
+  Trip,
+  Timetable,
+  listed,
+  leaves,
+  validTrip,
+  validTrips,
+  validStations,
+  runs,
+  counted,
+  valid,
 }
-use Rattle.timetable.specs.Words.{stationCount, tripCount, stopCount, stationAt, stopAt, startAt, tripAt, timetableOf, rise, chained, isTimetable}
+use Rattle.timetable.specs.Words.{
+  stationCount,
+  tripCount,
+  stopCount,
+  stationAt,
+  stopAt,
+  startAt,
+  tripAt,
+  timetableOf,
+  rise,
+  chained,
+  isTimetable,
+}
 use Rattle.timetable.specs.Check.{
-    length-trips,
-    length-trip,
-    zeroed,
-    rising,
-    headed,
-    stationsTest,
-    allTripsTest,
-    decided
+  length-trips,
+  length-trip,
+  zeroed,
+  rising,
+  headed,
+  stationsTest,
+  allTripsTest,
+  decided,
 }
 
 -- the numbers from k on, one by one
@@ -92,11 +104,11 @@ rise-at w k (suc m) n zero e h =
     let next : suc k + 0 ≡ suc k = omega arith in
     let later = rise-at w (suc k) m n 0 (and-right up rest e) (omega arith) in
     omega (
-        arith,
-        leb-true (startAt w k) (startAt w (suc k)) (and-left up rest e),
-        later,
-        ap (startAt w) here,
-        ap (startAt w) next
+      arith,
+      leb-true (startAt w k) (startAt w (suc k)) (and-left up rest e),
+      later,
+      ap (startAt w) here,
+      ap (startAt w) next,
     )
 rise-at w k (suc m) n (suc i) e h =
     let up : Bool = leb (startAt w k) (startAt w (suc k)) in
@@ -165,10 +177,10 @@ module _ (w : List ℕ) (yes : isTimetable w ≡ true) where
       let smt = and-left (s && m && t) n is-headed in
       let sm = and-left (s && m) t smt in
       record {
-          some-station = leb-true 1 (stationCount w) (and-left s m sm);
-          stations = leb-true (stationCount w) 64 (and-right s m sm);
-          trips = leb-true (tripCount w) 256 (and-right (s && m) t smt);
-          stops = leb-true (stopCount w) 2048 (and-right (s && m && t) n is-headed)
+        some-station = leb-true 1 (stationCount w) (and-left s m sm);
+        stations = leb-true (stationCount w) 64 (and-right s m sm);
+        trips = leb-true (tripCount w) 256 (and-right (s && m) t smt);
+        stops = leb-true (stopCount w) 2048 (and-right (s && m && t) n is-headed);
       }
 
   pub trip-stops : (k : ℕ) → k < tripCount w → startAt w k + 2 ≤ startAt w (k + 1)

@@ -25,7 +25,19 @@ use Rattle.timetable.specs.Timetable.{
   counted,
   valid,
 }
-use Rattle.timetable.specs.Words.{stationCount, tripCount, stopCount, stationAt, stopAt, startAt, tripAt, timetableOf, rise, chained, isTimetable}
+use Rattle.timetable.specs.Words.{
+  stationCount,
+  tripCount,
+  stopCount,
+  stationAt,
+  stopAt,
+  startAt,
+  tripAt,
+  timetableOf,
+  rise,
+  chained,
+  isTimetable,
+}
 
 -- a trip's first stop
 unfoldable pub begins : ℕ → Stop → Bool

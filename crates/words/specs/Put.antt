@@ -96,13 +96,13 @@ unfolding put
 put-before at n a b old e h =
     let long : length (take (at + n) old) ≡ at + n = length-take-le (at + n) old (omega arith) in
     let front : take at (take (at + n) old ++ b ++ drop (at + n + length b) old) ≡ take at old =
-        ap (take at) (append-assoc (take (at + n) old) b (drop (at + n + length b) old))
-        ∙ take-append-le at (take (at + n) old) (b ++ drop (at + n + length b) old) (omega (arith, long))
-        ∙ take-take at (at + n) old (omega arith) in
+    ap (take at) (append-assoc (take (at + n) old) b (drop (at + n + length b) old))
+    ∙ take-append-le at (take (at + n) old) (b ++ drop (at + n + length b) old) (omega (arith, long))
+    ∙ take-take at (at + n) old (omega arith) in
     let back : drop (at + n) (take (at + n) old ++ b ++ drop (at + n + length b) old)
-        ≡ b ++ drop (at + n + length b) old =
-        ap (drop (at + n)) (append-assoc (take (at + n) old) b (drop (at + n + length b) old))
-        ∙ drop-at (take (at + n) old) (b ++ drop (at + n + length b) old) (at + n) long in
+    ≡ b ++ drop (at + n + length b) old =
+    ap (drop (at + n)) (append-assoc (take (at + n) old) b (drop (at + n + length b) old))
+    ∙ drop-at (take (at + n) old) (b ++ drop (at + n + length b) old) (at + n) long in
     let past : at + length (a ++ b) ≡ at + n + length b = simp length-append (omega arith) in
     rw (e, front, back, past)
     (sym (append-assoc (take at old ++ a) b (drop (at + n + length b) old))
