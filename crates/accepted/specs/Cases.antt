@@ -12,7 +12,7 @@ use Rattle.text.specs.Shape.{stationOf, stationShape, arriveFits, departFits, f
 use Rattle.timetable.specs.Timetable.{Station, Stop, Timetable}
 use Rattle.timetable.specs.Worked.{station, stop, variant, M}
 use Rattle.timetable.specs.Words.{stationWords, stopWords, startWords, words}
-use Rattle.reading.specs.Draft.{stationNumber, stopFits, stopNumber}
+use Rattle.reading.specs.Draft.{stationNumber, comesAfter, stopFits, stopNumber}
 use Rattle.reading.specs.Reading.{Outcome, Accepted, Refused, ended, readFrom, readLines, reading}
 use Rattle.accepted.specs.Marks.{lined, fielded}
 use Rattle.accepted.specs.Digits.{digits}
@@ -50,6 +50,7 @@ unfolding
     stationNumber
     stopNumber
     stopFits
+    comesAfter
     inRange
 readAll text = reading text
 

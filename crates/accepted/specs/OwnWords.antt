@@ -11,8 +11,9 @@ use native.Mathlib.Nat.{zero-add, add-zero, suc-add}
 use native.Mathlib.Numerals.{add-one}
 use native.Mathlib.Omega.{arith}
 use borrow.Author.Tests.{leb-true, eqb-true}
+use Rattle.lists.specs.Lists.{range}
 use Rattle.timetable.specs.Timetable.{stopsOf, valid}
-use Rattle.timetable.specs.Words.{stationWords, stopWords, startWords, words, numbersFrom, stationCount, tripCount}
+use Rattle.timetable.specs.Words.{stationWords, stopWords, startWords, words, stationCount, tripCount}
 use Rattle.timetable.specs.Words.{stopCount, stationAt, stopPlace, stopAt, startAt, tripAt, timetableOf, rise, chained}
 use Rattle.timetable.specs.Words.{isTimetable}
 use Rattle.accepted.specs.Lists.{and-left, and-right}
@@ -20,22 +21,22 @@ use Rattle.accepted.specs.Valid.{is-valid}
 use Rattle.accepted.specs.Fits.{wordsCount, wordsMost}
 
 -- ---- runs of numbers
-length-numbersFrom : (k n : ℕ) → length (numbersFrom k n) ≡ n
-length-numbersFrom k zero = refl
-length-numbersFrom k (suc n) = ap suc (length-numbersFrom (suc k) n)
+length-range : (k n : ℕ) → length (range k n) ≡ n
+length-range k zero = refl
+length-range k (suc n) = ap suc (length-range (suc k) n)
 
-numbersFrom-append : (k m n : ℕ) → numbersFrom k m ++ numbersFrom (k + m) n ≡ numbersFrom k (m + n)
-numbersFrom-append k zero n = rw (add-zero k, zero-add n)
-numbersFrom-append k (suc m) n =
+range-append : (k m n : ℕ) → range k m ++ range (k + m) n ≡ range k (m + n)
+range-append k zero n = rw (add-zero k, zero-add n)
+range-append k (suc m) n =
     let place : k + suc m ≡ suc k + m = omega arith in
-    rw (suc-add m n, place) (ap (λ r. k ∷ r) (numbersFrom-append (suc k) m n))
+    rw (suc-add m n, place) (ap (λ r. k ∷ r) (range-append (suc k) m n))
 
-numbersFrom-between : (a b n : ℕ) → a ≤ b → b ≤ n
-    → numbersFrom a (b - a) ++ numbersFrom b (n - b) ≡ numbersFrom a (n - a)
-numbersFrom-between a b n h g =
+range-between : (a b n : ℕ) → a ≤ b → b ≤ n
+    → range a (b - a) ++ range b (n - b) ≡ range a (n - a)
+range-between a b n h g =
     let middle : b ≡ a + (b - a) = omega arith in
     let whole : n - a ≡ b - a + (n - b) = omega arith in
-    rw whole (ap (λ k. numbersFrom a (b - a) ++ numbersFrom k (n - b)) middle ∙ numbersFrom-append a (b - a) (n - b))
+    rw whole (ap (λ k. range a (b - a) ++ range k (n - b)) middle ∙ range-append a (b - a) (n - b))
 
 -- ---- starts that never fall
 rise-none : (a n : ℕ) → rise a [] n ≡ true → a ≡ n
@@ -61,7 +62,7 @@ take-one w i n h = rw (drop-cons w i 0 h, add-one i)
 
 module _ (w : List ℕ) where
   stations-back : (k n : ℕ) → 3 + 2 * (k + n) ≤ length w
-      → stationWords (map (stationAt w) (numbersFrom k n)) ≡ take (2 * n) (drop (3 + 2 * k) w)
+      → stationWords (map (stationAt w) (range k n)) ≡ take (2 * n) (drop (3 + 2 * k) w)
   unfolding stationWords stationAt
   stations-back k zero h = refl
   stations-back k (suc n) h =
@@ -72,7 +73,7 @@ module _ (w : List ℕ) where
       (ap (λ r. getD w at 0 ∷ getD w (at + 1) 0 ∷ r) (stations-back (suc k) n (omega arith)))
 
   stops-back : (k n : ℕ) → stopPlace w (k + n) ≤ length w
-      → stopWords (map (stopAt w) (numbersFrom k n)) ≡ take (4 * n) (drop (stopPlace w k) w)
+      → stopWords (map (stopAt w) (range k n)) ≡ take (4 * n) (drop (stopPlace w k) w)
   unfolding stopWords stopAt
   stops-back k zero h = refl
   stops-back k (suc n) h =
@@ -96,31 +97,31 @@ module _ (w : List ℕ) where
 
   -- ---- trips that follow one another, from trip j on, n of them
   trip-between : (j : ℕ)
-      → tripAt w j ≡ map (stopAt w) (numbersFrom (startAt w j) (startAt w (suc j) - startAt w j))
+      → tripAt w j ≡ map (stopAt w) (range (startAt w j) (startAt w (suc j) - startAt w j))
   unfolding tripAt
   trip-between j = rw (add-one j)
 
-  stops-chained : (j n : ℕ) → rise (startAt w j) (map (startAt w) (numbersFrom (suc j) n)) (stopCount w) ≡ true
-      → stopsOf (map (tripAt w) (numbersFrom j n))
-      ≡ map (stopAt w) (numbersFrom (startAt w j) (stopCount w - startAt w j))
+  stops-chained : (j n : ℕ) → rise (startAt w j) (map (startAt w) (range (suc j) n)) (stopCount w) ≡ true
+      → stopsOf (map (tripAt w) (range j n))
+      ≡ map (stopAt w) (range (startAt w j) (stopCount w - startAt w j))
   stops-chained j zero e =
       let none : stopCount w - startAt w j ≡ 0 = omega (arith, rise-none (startAt w j) (stopCount w) e) in
       rw none
   stops-chained j (suc n) e =
       let a = startAt w j in
       let b = startAt w (suc j) in
-      let on = rise-on a b (map (startAt w) (numbersFrom (suc (suc j)) n)) (stopCount w) e in
-      let up = rise-up a b (map (startAt w) (numbersFrom (suc (suc j)) n)) (stopCount w) e in
-      let within = rise-within b (map (startAt w) (numbersFrom (suc (suc j)) n)) (stopCount w) on in
+      let on = rise-on a b (map (startAt w) (range (suc (suc j)) n)) (stopCount w) e in
+      let up = rise-up a b (map (startAt w) (range (suc (suc j)) n)) (stopCount w) e in
+      let within = rise-within b (map (startAt w) (range (suc (suc j)) n)) (stopCount w) on in
       rw (
         trip-between j,
         stops-chained (suc j) n on,
-        ← map-append (stopAt w) (numbersFrom a (b - a)) (numbersFrom b (stopCount w - b)),
-        numbersFrom-between a b (stopCount w) up within,
+        ← map-append (stopAt w) (range a (b - a)) (range b (stopCount w - b)),
+        range-between a b (stopCount w) up within,
       )
 
   trip-end : (j : ℕ) → startAt w j ≤ startAt w (suc j) → startAt w j + length (tripAt w j) ≡ startAt w (suc j)
-  trip-end j h = simp (trip-between, length-map, length-numbersFrom) (omega arith)
+  trip-end j h = simp (trip-between, length-map, length-range) (omega arith)
 
   take-start : (j n : ℕ) → stopPlace w (stopCount w) + j < length w
       → take (suc n) (drop (stopPlace w (stopCount w) + j) w)
@@ -130,17 +131,17 @@ module _ (w : List ℕ) where
       let place : stopPlace w (stopCount w) + suc j ≡ stopPlace w (stopCount w) + j + 1 = omega arith in
       rw place (take-one w (stopPlace w (stopCount w) + j) n h)
 
-  starts-chained : (j n : ℕ) → rise (startAt w j) (map (startAt w) (numbersFrom (suc j) n)) (stopCount w) ≡ true
+  starts-chained : (j n : ℕ) → rise (startAt w j) (map (startAt w) (range (suc j) n)) (stopCount w) ≡ true
       → stopPlace w (stopCount w) + j + n < length w
-      → startWords (startAt w j) (map (tripAt w) (numbersFrom j n))
+      → startWords (startAt w j) (map (tripAt w) (range j n))
       ≡ take (suc n) (drop (stopPlace w (stopCount w) + j) w)
   unfolding startWords
   starts-chained j zero e h = sym (take-start j 0 (omega arith))
   starts-chained j (suc n) e h =
       let a = startAt w j in
       let b = startAt w (suc j) in
-      let on = rise-on a b (map (startAt w) (numbersFrom (suc (suc j)) n)) (stopCount w) e in
-      let up = rise-up a b (map (startAt w) (numbersFrom (suc (suc j)) n)) (stopCount w) e in
+      let on = rise-on a b (map (startAt w) (range (suc (suc j)) n)) (stopCount w) e in
+      let up = rise-up a b (map (startAt w) (range (suc (suc j)) n)) (stopCount w) e in
       rw (take-start j (suc n) (omega arith), trip-end j up)
       (ap (λ r. a ∷ r) (starts-chained (suc j) n on (omega arith)))
 
@@ -157,11 +158,11 @@ module _ (w : List ℕ) (c : chained w ≡ true) where
   unfolding chained
   first-start = eqb-true (startAt w 0) 0 (and-left (eqb (startAt w 0) 0) _ c)
 
-  rises : rise (startAt w 0) (map (startAt w) (numbersFrom 1 (tripCount w))) (stopCount w) ≡ true
+  rises : rise (startAt w 0) (map (startAt w) (range 1 (tripCount w))) (stopCount w) ≡ true
   unfolding chained
   rises = rw first-start (and-right (eqb (startAt w 0) 0) _ c)
 
-  all-stops : stopsOf (timetableOf w .trips) ≡ map (stopAt w) (numbersFrom 0 (stopCount w))
+  all-stops : stopsOf (timetableOf w .trips) ≡ map (stopAt w) (range 0 (stopCount w))
   unfolding timetableOf
   all-stops =
       let whole : stopCount w - startAt w 0 ≡ stopCount w = omega (arith, first-start) in
@@ -169,14 +170,14 @@ module _ (w : List ℕ) (c : chained w ≡ true) where
 
   station-count : length (timetableOf w .stations) ≡ stationCount w
   unfolding timetableOf
-  station-count = simp (length-map, length-numbersFrom)
+  station-count = simp (length-map, length-range)
 
   trip-count : length (timetableOf w .trips) ≡ tripCount w
   unfolding timetableOf
-  trip-count = simp (length-map, length-numbersFrom)
+  trip-count = simp (length-map, length-range)
 
   stop-count : length (stopsOf (timetableOf w .trips)) ≡ stopCount w
-  stop-count = simp (all-stops, length-map, length-numbersFrom)
+  stop-count = simp (all-stops, length-map, length-range)
 
   module _ (h : wordsCount (stationCount w) (tripCount w) (stopCount w) ≤ length w) where
     station-part : stationWords (timetableOf w .stations) ≡ take (2 * stationCount w) (drop 3 w)

@@ -1,5 +1,5 @@
 -- When a line has a yes to each question put to it: the facts that the questions ask for, in both directions.
-use mathlib.Core.Path.{_≡_, refl}
+use mathlib.Core.Path.{ap, _≡_, refl}
 use mathlib.Core.Bool.{Bool, true, false, not, cond, _&&_, _||_}
 use mathlib.Core.List.{List, _∷_}
 use Prim.Native.Nat.{ℕ, suc, _+_, _≤_, _<_}
@@ -11,7 +11,8 @@ use Rattle.text.specs.Shape.{shapeOf}
 use Rattle.text.specs.declared.StationLine.{StationLine}
 use Rattle.text.specs.declared.StopLine.{StopLine}
 use Rattle.timetable.specs.Timetable.{lastMinute, stationsMost, tripsMost, stopsMost}
-use Rattle.reading.specs.Draft.{Draft, progress, stationNumber, stopFits, stopNumber, lineNumber, withLine}
+use Rattle.reading.specs.Draft.{Draft, withLine}
+use Rattle.reading.specs.Progress.{progress, stationNumberAt, stopFitsAt, stopNumberAt, lineNumberAt, same-number}
 use Rattle.reading.specs.Reading.{Refused, readFrom}
 use Rattle.reading.specs.declared.Progress.{Progress}
 use Rattle.accepted.specs.Lists.{or-right, or-other, and-left, and-right}
@@ -34,7 +35,7 @@ pub record StopPasses (p : Progress) (l : StopLine) : Type 0 where
   pub stop : l .stop ≡ p .begun + 1
   pub trips : p .trips < tripsMost
   pub stops : p .stops < stopsMost
-  pub fits : stopFits p l ≡ true
+  pub fits : stopFitsAt p l ≡ true
 
 -- ---- no question has a no: this one has its yes, and so do those after it. Its number is `suc before`.
 this-yes : (before : ℕ) (answer : Bool) (rest : ℕ) → cond answer rest (suc before) ≡ 0 → answer ≡ true
@@ -47,8 +48,8 @@ later-yes before false rest e = absurd (omega arith)
 
 -- ---- a station line
 module _ (p : Progress) (l : StationLine) where
-  pub station-passes : StationPasses p l → stationNumber p l ≡ 0
-  unfolding stationNumber inRange
+  pub station-passes : StationPasses p l → stationNumberAt p l ≡ 0
+  unfolding stationNumberAt inRange
   station-passes h =
       simp (
         leb·zero,
@@ -60,15 +61,15 @@ module _ (p : Progress) (l : StationLine) where
         lt-ltb (p .stations) stationsMost (h .count),
       )
 
-  pub station-passed : stationNumber p l ≡ 0 → StationPasses p l
-  unfolding stationNumber inRange
+  pub station-passed : stationNumberAt p l ≡ 0 → StationPasses p l
+  unfolding stationNumberAt inRange
   station-passed e =
       search (this-yes 2, later-yes 2, this-yes 3, later-yes 3, this-yes 4, and-left, and-right, leb-true, eqb-true)
 
 -- ---- a stop line
 module _ (p : Progress) (l : StopLine) where
-  pub stop-passes : StopPasses p l → stopNumber p l ≡ 0
-  unfolding stopNumber inRange
+  pub stop-passes : StopPasses p l → stopNumberAt p l ≡ 0
+  unfolding stopNumberAt inRange
   stop-passes h =
       simp (
         leb·zero,
@@ -82,8 +83,8 @@ module _ (p : Progress) (l : StopLine) where
         h .fits,
       )
 
-  pub stop-passed : stopNumber p l ≡ 0 → StopPasses p l
-  unfolding stopNumber inRange
+  pub stop-passed : stopNumberAt p l ≡ 0 → StopPasses p l
+  unfolding stopNumberAt inRange
   stop-passed e =
       search (
         this-yes 2,
@@ -114,28 +115,28 @@ pub record After (p : Progress) (l : StopLine) : Type 0 where
   pub waits : (l .last || leb (l .arrive) (l .depart)) ≡ true
 
 module _ (p : Progress) (l : StopLine) where
-  pub first-fits : p .begun ≡ 0 → 1 ≤ l .station → l .station ≤ p .stations → stopFits p l ≡ true
-  unfolding stopFits
+  pub first-fits : p .begun ≡ 0 → 1 ≤ l .station → l .station ≤ p .stations → stopFitsAt p l ≡ true
+  unfolding stopFitsAt
   first-fits z h g = simp (le-leb 1 (l .station) h, le-leb (l .station) (p .stations) g, eq-eqb (p .begun) 0 z)
 
-  pub later-fits : 1 ≤ l .station → l .station ≤ p .stations → After p l → stopFits p l ≡ true
-  unfolding stopFits comesAfter
+  pub later-fits : 1 ≤ l .station → l .station ≤ p .stations → After p l → stopFitsAt p l ≡ true
+  unfolding stopFitsAt comesAfter
   later-fits h g a =
       let after : comesAfter p l ≡ true =
       simp (a .unlike, lt-ltb (p .depart) (l .arrive) (a .later), a .waits) in
       simp (le-leb 1 (l .station) h, le-leb (l .station) (p .stations) g)
       (or-right (eqb (p .begun) 0) (comesAfter p l) after)
 
-  pub fits-least : stopFits p l ≡ true → 1 ≤ l .station
-  unfolding stopFits
+  pub fits-least : stopFitsAt p l ≡ true → 1 ≤ l .station
+  unfolding stopFitsAt
   fits-least e = search (and-left, and-right, leb-true)
 
-  pub fits-most : stopFits p l ≡ true → l .station ≤ p .stations
-  unfolding stopFits
+  pub fits-most : stopFitsAt p l ≡ true → l .station ≤ p .stations
+  unfolding stopFitsAt
   fits-most e = search (and-left, and-right, leb-true)
 
-  pub fits-after : stopFits p l ≡ true → 0 < p .begun → After p l
-  unfolding stopFits comesAfter
+  pub fits-after : stopFitsAt p l ≡ true → 0 < p .begun → After p l
+  unfolding stopFitsAt comesAfter
   fits-after e h =
       let after : comesAfter p l ≡ true =
       or-other (eqb (p .begun) 0) (comesAfter p l) (search (and-right)) (ne-eqb (p .begun) 0 (omega arith)) in
@@ -147,7 +148,10 @@ module _ (p : Progress) (l : StopLine) where
 
 -- ---- reading goes on behind such a line
 pub read-more : (d : Draft) (k : ℕ) (s u : List ℕ) (l : List (List ℕ)) → readFrom d k (s ∷ u ∷ l)
-    ≡ cond (eqb (lineNumber (progress d) (shapeOf s)) 0) (readFrom (withLine d (shapeOf s)) (k + 1) (u ∷ l))
-    (Refused (lineNumber (progress d) (shapeOf s)) k)
+    ≡ cond (eqb (lineNumberAt (progress d) (shapeOf s)) 0) (readFrom (withLine d (shapeOf s)) (k + 1) (u ∷ l))
+    (Refused (lineNumberAt (progress d) (shapeOf s)) k)
 unfolding readFrom
-read-more d k s u l = refl
+read-more d k s u l =
+    ap
+    (λ n. cond (eqb n 0) (readFrom (withLine d (shapeOf s)) (k + 1) (u ∷ l)) (Refused n k))
+    (same-number d (shapeOf s))

@@ -19,7 +19,8 @@ use Rattle.text.specs.declared.StopLine.{StopLine}
 use Rattle.timetable.specs.Timetable.{stationsMost, tripsMost, stopsMost, lastMinute, Trip, Timetable, stopsOf}
 use Rattle.timetable.specs.Timetable.{validStation, listed, leaves, ends, follows, validTrip, validStations, validTrips}
 use Rattle.timetable.specs.Timetable.{counted, valid}
-use Rattle.reading.specs.Draft.{Draft, blank, final, progress, lineNumber, stationOfLine, stopOfLine, withStop}
+use Rattle.reading.specs.Draft.{Draft, blank, final, stationOfLine, stopOfLine, withStop}
+use Rattle.reading.specs.Progress.{progress, lineNumberAt}
 use Rattle.reading.specs.Draft.{withLine}
 use Rattle.reading.specs.Reading.{textMost, Outcome, Accepted, Refused, ended, readFrom, readLines, reading}
 use Rattle.accepted.specs.Lists.{snoc-length, and-left, or-other}
@@ -49,7 +50,7 @@ unfolding validSoFar
 none-begun n [] e = refl
 none-begun n (b ∷ t) e = absurd (omega arith)
 
-station-line : (d : Draft) (l : StationLine) → lineNumber (progress d) (StationIn l) ≡ 0 → Sound d
+station-line : (d : Draft) (l : StationLine) → lineNumberAt (progress d) (StationIn l) ≡ 0 → Sound d
     → Sound (withLine d (StationIn l))
 unfolding validStation
 station-line d l e h =
@@ -68,7 +69,7 @@ station-line d l e h =
     }
 
 -- ---- a stop line
-module _ (d : Draft) (l : StopLine) (e : lineNumber (progress d) (StopIn l) ≡ 0) (shape : ShapedStop l) (h : Sound d)
+module _ (d : Draft) (l : StopLine) (e : lineNumberAt (progress d) (StopIn l) ≡ 0) (shape : ShapedStop l) (h : Sound d)
   where
     abbrev passes : StopPasses (progress d) l
     passes = stop-passed (progress d) l e
@@ -147,7 +148,7 @@ module _ (d : Draft) (l : StopLine) (e : lineNumber (progress d) (StopIn l) ≡ 
         }
 
 -- ---- any line, and all lines
-sound-line : (d : Draft) (line : Line) → Shaped line → lineNumber (progress d) line ≡ 0 → Sound d
+sound-line : (d : Draft) (line : Line) → Shaped line → lineNumberAt (progress d) line ≡ 0 → Sound d
     → Sound (withLine d line)
 unfolding Shaped
 sound-line d (StationIn l) shape e h = station-line d l e h
@@ -208,7 +209,7 @@ accepted-from d line [] t n h e = ended-valid d line t n h e
 accepted-from d line (s ∷ []) t n h e =
     ended-valid d line t n h (accepted-yes (eqb (length s) 0) (ended d line) 2 line t n e)
 accepted-from d line (s ∷ u ∷ l) t n h e =
-    let number = lineNumber (progress d) (shapeOf s) in
+    let number = lineNumberAt (progress d) (shapeOf s) in
     let rest = readFrom (withLine d (shapeOf s)) (line + 1) (u ∷ l) in
     let reads = sym (read-more d line s u l) ∙ e in
     accepted-from (withLine d (shapeOf s)) (line + 1) (u ∷ l) t n

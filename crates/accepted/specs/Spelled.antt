@@ -10,8 +10,9 @@ use native.Mathlib.Nat.{zero-add, add-assoc}
 use native.Mathlib.Numerals.{add-one}
 use native.Mathlib.Omega.{arith}
 use borrow.Author.Tests.{le-leb, eq-eqb}
+use Rattle.lists.specs.Lists.{range}
 use Rattle.timetable.specs.Timetable.{Station, Stop, Trip, Timetable, stopsOf}
-use Rattle.timetable.specs.Words.{stationWords, stopWords, startWords, words, numbersFrom, stopCount, stationAt}
+use Rattle.timetable.specs.Words.{stationWords, stopWords, startWords, words, stopCount, stationAt}
 use Rattle.timetable.specs.Words.{stopPlace, stopAt, startAt, tripAt, timetableOf, rise, chained}
 use Rattle.accepted.specs.Lists.{both, head-at, past-at}
 
@@ -49,7 +50,7 @@ starts-later k (t ∷ l) = ap (λ r. k ∷ r) (starts-later (k + length t) l)
 -- ---- read off
 module _ (w : List ℕ) where
   stations-at : (k : ℕ) (l : List Station) (more : List ℕ) → drop (3 + 2 * k) w ≡ stationWords l ++ more
-      → map (stationAt w) (numbersFrom k (length l)) ≡ l
+      → map (stationAt w) (range k (length l)) ≡ l
   unfolding stationWords stationAt
   stations-at k [] more e = refl
   stations-at k (s ∷ l) more e =
@@ -62,7 +63,7 @@ module _ (w : List ℕ) where
       } ∷ stations-at (suc k) l more (ap (λ n. drop n w) place ∙ last) i
 
   stops-at : (k : ℕ) (l : List Stop) (more : List ℕ) → drop (stopPlace w k) w ≡ stopWords l ++ more
-      → map (stopAt w) (numbersFrom k (length l)) ≡ l
+      → map (stopAt w) (range k (length l)) ≡ l
   unfolding stopWords stopAt
   stops-at k [] more e = refl
   stops-at k (s ∷ l) more e =
@@ -89,7 +90,7 @@ module _ (w : List ℕ) where
   start-at j k l e = head-at w (startsPlace + j) k l e
 
   starts-at : (j : ℕ) (l more : List ℕ) → drop (startsPlace + j) w ≡ l ++ more
-      → map (startAt w) (numbersFrom j (length l)) ≡ l
+      → map (startAt w) (range j (length l)) ≡ l
   starts-at j [] more e = refl
   starts-at j (k ∷ l) more e =
       let place : startsPlace + suc j ≡ startsPlace + j + 1 = omega arith in
@@ -115,7 +116,7 @@ module _ (w : List ℕ) where
       rw (here, there, count) (stops-at k t more e)
 
   trips-at : (k j : ℕ) (l : List Trip) (more past : List ℕ) → drop (stopPlace w k) w ≡ stopWords (stopsOf l) ++ more
-      → drop (startsPlace + j) w ≡ startWords k l ++ past → map (tripAt w) (numbersFrom j (length l)) ≡ l
+      → drop (startsPlace + j) w ≡ startWords k l ++ past → map (tripAt w) (range j (length l)) ≡ l
   unfolding startWords
   trips-at k j [] more past e f = refl
   trips-at k j (t ∷ l) more past e f =
@@ -185,12 +186,12 @@ module _ (t : Timetable) (rest : List ℕ) where
       ∙ past-at (words t ++ rest) (at + 0) 1 (0 ∷ []) (laterStarts 0 (t .trips) ++ rest) refl
       (from-starts t rest ∙ ap (λ r. r ++ rest) (starts-later 0 (t .trips)))
 
-  later-spelled : map (startAt (words t ++ rest)) (numbersFrom 1 (length (t .trips))) ≡ laterStarts 0 (t .trips)
+  later-spelled : map (startAt (words t ++ rest)) (range 1 (length (t .trips))) ≡ laterStarts 0 (t .trips)
   later-spelled =
       rw (← length-later 0 (t .trips)) (starts-at (words t ++ rest) 1 (laterStarts 0 (t .trips)) rest from-later)
 
   later-rises :
-      rise 0 (map (startAt (words t ++ rest)) (numbersFrom 1 (length (t .trips)))) (length (stopsOf (t .trips))) ≡ true
+      rise 0 (map (startAt (words t ++ rest)) (range 1 (length (t .trips)))) (length (stopsOf (t .trips))) ≡ true
   later-rises = rw later-spelled (rw zero-add at (rises 0 (t .trips)))
 
   pub words-chained : chained (words t ++ rest) ≡ true

@@ -15,7 +15,8 @@ use Rattle.text.specs.declared.Line.{Line}
 use Rattle.timetable.specs.Timetable.{stationsMost, tripsMost, stopsMost, lastMinute, Station, Stop, Trip, Timetable}
 use Rattle.timetable.specs.Timetable.{stopsOf, validStation, leaves, follows, runs, validTrip, validStations}
 use Rattle.timetable.specs.Timetable.{validTrips, valid}
-use Rattle.reading.specs.Draft.{Draft, blank, final, progress, lineNumber, withLine}
+use Rattle.reading.specs.Draft.{Draft, blank, final, withLine}
+use Rattle.reading.specs.Progress.{progress, lineNumberAt}
 use Rattle.reading.specs.Reading.{textMost, Accepted, ended, readFrom, readLines, reading}
 use Rattle.accepted.specs.Lists.{snoc-length, and-left, and-right}
 use Rattle.accepted.specs.Valid.{valid-station, is-listed, it-leaves, it-ends, it-follows, is-valid, runs-none}
@@ -29,19 +30,19 @@ use Rattle.accepted.specs.TextReadBack.{text-short}
 -- draft d has a yes to each of the lines given, and with them it is e
 abbrev Takes : Draft → List Line → Draft → Type 0
 Takes d [] e = d ≡ e
-Takes d (l ∷ more) e = (lineNumber (progress d) l ≡ 0) × Takes (withLine d l) more e
+Takes d (l ∷ more) e = (lineNumberAt (progress d) l ≡ 0) × Takes (withLine d l) more e
 
 takes-append : (d e f : Draft) (a b : List Line) → Takes d a e → Takes e b f → Takes d (a ++ b) f
 takes-append d e f [] b x y = subst (λ z. Takes z b f) (sym x) y
 takes-append d e f (l ∷ a) b x y = (x .0, takes-append (withLine d l) e f a b (x .1) y)
 
 -- ---- reading, line by line
-read-line : (d : Draft) (k : ℕ) (s u : List ℕ) (l : List (List ℕ)) → lineNumber (progress d) (shapeOf s) ≡ 0
+read-line : (d : Draft) (k : ℕ) (s u : List ℕ) (l : List (List ℕ)) → lineNumberAt (progress d) (shapeOf s) ≡ 0
     → readFrom d k (s ∷ u ∷ l) ≡ readFrom (withLine d (shapeOf s)) (k + 1) (u ∷ l)
 read-line d k s u l e = rw (read-more d k s u l, e)
 
 -- the lines given, and then nothing behind the last byte 10
-read-on : (d : Draft) (k : ℕ) (s : List ℕ) (l : List (List ℕ)) → lineNumber (progress d) (shapeOf s) ≡ 0
+read-on : (d : Draft) (k : ℕ) (s : List ℕ) (l : List (List ℕ)) → lineNumberAt (progress d) (shapeOf s) ≡ 0
     → readFrom d k (s ∷ l ++ ([] ∷ [])) ≡ readFrom (withLine d (shapeOf s)) (k + 1) (l ++ ([] ∷ []))
 read-on d k s [] e = read-line d k s [] [] e
 read-on d k s (u ∷ l) e = read-line d k s u (l ++ ([] ∷ [])) e
@@ -91,7 +92,7 @@ module _ (stations : List Station) (trips : List Trip) (trip : ℕ) (this : trip
   stop-taken : (begun : Trip) (k : ℕ) (s : Stop) (last : Bool) → k ≡ length begun + 1 → 0 < length begun
       → length (stopsOf trips ++ begun) < stopsMost → follows (length stations) (final begun) s ≡ true
       → s .depart ≤ lastMinute → s .points ≤ 100 → (last || leb (s .arrive) (s .depart)) ≡ true
-      → lineNumber (progress (draft stations trips begun)) (stopRead trip k s last) ≡ 0
+      → lineNumberAt (progress (draft stations trips begun)) (stopRead trip k s last) ≡ 0
   stop-taken begun k s last e h g f d p w =
       let came = it-follows _ _ s f in
       let at = is-listed _ s (came .station) in

@@ -1,6 +1,6 @@
 -- What a host of C or Rust gets in one number of 64 bits: the refusal's number in the upper half, or 0; in the lower
 -- half the count, or on a refusal the line.
-use mathlib.Core.Path.{_≡_, refl, sym, ap, _∙_}
+use mathlib.Core.Path.{_≡_, ap, _∙_}
 use Prim.Native.Nat.{ℕ, _+_, _*_}
 use native.Mathlib.Nat.{add-zero, zero-add}
 use Rattle.reading.specs.declared.Reply.{Reply}

@@ -1,18 +1,20 @@
-// The public calls as a display's host of C or Rust sees them: numbers and slices only, and no condition is left for the
-// host to meet. Each passes on to a proved call and has that call's equations. include/dairyepoch.h declares them.
+// The public calls as a display's host of C or Rust sees them: numbers and slices only, and no condition is left for
+// the host to meet. Each passes on to a proved call and has that call's equations. include/dairyepoch.h declares them.
 ghost use mathlib.Core.Path.{_≡_};
 ghost use lib.ListN.{length};
 ghost use Rattle.timetable.specs.Words.{timetableNumber};
 ghost use Rattle.reading.specs.Reading.{readReply, readWords};
 ghost use Rattle.host.specs.Packed.{packed, packedReply};
-
 use reading::Reply;
+
+// What 1 in the upper half of a reply counts.
+const UPPER: u64 = 4294967296;
 
 // The refusal's number, or 0, in the upper half, and the count or line in the lower.
 fn pack(number: u32, low: u32) -> u64
     ensures { λ r. ⌜ r ≡ packed number low ⌝ }
 {
-    number as u64 * 4294967296 + low as u64
+    number as u64 * UPPER + low as u64
 }
 
 fn pack_reply(reply: Reply) -> u64
@@ -31,12 +33,8 @@ fn pack_reply(reply: Reply) -> u64
 // Reads a timetable text into the lent timetable words.
 #[no_mangle]
 pub extern "C" fn dairyepoch_read(text: &[u8], timetable: &mut [u16]) -> u64
-    ensures reply {
-        λ r. ⌜ r ≡ packedReply (readReply (now (text .entry)) (length (now (timetable .entry)))) ⌝
-    }
-    ensures words {
-        λ _. ⌜ now (timetable .exit) ≡ readWords (now (text .entry)) (now (timetable .entry)) ⌝
-    }
+    ensures reply { λ r. ⌜ r ≡ packedReply (readReply (now (text .entry)) (length (now (timetable .entry)))) ⌝ }
+    ensures words { λ _. ⌜ now (timetable .exit) ≡ readWords (now (text .entry)) (now (timetable .entry)) ⌝ }
 {
     pack_reply(reading::read(text, timetable))
 }

@@ -84,4 +84,4 @@ lineCalls t s i =
 
 -- "For each station the tables list (line, position), rising; a station met twice on a line is listed twice."
 unfoldable pub calls : List Trip → (s : ℕ) → List (List ℕ)
-calls t s = sort (concatMap (lineCalls t s) (range 0 (length (lines t))))
+calls t s = concatMap (lineCalls t s) (range 0 (length (lines t)))

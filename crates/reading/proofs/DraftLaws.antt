@@ -1,39 +1,30 @@
 -- A draft and what the code keeps of it grow together, line by line.
-use mathlib.Core.Path.{_≡_, refl, sym, ap, _∙_}
+use mathlib.Core.Path.{_≡_, refl, sym, _∙_}
 use mathlib.Core.Bool.{Bool, true, false, cond}
 use mathlib.Core.List.{List, [], _∷_, _++_, append-assoc, append-nil}
-use Prim.Native.Nat.{ℕ, zero, suc, _+_, _*_, _≤_, _<_}
+use Prim.Native.Nat.{ℕ, _+_, _*_, _<_}
 use native.Mathlib.Omega.{arith}
 use lib.ListN.{length, set, length-append}
 use Rattle.words.specs.Put.{put, put-next}
 use Rattle.text.specs.declared.Line.{Line}
 use Rattle.text.specs.declared.Line.the-variants.{Station as StationIn, Stop as StopIn, Shapeless}
-use Rattle.text.specs.declared.StationLine.{StationLine}
 use Rattle.text.specs.declared.StopLine.{StopLine}
-use Rattle.timetable.specs.Timetable.{Station, Stop, Trip, stopsOf}
+use Rattle.timetable.specs.Timetable.{Stop, Trip, stopsOf}
 use Rattle.timetable.specs.Words.{stationWords, stopWords, startWords}
 use Rattle.timetable.specs.WordLaws.{
-    length-stationWords,
-    length-stopWords,
-    length-startWords,
-    stationWords-append,
-    stopWords-append,
-    stopsOf-append,
-    startWords-append
+  length-stationWords,
+  length-stopWords,
+  length-startWords,
+  stationWords-append,
+  stopWords-append,
+  stopsOf-append,
+  startWords-append,
 }
-use Rattle.reading.specs.Draft.{
-    Draft,
-    final,
-    progress,
-    lineNumber,
-    stationOfLine,
-    stopOfLine,
-    withStop,
-    withLine
-}
+use Rattle.reading.specs.Draft.{Draft, final, stationOfLine, stopOfLine, withStop, withLine}
+use Rattle.reading.specs.Progress.{progress, lineNumberAt}
 use Rattle.reading.specs.Model.{Within, advance, lineWords, startsWith}
 use Rattle.reading.specs.declared.Progress.{Progress}
-use Rattle.reading.proofs.YesLaws.{StationYes, station-yes, StopYes, stop-yes}
+use Rattle.reading.proofs.YesLaws.{station-yes, StopYes, stop-yes}
 
 -- all stops of a draft
 abbrev pub stopsIn : Draft → List Stop
@@ -83,13 +74,18 @@ stop-body d s true =
 stop-body d s false =
     rw (← append-assoc (stopsOf (d .trips)) (d .begun), stopWords-append (stopsIn d) (s ∷ []), append-assoc)
 
-pub body-grows : (d : Draft) (line : Line) → lineNumber (progress d) line ≡ 0
+pub body-grows : (d : Draft) (line : Line) → lineNumberAt (progress d) line ≡ 0
     → bodyOf (withLine d line) ≡ bodyOf d ++ lineWords line
 unfolding stationWords stopWords
 body-grows d (StationIn l) e =
     let all = station-yes (progress d) l 0 (sym e) refl in
     let none : stopsIn d ≡ [] = nothing (stopsIn d) (all .before-stops) in
-    rw (none, append-nil, append-nil, stationWords-append (d .stations) (stationOfLine l ∷ []))
+    rw (
+      none,
+      append-nil (stationWords (d .stations ++ (stationOfLine l ∷ []))),
+      append-nil (stationWords (d .stations)),
+      stationWords-append (d .stations) (stationOfLine l ∷ []),
+    )
 body-grows d (StopIn l) e = stop-body d (stopOfLine l) (l .last)
 body-grows d Shapeless e = absurd (omega arith)
 
@@ -100,13 +96,13 @@ module _ (d : Draft) (starts old : List ℕ) (is : starts ≡ put 0 (startWords 
       ≡ put 0 (startWords 0 ((withStop d (stopOfLine l) t) .trips)) old
   stop-starts l true room =
       let count : 0 + length (stopsOf (d .trips) ++ (d .begun ++ (stopOfLine l ∷ []))) ≡ length (stopsIn d) + 1 =
-          simp length-append (omega arith) in
+      simp length-append (omega arith) in
       rw (is, startWords-append 0 (d .trips) (d .begun ++ (stopOfLine l ∷ [])), count)
       (put-next (length (d .trips) + 1) (startWords 0 (d .trips)) old (length (stopsIn d) + 1)
       (length-startWords 0 (d .trips)) room)
   stop-starts l false room = is
 
-  pub starts-grow : (line : Line) → lineNumber (progress d) line ≡ 0 → length old ≡ 257
+  pub starts-grow : (line : Line) → lineNumberAt (progress d) line ≡ 0 → length old ≡ 257
       → startsWith (progress d) line starts ≡ put 0 (startWords 0 ((withLine d line) .trips)) old
   starts-grow (StationIn l) e h = is
   starts-grow (StopIn l) e h =
@@ -115,7 +111,7 @@ module _ (d : Draft) (starts old : List ℕ) (is : starts ≡ put 0 (startWords 
   starts-grow Shapeless e h = is
 
 -- ---- the limits
-pub within-grows : (p : Progress) (line : Line) → Within p → lineNumber p line ≡ 0 → Within (advance p line)
+pub within-grows : (p : Progress) (line : Line) → Within p → lineNumberAt p line ≡ 0 → Within (advance p line)
 within-grows p (StationIn l) w e =
     let all = station-yes p l 0 (sym e) refl in
     record { stations = omega arith; trips = w .trips; stops = w .stops; begun = w .begun }
@@ -125,20 +121,20 @@ within-grows p (StopIn l) w e = by-last (l .last) (stop-yes p l 0 (sym e) refl)
         → Within
         (cond t
         (record {
-            stations = p .stations;
-            trips = p .trips + 1;
-            stops = p .stops + 1;
-            begun = 0;
-            station = 0;
-            depart = 0
+          stations = p .stations;
+          trips = p .trips + 1;
+          stops = p .stops + 1;
+          begun = 0;
+          station = 0;
+          depart = 0;
         })
         (record {
-            stations = p .stations;
-            trips = p .trips;
-            stops = p .stops + 1;
-            begun = p .begun + 1;
-            station = l .station;
-            depart = l .depart
+          stations = p .stations;
+          trips = p .trips;
+          stops = p .stops + 1;
+          begun = p .begun + 1;
+          station = l .station;
+          depart = l .depart;
         }))
     by-last true all = record { stations = w .stations; trips = omega arith; stops = omega arith; begun = omega arith }
     by-last false all =

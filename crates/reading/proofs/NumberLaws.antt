@@ -1,194 +1,172 @@
 -- The ways out of the functions that put the questions to a line, on plain values.
-use mathlib.Core.Path.{_≡_, refl, sym, ap, _∙_}
-use mathlib.Core.Bool.{Bool, true, false, not, cond, _&&_, _||_}
-use Prim.Native.Nat.{ℕ, zero, suc, _+_, _≤_, _<_}
-use native.Mathlib.Omega.{arith}
+use mathlib.Core.Path.{_≡_, _∙_}
+use mathlib.Core.Bool.{Bool, true, false, _&&_, _||_}
+use Prim.Native.Nat.{ℕ, _+_, _≤_, _<_}
 use borrow.Author.Tests.{lt-ltb, le-ltb, le-leb, lt-leb, eq-eqb, ne-eqb}
 use lib.Dec.{leb, ltb, eqb}
-use Rattle.text.specs.Range.{inRange, rangeNumber, range-in, range-out}
+use Rattle.text.specs.Range.{inRange, rangeNumber, range-in, range-out, range-three}
 use Rattle.text.specs.declared.StationLine.{StationLine}
 use Rattle.text.specs.declared.StopLine.{StopLine}
-use Rattle.reading.specs.Draft.{stationNumber, stopNumber, stopFits}
+use Rattle.reading.specs.Progress.{stationNumberAt, stopNumberAt, stopFitsAt}
 use Rattle.reading.specs.declared.Progress.{Progress}
 
 -- ---- a station line
 module _ (p : Progress) (l : StationLine) (m : ℕ) (is-m : m ≡ rangeNumber 1 (l .minutes)) where
-  pub minutes-refused : (m ≡ 0 → ⊥) → 3 ≡ stationNumber p l
-  unfolding stationNumber
-  minutes-refused h = simp (range-out 1 (l .minutes) m is-m h)
+  pub minutes-refused : (m ≡ 0 → ⊥) → m ≡ stationNumberAt p l
+  unfolding stationNumberAt
+  minutes-refused h =
+      range-three 1 (l .minutes) m is-m h
+      ∙ simp (range-out 1 (l .minutes) m is-m h)
 
   module _ (in-m : m ≡ 0) (q : ℕ) (is-q : q ≡ rangeNumber 2 (l .points)) where
-    pub points-refused : (q ≡ 0 → ⊥) → 3 ≡ stationNumber p l
-    unfolding stationNumber
-    points-refused h = simp (range-in 1 (l .minutes) m is-m in-m, range-out 2 (l .points) q is-q h)
+    pub points-refused : (q ≡ 0 → ⊥) → q ≡ stationNumberAt p l
+    unfolding stationNumberAt
+    points-refused h =
+        range-three 2 (l .points) q is-q h
+        ∙ simp (range-in 1 (l .minutes) m is-m in-m, range-out 2 (l .points) q is-q h)
 
     module _ (in-q : q ≡ 0) where
-      pub behind-stops : (p .stops ≡ 0 → ⊥) → 4 ≡ stationNumber p l
-      unfolding stationNumber
-      behind-stops h =
-          simp (
-              range-in 1 (l .minutes) m is-m in-m,
-              range-in 2 (l .points) q is-q in-q,
-              ne-eqb (p .stops) 0 h
-          )
+      station-in-range : (inRange 1 (l .minutes) && inRange 2 (l .points)) ≡ true
+      station-in-range = simp (range-in 1 (l .minutes) m is-m in-m, range-in 2 (l .points) q is-q in-q)
+
+      pub behind-stops : (p .stops ≡ 0 → ⊥) → 4 ≡ stationNumberAt p l
+      unfolding stationNumberAt
+      behind-stops h = simp (station-in-range, ne-eqb (p .stops) 0 h)
 
       module _ (none : p .stops ≡ 0) where
-        pub out-of-turn : (l .number ≡ p .stations + 1 → ⊥) → 4 ≡ stationNumber p l
-        unfolding stationNumber
-        out-of-turn h =
-            simp (
-                range-in 1 (l .minutes) m is-m in-m,
-                range-in 2 (l .points) q is-q in-q,
-                eq-eqb (p .stops) 0 none,
-                ne-eqb (l .number) (p .stations + 1) h
-            )
+        pub out-of-turn : (l .number ≡ p .stations + 1 → ⊥) → 4 ≡ stationNumberAt p l
+        unfolding stationNumberAt
+        out-of-turn h = simp (station-in-range, eq-eqb (p .stops) 0 none, ne-eqb (l .number) (p .stations + 1) h)
 
         module _ (turn : l .number ≡ p .stations + 1) where
-          pub stations-full : 64 ≤ p .stations → 5 ≡ stationNumber p l
-          unfolding stationNumber
-          stations-full h =
-              simp (
-                  range-in 1 (l .minutes) m is-m in-m,
-                  range-in 2 (l .points) q is-q in-q,
-                  eq-eqb (p .stops) 0 none,
-                  eq-eqb (l .number) (p .stations + 1) turn,
-                  le-ltb (p .stations) 64 h
-              )
+          station-in-place : (eqb (p .stops) 0 && eqb (l .number) (p .stations + 1)) ≡ true
+          station-in-place = simp (eq-eqb (p .stops) 0 none, eq-eqb (l .number) (p .stations + 1) turn)
 
-          pub station-taken : p .stations < 64 → 0 ≡ stationNumber p l
-          unfolding stationNumber
-          station-taken h =
-              simp (
-                  range-in 1 (l .minutes) m is-m in-m,
-                  range-in 2 (l .points) q is-q in-q,
-                  eq-eqb (p .stops) 0 none,
-                  eq-eqb (l .number) (p .stations + 1) turn,
-                  lt-ltb (p .stations) 64 h
-              )
+          pub stations-full : 64 ≤ p .stations → 5 ≡ stationNumberAt p l
+          unfolding stationNumberAt
+          stations-full h = simp (station-in-range, station-in-place, le-ltb (p .stations) 64 h)
+
+          pub station-taken : p .stations < 64 → 0 ≡ stationNumberAt p l
+          unfolding stationNumberAt
+          station-taken h = simp (station-in-range, station-in-place, lt-ltb (p .stations) 64 h)
 
 -- ---- question 6
 module _ (p : Progress) (l : StopLine) where
-  pub no-station : l .station < 1 → false ≡ stopFits p l
-  unfolding stopFits
+  pub no-station : l .station < 1 → false ≡ stopFitsAt p l
+  unfolding stopFitsAt
   no-station h = simp (lt-leb 1 (l .station) h)
 
   module _ (some : 1 ≤ l .station) where
-    pub unlisted : p .stations < l .station → false ≡ stopFits p l
-    unfolding stopFits
+    pub unlisted : p .stations < l .station → false ≡ stopFitsAt p l
+    unfolding stopFitsAt
     unlisted h = simp (le-leb 1 (l .station) some, lt-leb (l .station) (p .stations) h)
 
     module _ (listed : l .station ≤ p .stations) where
-      pub first-fits : p .begun ≡ 0 → true ≡ stopFits p l
-      unfolding stopFits
-      first-fits h = simp (le-leb 1 (l .station) some, le-leb (l .station) (p .stations) listed, eq-eqb (p .begun) 0 h)
+      is-listed : (leb 1 (l .station) && leb (l .station) (p .stations)) ≡ true
+      is-listed = simp (le-leb 1 (l .station) some, le-leb (l .station) (p .stations) listed)
+
+      pub first-fits : p .begun ≡ 0 → true ≡ stopFitsAt p l
+      unfolding stopFitsAt
+      first-fits h = simp (is-listed, eq-eqb (p .begun) 0 h)
 
       module _ (goes-on : p .begun ≡ 0 → ⊥) where
-        pub same-station : l .station ≡ p .station → false ≡ stopFits p l
-        unfolding stopFits
-        same-station h =
-            simp (
-                le-leb 1 (l .station) some,
-                le-leb (l .station) (p .stations) listed,
-                ne-eqb (p .begun) 0 goes-on,
-                eq-eqb (l .station) (p .station) h
-            )
+        pub same-station : l .station ≡ p .station → false ≡ stopFitsAt p l
+        unfolding stopFitsAt
+        same-station h = simp (is-listed, ne-eqb (p .begun) 0 goes-on, eq-eqb (l .station) (p .station) h)
 
         module _ (unlike : l .station ≡ p .station → ⊥) where
-          pub too-early : l .arrive ≤ p .depart → false ≡ stopFits p l
-          unfolding stopFits
+          pub too-early : l .arrive ≤ p .depart → false ≡ stopFitsAt p l
+          unfolding stopFitsAt
           too-early h =
               simp (
-                  le-leb 1 (l .station) some,
-                  le-leb (l .station) (p .stations) listed,
-                  ne-eqb (p .begun) 0 goes-on,
-                  ne-eqb (l .station) (p .station) unlike,
-                  le-ltb (p .depart) (l .arrive) h
+                is-listed,
+                ne-eqb (p .begun) 0 goes-on,
+                ne-eqb (l .station) (p .station) unlike,
+                le-ltb (p .depart) (l .arrive) h,
               )
 
           module _ (after : p .depart < l .arrive) where
-            pub last-fits : l .last ≡ true → true ≡ stopFits p l
-            unfolding stopFits
-            last-fits h =
+            by-last : stopFitsAt p l ≡ (l .last || leb (l .arrive) (l .depart))
+            unfolding stopFitsAt
+            by-last =
                 simp (
-                    le-leb 1 (l .station) some,
-                    le-leb (l .station) (p .stations) listed,
-                    ne-eqb (p .begun) 0 goes-on,
-                    ne-eqb (l .station) (p .station) unlike,
-                    lt-ltb (p .depart) (l .arrive) after,
-                    h
+                  is-listed,
+                  ne-eqb (p .begun) 0 goes-on,
+                  ne-eqb (l .station) (p .station) unlike,
+                  lt-ltb (p .depart) (l .arrive) after,
                 )
 
-            pub middle-fits : l .last ≡ false → leb (l .arrive) (l .depart) ≡ stopFits p l
-            unfolding stopFits
-            middle-fits h =
-                simp (
-                    le-leb 1 (l .station) some,
-                    le-leb (l .station) (p .stations) listed,
-                    ne-eqb (p .begun) 0 goes-on,
-                    ne-eqb (l .station) (p .station) unlike,
-                    lt-ltb (p .depart) (l .arrive) after,
-                    h
-                )
+            pub last-fits : l .last ≡ true → true ≡ stopFitsAt p l
+            last-fits h = simp (by-last, h)
+
+            pub middle-fits : l .last ≡ false → leb (l .arrive) (l .depart) ≡ stopFitsAt p l
+            middle-fits h = simp (by-last, h)
 
 -- ---- a stop line
 module _ (p : Progress) (l : StopLine) (a : ℕ) (is-a : a ≡ rangeNumber 3 (l .arrive)) where
-  pub arrive-refused : (a ≡ 0 → ⊥) → 3 ≡ stopNumber p l
-  unfolding stopNumber
-  arrive-refused h = simp (range-out 3 (l .arrive) a is-a h)
+  pub arrive-refused : (a ≡ 0 → ⊥) → a ≡ stopNumberAt p l
+  unfolding stopNumberAt
+  arrive-refused h =
+      range-three 3 (l .arrive) a is-a h
+      ∙ simp (range-out 3 (l .arrive) a is-a h)
 
   module _ (in-a : a ≡ 0) (d : ℕ) (is-d : d ≡ rangeNumber 3 (l .depart)) where
-    pub depart-refused : (d ≡ 0 → ⊥) → 3 ≡ stopNumber p l
-    unfolding stopNumber
-    depart-refused h = simp (range-in 3 (l .arrive) a is-a in-a, range-out 3 (l .depart) d is-d h)
+    pub depart-refused : (d ≡ 0 → ⊥) → d ≡ stopNumberAt p l
+    unfolding stopNumberAt
+    depart-refused h =
+        range-three 3 (l .depart) d is-d h
+        ∙ simp (range-in 3 (l .arrive) a is-a in-a, range-out 3 (l .depart) d is-d h)
 
     module _ (in-d : d ≡ 0) (q : ℕ) (is-q : q ≡ rangeNumber 4 (l .points)) where
-      pub ride-refused : (q ≡ 0 → ⊥) → 3 ≡ stopNumber p l
-      unfolding stopNumber
+      pub ride-refused : (q ≡ 0 → ⊥) → q ≡ stopNumberAt p l
+      unfolding stopNumberAt
       ride-refused h =
-          simp (
-              range-in 3 (l .arrive) a is-a in-a,
-              range-in 3 (l .depart) d is-d in-d,
-              range-out 4 (l .points) q is-q h
+          range-three 4 (l .points) q is-q h
+          ∙ simp (
+            range-in 3 (l .arrive) a is-a in-a,
+            range-in 3 (l .depart) d is-d in-d,
+            range-out 4 (l .points) q is-q h,
           )
 
       module _ (in-q : q ≡ 0) where
-        ranges : (inRange 3 (l .arrive) && inRange 3 (l .depart) && inRange 4 (l .points)) ≡ true
-        ranges =
+        stop-in-range : (inRange 3 (l .arrive) && inRange 3 (l .depart) && inRange 4 (l .points)) ≡ true
+        stop-in-range =
             simp (
-                range-in 3 (l .arrive) a is-a in-a,
-                range-in 3 (l .depart) d is-d in-d,
-                range-in 4 (l .points) q is-q in-q
+              range-in 3 (l .arrive) a is-a in-a,
+              range-in 3 (l .depart) d is-d in-d,
+              range-in 4 (l .points) q is-q in-q,
             )
 
-        pub other-trip : (l .trip ≡ p .trips + 1 → ⊥) → 4 ≡ stopNumber p l
-        unfolding stopNumber
-        other-trip h = simp (ranges, ne-eqb (l .trip) (p .trips + 1) h)
+        pub other-trip : (l .trip ≡ p .trips + 1 → ⊥) → 4 ≡ stopNumberAt p l
+        unfolding stopNumberAt
+        other-trip h = simp (stop-in-range, ne-eqb (l .trip) (p .trips + 1) h)
 
         module _ (trip : l .trip ≡ p .trips + 1) where
-          pub other-stop : (l .stop ≡ p .begun + 1 → ⊥) → 4 ≡ stopNumber p l
-          unfolding stopNumber
-          other-stop h = simp (ranges, eq-eqb (l .trip) (p .trips + 1) trip, ne-eqb (l .stop) (p .begun + 1) h)
+          pub other-stop : (l .stop ≡ p .begun + 1 → ⊥) → 4 ≡ stopNumberAt p l
+          unfolding stopNumberAt
+          other-stop h = simp (stop-in-range, eq-eqb (l .trip) (p .trips + 1) trip, ne-eqb (l .stop) (p .begun + 1) h)
 
           module _ (stop : l .stop ≡ p .begun + 1) where
-            place : (eqb (l .trip) (p .trips + 1) && eqb (l .stop) (p .begun + 1)) ≡ true
-            place = simp (eq-eqb (l .trip) (p .trips + 1) trip, eq-eqb (l .stop) (p .begun + 1) stop)
+            stop-in-place : (eqb (l .trip) (p .trips + 1) && eqb (l .stop) (p .begun + 1)) ≡ true
+            stop-in-place = simp (eq-eqb (l .trip) (p .trips + 1) trip, eq-eqb (l .stop) (p .begun + 1) stop)
 
-            pub trips-full : 256 ≤ p .trips → 5 ≡ stopNumber p l
-            unfolding stopNumber
-            trips-full h = simp (ranges, place, le-ltb (p .trips) 256 h)
+            pub trips-full : 256 ≤ p .trips → 5 ≡ stopNumberAt p l
+            unfolding stopNumberAt
+            trips-full h = simp (stop-in-range, stop-in-place, le-ltb (p .trips) 256 h)
 
             module _ (trips : p .trips < 256) where
-              pub stops-full : 2048 ≤ p .stops → 5 ≡ stopNumber p l
-              unfolding stopNumber
-              stops-full h = simp (ranges, place, lt-ltb (p .trips) 256 trips, le-ltb (p .stops) 2048 h)
+              pub stops-full : 2048 ≤ p .stops → 5 ≡ stopNumberAt p l
+              unfolding stopNumberAt
+              stops-full h = simp (stop-in-range, stop-in-place, lt-ltb (p .trips) 256 trips, le-ltb (p .stops) 2048 h)
 
-              module _ (stops : p .stops < 2048) (f : Bool) (is-f : f ≡ stopFits p l) where
-                pub stop-taken : f ≡ true → 0 ≡ stopNumber p l
-                unfolding stopNumber
-                stop-taken h =
-                    simp (ranges, place, lt-ltb (p .trips) 256 trips, lt-ltb (p .stops) 2048 stops, ← is-f, h)
+              module _ (stops : p .stops < 2048) (f : Bool) (is-f : f ≡ stopFitsAt p l) where
+                stop-counted : (ltb (p .trips) 256 && ltb (p .stops) 2048) ≡ true
+                stop-counted = simp (lt-ltb (p .trips) 256 trips, lt-ltb (p .stops) 2048 stops)
 
-                pub stop-refused : f ≡ false → 6 ≡ stopNumber p l
-                unfolding stopNumber
-                stop-refused h =
-                    simp (ranges, place, lt-ltb (p .trips) 256 trips, lt-ltb (p .stops) 2048 stops, ← is-f, h)
+                pub stop-taken : f ≡ true → 0 ≡ stopNumberAt p l
+                unfolding stopNumberAt
+                stop-taken h = simp (stop-in-range, stop-in-place, stop-counted, ← is-f, h)
+
+                pub stop-refused : f ≡ false → 6 ≡ stopNumberAt p l
+                unfolding stopNumberAt
+                stop-refused h = simp (stop-in-range, stop-in-place, stop-counted, ← is-f, h)

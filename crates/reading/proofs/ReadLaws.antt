@@ -1,7 +1,7 @@
 -- The ways out of the call.
 use mathlib.Core.Path.{_≡_, refl, sym, ap, subst, _∙_}
 use mathlib.Core.Bool.{Bool, true, false, cond}
-use mathlib.Core.List.{List, [], _∷_, _++_, append-nil}
+use mathlib.Core.List.{List, _∷_, _++_, append-nil}
 use Prim.Native.Nat.{ℕ, _+_, _*_, _≤_, _<_}
 use native.Mathlib.Omega.{arith}
 use borrow.Author.Tests.{le-leb, lt-leb}
@@ -9,30 +9,42 @@ use lib.Dec.{leb}
 use lib.ListN.{length, take, length-append}
 use Rattle.words.specs.Put.{put, take-put}
 use Rattle.timetable.specs.Timetable.{Timetable, stopsOf}
-use Rattle.timetable.specs.Words.{stationWords, stopWords, startWords, words}
+use Rattle.timetable.specs.Words.{startWords, words}
 use Rattle.timetable.specs.WordLaws.{length-stationWords, length-stopWords, length-startWords}
-use Rattle.reading.specs.Reading.{
-    Outcome,
-    Accepted,
-    Refused,
-    readLines,
-    reading,
-    replyTo,
-    readReply,
-    written,
-    readWords
-}
+use Rattle.reading.specs.Reading.{Outcome, Accepted, Refused, readLines, reading, readReply, readWords, replyTo, valuesOf, outcomeValues, readValues}
 use Rattle.reading.specs.Model.{Within, bodyWords, progressOf, LinesRead, tableWords}
 use Rattle.reading.specs.declared.Progress.{Progress}
 use Rattle.reading.specs.declared.Lines.{Lines}
 use Rattle.reading.specs.declared.Lines.the-variants.{Accepted as LinesAccepted, Refused as LinesRefused}
+use Rattle.reading.specs.declared.Reply.{Reply}
 use Rattle.reading.specs.declared.Reply.the-variants.{Done as ReplyDone, Refused as ReplyRefused}
 
+-- the values of the reply are those of the outcome
+outcome-values : (o : Outcome) → valuesOf (replyTo o) ≡ outcomeValues o
+outcome-values (Accepted t n) = refl
+outcome-values (Refused k l) = refl
+
+told : (text : List ℕ) (n : ℕ) → valuesOf (readReply text n) ≡ readValues text n
+unfolding readReply readValues
+told text n = by-test (leb 16384 n)
+  where
+    by-test : (t : Bool)
+        → valuesOf (cond t (replyTo (reading text)) (ReplyRefused 8 0))
+        ≡ cond t (outcomeValues (reading text)) (record { number = 8; line = 0; count = 0 })
+    by-test true = outcome-values (reading text)
+    by-test false = refl
+
 module _ (text old : List ℕ) where
+  values-told : (r : Reply) → r ≡ readReply text (length old) → valuesOf r ≡ readValues text (length old)
+  values-told r e = ap valuesOf e ∙ told text (length old)
+
   module _ (short : length old < 16384) where
     pub short-reply : ReplyRefused 8 0 ≡ readReply text (length old)
     unfolding readReply
     short-reply = simp (lt-leb 16384 (length old) short)
+
+    pub short-values : valuesOf (ReplyRefused 8 0) ≡ readValues text (length old)
+    short-values = values-told (ReplyRefused 8 0) short-reply
 
     pub short-words : old ≡ readWords text old
     unfolding readWords
@@ -47,6 +59,9 @@ module _ (text old : List ℕ) where
       pub long-reply : ReplyRefused 1 0 ≡ readReply text (length old)
       unfolding readReply
       long-reply = simp (le-leb 16384 (length old) room, refused-long)
+
+      pub long-values : valuesOf (ReplyRefused 1 0) ≡ readValues text (length old)
+      long-values = values-told (ReplyRefused 1 0) long-reply
 
       pub long-words : old ≡ readWords text old
       unfolding readWords
@@ -70,6 +85,9 @@ module _ (text old : List ℕ) where
         unfolding readReply
         refused-reply = simp (le-leb 16384 (length old) room, refused-lines)
 
+        pub refused-values : valuesOf (ReplyRefused number line) ≡ readValues text (length old)
+        refused-values = values-told (ReplyRefused number line) refused-reply
+
         pub refused-words : old ≡ readWords text old
         unfolding readWords
         refused-words = simp (le-leb 16384 (length old) room, refused-lines)
@@ -89,12 +107,12 @@ module _ (text old : List ℕ) where
             let f = l .0 in
             let same : m ≡ n = cc in
             record {
-                timetable = t;
-                accepted = e ∙ ap (Accepted t) same;
-                is-progress = cc;
-                within = l .1;
-                is-body = l .2;
-                is-starts = l .3
+              timetable = t;
+              accepted = e ∙ ap (Accepted t) same;
+              is-progress = cc;
+              within = l .1;
+              is-body = l .2;
+              is-starts = l .3;
             }
         is-held (Refused k m) e l = let z : _≡_ {A = ℕ} 0 1 = cc in absurd (omega arith)
 
@@ -112,7 +130,7 @@ module _ (text old : List ℕ) where
         body-taken =
             let t = held .timetable in
             let long : length (bodyWords t) ≡ 2 * (progressOf t) .stations + 4 * (progressOf t) .stops =
-                simp (length-append, length-stationWords, length-stopWords, append-nil) in
+            simp (length-append, length-stationWords, length-stopWords, append-nil) in
             ap (λ (x : Progress). take (2 * x .stations + 4 * x .stops) body) (held .is-progress)
             ∙ ap (λ k. take k body) (sym long)
             ∙ ap (take (length (bodyWords t))) (held .is-body)
@@ -139,6 +157,9 @@ module _ (text old : List ℕ) where
             ∙ ap
             (λ k. length (t .stations) ∷ length (t .trips) ∷ k ∷ (bodyWords t ++ startWords 0 (t .trips)))
             stops
+
+        pub done-values : valuesOf (ReplyDone n) ≡ readValues text (length old)
+        done-values = values-told (ReplyDone n) done-reply
 
         pub done-words : (table : List ℕ) → table ≡ put 0 (tableWords p body starts) old → table ≡ readWords text old
         unfolding readWords

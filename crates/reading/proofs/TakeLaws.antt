@@ -2,23 +2,23 @@
 use mathlib.Core.Path.{_≡_, refl, sym, ap, _∙_}
 use mathlib.Core.Bool.{Bool, true, false, cond}
 use mathlib.Core.List.{List}
-use Prim.Native.Nat.{ℕ, _+_, _-_, _*_, _≤_}
+use Prim.Native.Nat.{ℕ, _+_, _-_, _*_}
 use native.Mathlib.Omega.{arith}
 use borrow.Author.Tests.{eq-eqb, ne-eqb, le-leb}
 use lib.Dec.{leb, eqb}
 use Rattle.words.specs.Put.{put}
 use Rattle.text.specs.Shape.{shapeOf}
 use Rattle.text.specs.declared.Line.{Line}
-use Rattle.text.specs.declared.Line.the-variants.{Station, Stop, Shapeless}
+use Rattle.text.specs.declared.Line.the-variants.{Station, Shapeless}
 use Rattle.text.specs.declared.StationLine.{StationLine}
-use Rattle.reading.specs.Draft.{lineNumber}
+use Rattle.reading.specs.Progress.{lineNumberAt}
 use Rattle.reading.specs.Model.{advance, nextOf, lineWords, bodyAfter, startsWith, startsAfter, endOf}
 use Rattle.reading.specs.declared.Progress.{Progress}
 use Rattle.reading.specs.declared.Lines.the-variants.{Accepted as LinesAccepted, Refused as LinesRefused}
 use Rattle.reading.specs.declared.Next.{Next}
 use Rattle.reading.specs.declared.Next.the-variants.{On, Refused}
 
-module _ (p : Progress) (line : Line) (n : ℕ) (is : n ≡ lineNumber p line) where
+module _ (p : Progress) (line : Line) (n : ℕ) (is : n ≡ lineNumberAt p line) where
   module _ (some : n ≡ 0 → ⊥) where
     pub refused-next : Refused n ≡ nextOf p line
     unfolding nextOf
@@ -64,7 +64,7 @@ module _ (p : Progress) (text : List ℕ) (found shape : Line) (is : found ≡ s
 -- a station line leaves the starts as they are
 station-starts : (p : Progress) (l : StationLine) (old : List ℕ) → old ≡ startsAfter p (Station l) old
 unfolding startsAfter
-station-starts p l old = by-test (eqb (lineNumber p (Station l)) 0)
+station-starts p l old = by-test (eqb (lineNumberAt p (Station l)) 0)
   where
     by-test : (t : Bool) → old ≡ cond t old old
     by-test true = refl

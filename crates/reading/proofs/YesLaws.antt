@@ -1,26 +1,19 @@
 -- What a line is that has its yes to all questions.
-use mathlib.Core.Path.{_≡_, refl, sym, ap, _∙_}
-use mathlib.Core.Bool.{Bool, true, false, not, cond, _&&_, _||_}
-use mathlib.Core.List.{[], _∷_}
-use Prim.Native.Nat.{ℕ, zero, suc, _+_, _≤_, _<_}
+use mathlib.Core.Path.{_≡_, sym, _∙_}
+use mathlib.Core.Bool.{Bool, true, _&&_, _||_}
+use mathlib.Core.List.{List, [], _∷_}
+use Prim.Native.Nat.{ℕ, _+_, _*_, _≤_, _<_}
 use native.Mathlib.Omega.{arith}
+use lib.ListN.{length}
 use borrow.Author.Tests.{ltb-true, leb-true, eqb-true}
 use lib.Dec.{leb, ltb, eqb}
 use Rattle.questions.specs.Question.{ask, firstNo, yes-here, yes-later, and-left, and-right}
 use Rattle.text.specs.Range.{inRange, minutes-bound, points-bound, time-bound, ride-bound}
 use Rattle.text.specs.declared.StationLine.{StationLine}
 use Rattle.text.specs.declared.StopLine.{StopLine}
-use Rattle.reading.specs.Draft.{
-    stationNumber,
-    stationInRange,
-    stationInPlace,
-    stationCounted,
-    stopNumber,
-    stopInRange,
-    stopInPlace,
-    stopCounted,
-    stopFits
-}
+use Rattle.reading.specs.Draft.{stationInRange, stopInRange}
+use Rattle.reading.specs.Progress.{stationNumberAt, placeOfStation, roomForStation, stopNumberAt, placeOfStop, roomForStop, stopFitsAt}
+use Rattle.reading.specs.Model.{Within}
 use Rattle.reading.specs.declared.Progress.{Progress}
 
 -- the tests of three and of four questions
@@ -35,12 +28,11 @@ four-yes : (a b c d : Bool) → firstNo (ask 3 a ∷ ask 4 b ∷ ask 5 c ∷ ask
 four-yes a b c d e =
     let second = yes-later 2 a (ask 4 b ∷ ask 5 c ∷ ask 6 d ∷ []) e in
     let third = yes-later 3 b (ask 5 c ∷ ask 6 d ∷ []) second in
-    let fourth = yes-later 4 c (ask 6 d ∷ []) third in
-    (
-        yes-here 2 a (ask 4 b ∷ ask 5 c ∷ ask 6 d ∷ []) e,
-        yes-here 3 b (ask 5 c ∷ ask 6 d ∷ []) second,
-        yes-here 4 c (ask 6 d ∷ []) third,
-        yes-here 5 d [] fourth
+    let fourth = yes-later 4 c (ask 6 d ∷ []) third in (
+      yes-here 2 a (ask 4 b ∷ ask 5 c ∷ ask 6 d ∷ []) e,
+      yes-here 3 b (ask 5 c ∷ ask 6 d ∷ []) second,
+      yes-here 4 c (ask 6 d ∷ []) third,
+      yes-here 5 d [] fourth,
     )
 
 pub record StationYes (p : Progress) (l : StationLine) : Type 0 where
@@ -51,22 +43,33 @@ pub record StationYes (p : Progress) (l : StationLine) : Type 0 where
   pub turn : l .number ≡ p .stations + 1
   pub room : p .stations < 64
 
-pub station-yes : (p : Progress) (l : StationLine) (n : ℕ) → n ≡ stationNumber p l → n ≡ 0 → StationYes p l
-unfolding stationNumber
+pub station-yes : (p : Progress) (l : StationLine) (n : ℕ) → n ≡ stationNumberAt p l → n ≡ 0 → StationYes p l
+unfolding stationNumberAt
 station-yes p l n is e =
-    let all = three-yes (stationInRange l) (stationInPlace p l) (stationCounted p) (sym is ∙ e) in
+    let all = three-yes (stationInRange l) (placeOfStation p l) (roomForStation p) (sym is ∙ e) in
     let points = points-bound (l .points) (and-right (inRange 1 (l .minutes)) (inRange 2 (l .points)) (all .0)) in
     record {
-        minutes = minutes-bound (l .minutes) (and-left (inRange 1 (l .minutes)) (inRange 2 (l .points)) (all .0));
-        least = points .0;
-        most = points .1;
-        before-stops =
-            eqb-true (p .stops) 0 (and-left (eqb (p .stops) 0) (eqb (l .number) (p .stations + 1)) (all .1));
-        turn =
-            eqb-true (l .number) (p .stations + 1)
-            (and-right (eqb (p .stops) 0) (eqb (l .number) (p .stations + 1)) (all .1));
-        room = ltb-true (p .stations) 64 (all .2)
+      minutes = minutes-bound (l .minutes) (and-left (inRange 1 (l .minutes)) (inRange 2 (l .points)) (all .0));
+      least = points .0;
+      most = points .1;
+      before-stops =
+          eqb-true (p .stops) 0 (and-left (eqb (p .stops) 0) (eqb (l .number) (p .stations + 1)) (all .1));
+      turn =
+          eqb-true (l .number) (p .stations + 1)
+          (and-right (eqb (p .stops) 0) (eqb (l .number) (p .stations + 1)) (all .1));
+      room = ltb-true (p .stations) 64 (all .2);
     }
+
+-- its words have room, and fit
+module _ (p : Progress) (l : StationLine) (n : ℕ) (is : n ≡ stationNumberAt p l) (e : n ≡ 0) where
+  pub station-room : (body : List ℕ) → length body ≡ 8320 → 2 * p .stations + 4 * p .stops + 2 ≤ length body
+  station-room body h = omega (arith, station-yes p l n is e)
+
+  pub minutes-word : l .minutes < 65536
+  minutes-word = omega (arith, station-yes p l n is e)
+
+  pub points-word : l .points < 65536
+  points-word = omega (arith, station-yes p l n is e)
 
 pub record StopYes (p : Progress) (l : StopLine) : Type 0 where
   pub arrive : l .arrive ≤ 2879
@@ -77,33 +80,57 @@ pub record StopYes (p : Progress) (l : StopLine) : Type 0 where
   pub trips : p .trips < 256
   pub stops : p .stops < 2048
   pub station : l .station ≤ p .stations
-  pub fits : stopFits p l ≡ true
+  pub fits : stopFitsAt p l ≡ true
 
-stop-station : (p : Progress) (l : StopLine) → stopFits p l ≡ true → l .station ≤ p .stations
-unfolding stopFits
+stop-station : (p : Progress) (l : StopLine) → stopFitsAt p l ≡ true → l .station ≤ p .stations
+unfolding stopFitsAt
 stop-station p l e =
     leb-true (l .station) (p .stations)
     (and-right (leb 1 (l .station)) (leb (l .station) (p .stations)) (and-left _ (eqb (p .begun) 0 || _) e))
 
-pub stop-yes : (p : Progress) (l : StopLine) (n : ℕ) → n ≡ stopNumber p l → n ≡ 0 → StopYes p l
-unfolding stopNumber
+pub stop-yes : (p : Progress) (l : StopLine) (n : ℕ) → n ≡ stopNumberAt p l → n ≡ 0 → StopYes p l
+unfolding stopNumberAt
 stop-yes p l n is e =
-    let all = four-yes (stopInRange l) (stopInPlace p l) (stopCounted p) (stopFits p l) (sym is ∙ e) in
+    let all = four-yes (stopInRange l) (placeOfStop p l) (roomForStop p) (stopFitsAt p l) (sym is ∙ e) in
     let times = and-left (inRange 3 (l .arrive) && inRange 3 (l .depart)) (inRange 4 (l .points)) (all .0) in
     record {
-        arrive = time-bound (l .arrive) (and-left (inRange 3 (l .arrive)) (inRange 3 (l .depart)) times);
-        depart = time-bound (l .depart) (and-right (inRange 3 (l .arrive)) (inRange 3 (l .depart)) times);
-        points =
-            ride-bound (l .points)
-            (and-right (inRange 3 (l .arrive) && inRange 3 (l .depart)) (inRange 4 (l .points)) (all .0));
-        trip =
-            eqb-true (l .trip) (p .trips + 1)
-            (and-left (eqb (l .trip) (p .trips + 1)) (eqb (l .stop) (p .begun + 1)) (all .1));
-        stop =
-            eqb-true (l .stop) (p .begun + 1)
-            (and-right (eqb (l .trip) (p .trips + 1)) (eqb (l .stop) (p .begun + 1)) (all .1));
-        trips = ltb-true (p .trips) 256 (and-left (ltb (p .trips) 256) (ltb (p .stops) 2048) (all .2));
-        stops = ltb-true (p .stops) 2048 (and-right (ltb (p .trips) 256) (ltb (p .stops) 2048) (all .2));
-        station = stop-station p l (all .3);
-        fits = all .3
+      arrive = time-bound (l .arrive) (and-left (inRange 3 (l .arrive)) (inRange 3 (l .depart)) times);
+      depart = time-bound (l .depart) (and-right (inRange 3 (l .arrive)) (inRange 3 (l .depart)) times);
+      points =
+          ride-bound (l .points)
+          (and-right (inRange 3 (l .arrive) && inRange 3 (l .depart)) (inRange 4 (l .points)) (all .0));
+      trip =
+          eqb-true (l .trip) (p .trips + 1)
+          (and-left (eqb (l .trip) (p .trips + 1)) (eqb (l .stop) (p .begun + 1)) (all .1));
+      stop =
+          eqb-true (l .stop) (p .begun + 1)
+          (and-right (eqb (l .trip) (p .trips + 1)) (eqb (l .stop) (p .begun + 1)) (all .1));
+      trips = ltb-true (p .trips) 256 (and-left (ltb (p .trips) 256) (ltb (p .stops) 2048) (all .2));
+      stops = ltb-true (p .stops) 2048 (and-right (ltb (p .trips) 256) (ltb (p .stops) 2048) (all .2));
+      station = stop-station p l (all .3);
+      fits = all .3;
     }
+
+-- its words have room, and fit
+module _ (p : Progress) (l : StopLine) (n : ℕ) (is : n ≡ stopNumberAt p l) (e : n ≡ 0) where
+  pub arrive-word : l .arrive < 65536
+  arrive-word = omega (arith, stop-yes p l n is e)
+
+  pub depart-word : l .depart < 65536
+  depart-word = omega (arith, stop-yes p l n is e)
+
+  pub ride-word : l .points < 65536
+  ride-word = omega (arith, stop-yes p l n is e)
+
+  pub trips-below : p .trips < 256
+  trips-below = (stop-yes p l n is e) .trips
+
+  pub stops-below : p .stops < 2048
+  stops-below = (stop-yes p l n is e) .stops
+
+  module _ (within : Within p) where
+    pub station-word : l .station < 65536
+    station-word = omega (arith, stop-yes p l n is e, within)
+
+    pub stop-room : (body : List ℕ) → length body ≡ 8320 → 2 * p .stations + 4 * p .stops + 4 ≤ length body
+    stop-room body h = omega (arith, stop-yes p l n is e, within)

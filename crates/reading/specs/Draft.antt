@@ -1,7 +1,7 @@
 -- A timetable as far as the lines of a text have come, and the questions that document 01 puts to the next line.
-use mathlib.Core.Bool.{Bool, true, false, not, cond, _&&_, _||_}
+use mathlib.Core.Bool.{Bool, true, false, not, _&&_, _||_}
 use mathlib.Core.List.{List, [], _∷_, _++_}
-use Prim.Native.Nat.{ℕ, zero, suc, _+_}
+use Prim.Native.Nat.{ℕ, _+_}
 use lib.Dec.{leb, ltb, eqb}
 use lib.ListN.{length}
 use Rattle.questions.specs.Question.{ask, firstNo}
@@ -10,8 +10,7 @@ use Rattle.text.specs.declared.Line.{Line}
 use Rattle.text.specs.declared.Line.the-variants.{Station as StationIn, Stop as StopIn, Shapeless}
 use Rattle.text.specs.declared.StationLine.{StationLine}
 use Rattle.text.specs.declared.StopLine.{StopLine}
-use Rattle.timetable.specs.Timetable.{Station, Stop, Trip, Timetable, stopsOf, stationsMost, tripsMost, stopsMost}
-use Rattle.reading.specs.declared.Progress.{Progress}
+use Rattle.timetable.specs.Timetable.{Station, Stop, Trip, stopsOf, stationsMost, tripsMost, stopsMost}
 
 -- stations and ended trips, and the stops of a trip that has begun and not ended
 pub record Draft : Type 0 where
@@ -28,18 +27,9 @@ final [] = record { station = 0; arrive = 0; depart = 0; points = 0 }
 final (s ∷ []) = s
 final (s ∷ u ∷ l) = final (u ∷ l)
 
--- what the questions need to know of a draft: how many stations, ended trips, stops in all and stops of the begun trip
--- there are, and the station and departure of the stop before
-abbrev pub progress : Draft → Progress
-progress d =
-    record {
-        stations = length (d .stations);
-        trips = length (d .trips);
-        stops = length (stopsOf (d .trips) ++ d .begun);
-        begun = length (d .begun);
-        station = (final (d .begun)) .station;
-        depart = (final (d .begun)) .depart
-    }
+-- all stops so far
+abbrev pub stopsIn : Draft → List Stop
+stopsIn d = stopsOf (d .trips) ++ d .begun
 
 -- ---- the questions to a station line
 -- "In range? 3"
@@ -47,16 +37,16 @@ abbrev pub stationInRange : StationLine → Bool
 stationInRange l = inRange 1 (l .minutes) && inRange 2 (l .points)
 
 -- "In place: stations 1, 2, 3.. first, then trips ..? 4"
-abbrev pub stationInPlace : Progress → StationLine → Bool
-stationInPlace p l = eqb (p .stops) 0 && eqb (l .number) (p .stations + 1)
+abbrev pub stationInPlace : Draft → StationLine → Bool
+stationInPlace d l = eqb (length (stopsIn d)) 0 && eqb (l .number) (length (d .stations) + 1)
 
 -- "Within the three counts? 5"
-abbrev pub stationCounted : Progress → Bool
-stationCounted p = ltb (p .stations) stationsMost
+abbrev pub stationCounted : Draft → Bool
+stationCounted d = ltb (length (d .stations)) stationsMost
 
-unfoldable pub stationNumber : Progress → StationLine → ℕ
-stationNumber p l =
-    firstNo (ask 3 (stationInRange l) ∷ ask 4 (stationInPlace p l) ∷ ask 5 (stationCounted p) ∷ [])
+unfoldable pub stationNumber : Draft → StationLine → ℕ
+stationNumber d l =
+    firstNo (ask 3 (stationInRange l) ∷ ask 4 (stationInPlace d l) ∷ ask 5 (stationCounted d) ∷ [])
 
 -- ---- the questions to a stop line
 -- "In range? 3"
@@ -64,35 +54,40 @@ abbrev pub stopInRange : StopLine → Bool
 stopInRange l = inRange 3 (l .arrive) && inRange 3 (l .depart) && inRange 4 (l .points)
 
 -- "In place: .. then trips 1, 2, 3.., each with stops 1, 2, 3.. and begun only after the last trip's end? 4"
-abbrev pub stopInPlace : Progress → StopLine → Bool
-stopInPlace p l = eqb (l .trip) (p .trips + 1) && eqb (l .stop) (p .begun + 1)
+abbrev pub stopInPlace : Draft → StopLine → Bool
+stopInPlace d l = eqb (l .trip) (length (d .trips) + 1) && eqb (l .stop) (length (d .begun) + 1)
 
 -- "Within the three counts? 5"
-abbrev pub stopCounted : Progress → Bool
-stopCounted p = ltb (p .trips) tripsMost && ltb (p .stops) stopsMost
+abbrev pub stopCounted : Draft → Bool
+stopCounted d = ltb (length (d .trips)) tripsMost && ltb (length (stopsIn d)) stopsMost
+
+-- "unlike the stop before, arrival after the previous departure, departure not before arrival": a trip's last stop has
+-- no departure
+unfoldable pub comesAfter : (before : Stop) → StopLine → Bool
+comesAfter b l =
+    not (eqb (l .station) (b .station)) && ltb (b .depart) (l .arrive) && (l .last || leb (l .arrive) (l .depart))
+
+-- a trip's first stop has no stop before and no arrival
+abbrev pub goesOn : (begun : Trip) → StopLine → Bool
+goesOn [] l = true
+goesOn (s ∷ r) l = comesAfter (final (s ∷ r)) l
 
 -- "For stops: station listed, unlike the stop before, arrival after the previous departure, departure not before
--- arrival? 6" A trip's first stop has no stop before and no arrival; its last stop has no departure.
-unfoldable pub stopFits : Progress → StopLine → Bool
-stopFits p l =
-    leb 1 (l .station)
-    && leb (l .station) (p .stations)
-    && (eqb (p .begun) 0
-        || not (eqb (l .station) (p .station))
-        && ltb (p .depart) (l .arrive)
-        && (l .last || leb (l .arrive) (l .depart)))
+-- arrival? 6"
+unfoldable pub stopFits : Draft → StopLine → Bool
+stopFits d l = leb 1 (l .station) && leb (l .station) (length (d .stations)) && goesOn (d .begun) l
 
-unfoldable pub stopNumber : Progress → StopLine → ℕ
-stopNumber p l =
+unfoldable pub stopNumber : Draft → StopLine → ℕ
+stopNumber d l =
     firstNo
-    (ask 3 (stopInRange l) ∷ ask 4 (stopInPlace p l) ∷ ask 5 (stopCounted p) ∷ ask 6 (stopFits p l) ∷ [])
+    (ask 3 (stopInRange l) ∷ ask 4 (stopInPlace d l) ∷ ask 5 (stopCounted d) ∷ ask 6 (stopFits d l) ∷ [])
 
 -- ---- the questions to a line
 -- "Then for each line: is it of a shape above? 2", and the questions to its shape; 0 where all have a yes
-abbrev pub lineNumber : Progress → Line → ℕ
-lineNumber p (StationIn l) = stationNumber p l
-lineNumber p (StopIn l) = stopNumber p l
-lineNumber p Shapeless = 2
+abbrev pub lineNumber : Draft → Line → ℕ
+lineNumber d (StationIn l) = stationNumber d l
+lineNumber d (StopIn l) = stopNumber d l
+lineNumber d Shapeless = 2
 
 abbrev pub stationOfLine : StationLine → Station
 stationOfLine l = record { minutes = l .minutes; points = l .points }

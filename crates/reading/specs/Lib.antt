@@ -1,3 +1,4 @@
 pub mod Draft
 pub mod Reading
+pub mod Progress
 pub mod Model

@@ -1,17 +1,17 @@
 -- How the code reads: it keeps the progress, and the words of stations and stops in one array, where trips begin in
 -- another. No reader of the promise needs this file; proofs/ shows that it comes to the same as Reading.
 use mathlib.Core.Path.{_≡_}
-use mathlib.Core.Bool.{Bool, true, false, cond, _&&_}
+use mathlib.Core.Bool.{cond, _&&_}
 use mathlib.Core.List.{List, [], _∷_, _++_}
-use Prim.Native.Nat.{ℕ, zero, suc, _+_, _-_, _*_, _≤_}
+use Prim.Native.Nat.{ℕ, _+_, _-_, _*_, _≤_}
 use lib.Dec.{leb, eqb}
-use lib.ListN.{length, take, set}
+use lib.ListN.{take, set}
 use Rattle.words.specs.Put.{put}
 use Rattle.text.specs.declared.Line.{Line}
 use Rattle.text.specs.declared.Line.the-variants.{Station as StationIn, Stop as StopIn, Shapeless}
 use Rattle.timetable.specs.Timetable.{Timetable, stopsOf}
 use Rattle.timetable.specs.Words.{stationWords, stopWords, startWords}
-use Rattle.reading.specs.Draft.{Draft, progress, lineNumber}
+use Rattle.reading.specs.Progress.{progress, lineNumberAt}
 use Rattle.reading.specs.Reading.{Outcome, Accepted, Refused}
 use Rattle.reading.specs.declared.Progress.{Progress}
 use Rattle.reading.specs.declared.Next.{Next}
@@ -30,35 +30,35 @@ pub record Within (p : Progress) : Type 0 where
 abbrev pub advance : Progress → Line → Progress
 advance p (StationIn l) =
     record {
-        stations = p .stations + 1;
-        trips = p .trips;
-        stops = p .stops;
-        begun = p .begun;
-        station = p .station;
-        depart = p .depart
+      stations = p .stations + 1;
+      trips = p .trips;
+      stops = p .stops;
+      begun = p .begun;
+      station = p .station;
+      depart = p .depart;
     }
 advance p (StopIn l) =
     cond (l .last)
     (record {
-        stations = p .stations;
-        trips = p .trips + 1;
-        stops = p .stops + 1;
-        begun = 0;
-        station = 0;
-        depart = 0
+      stations = p .stations;
+      trips = p .trips + 1;
+      stops = p .stops + 1;
+      begun = 0;
+      station = 0;
+      depart = 0;
     })
     (record {
-        stations = p .stations;
-        trips = p .trips;
-        stops = p .stops + 1;
-        begun = p .begun + 1;
-        station = l .station;
-        depart = l .depart
+      stations = p .stations;
+      trips = p .trips;
+      stops = p .stops + 1;
+      begun = p .begun + 1;
+      station = l .station;
+      depart = l .depart;
     })
 advance p Shapeless = p
 
 unfoldable pub nextOf : Progress → Line → Next
-nextOf p line = cond (eqb (lineNumber p line) 0) (On (advance p line)) (NextRefused (lineNumber p line))
+nextOf p line = cond (eqb (lineNumberAt p line) 0) (On (advance p line)) (NextRefused (lineNumberAt p line))
 
 -- the words that a line adds to those of stations and stops
 abbrev pub lineWords : Line → List ℕ
@@ -69,7 +69,7 @@ lineWords Shapeless = []
 -- the array of stations' and stops' words after a line
 unfoldable pub bodyAfter : Progress → Line → List ℕ → List ℕ
 bodyAfter p line old =
-    cond (eqb (lineNumber p line) 0) (put (2 * p .stations + 4 * p .stops) (lineWords line) old) old
+    cond (eqb (lineNumberAt p line) 0) (put (2 * p .stations + 4 * p .stops) (lineWords line) old) old
 
 -- the array of starts after an accepted line: a trip's last stop says where the next trip begins
 abbrev pub startsWith : Progress → Line → List ℕ → List ℕ
@@ -78,7 +78,7 @@ startsWith p (StopIn l) old = cond (l .last) (set old (p .trips + 1) (p .stops +
 startsWith p Shapeless old = old
 
 unfoldable pub startsAfter : Progress → Line → List ℕ → List ℕ
-startsAfter p line old = cond (eqb (lineNumber p line) 0) (startsWith p line old) old
+startsAfter p line old = cond (eqb (lineNumberAt p line) 0) (startsWith p line old) old
 
 -- the words of stations and stops of a timetable
 abbrev pub bodyWords : Timetable → List ℕ

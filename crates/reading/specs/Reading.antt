@@ -1,15 +1,15 @@
 -- What a timetable text means: a timetable and its count of lines, or the refusal's number and line.
-use mathlib.Core.Bool.{Bool, true, false, cond, _&&_}
+use mathlib.Core.Bool.{cond, _&&_}
 use mathlib.Core.List.{List, [], _∷_}
-use Prim.Native.Nat.{ℕ, zero, suc, _+_, _-_}
-use lib.Dec.{leb, ltb, eqb}
+use Prim.Native.Nat.{ℕ, _+_, _-_}
+use lib.Dec.{leb, eqb}
 use lib.ListN.{length}
 use Rattle.words.specs.Put.{put}
 use Rattle.text.specs.Piece.{pieces}
 use Rattle.text.specs.Shape.{shapeOf}
 use Rattle.timetable.specs.Timetable.{Timetable}
 use Rattle.timetable.specs.Words.{words}
-use Rattle.reading.specs.Draft.{Draft, blank, progress, lineNumber, withLine}
+use Rattle.reading.specs.Draft.{Draft, blank, lineNumber, withLine}
 use Rattle.reading.specs.declared.Reply.{Reply}
 use Rattle.reading.specs.declared.Reply.the-variants.{Done as ReplyDone, Refused as ReplyRefused}
 
@@ -31,7 +31,7 @@ readFrom d line [] = ended d line
 readFrom d line (s ∷ []) = cond (eqb (length s) 0) (ended d line) (Refused 2 line)
 readFrom d line (s ∷ u ∷ l) =
     let rest = readFrom (withLine d (shapeOf s)) (line + 1) (u ∷ l) in
-    cond (eqb (lineNumber (progress d) (shapeOf s)) 0) rest (Refused (lineNumber (progress d) (shapeOf s)) line)
+    cond (eqb (lineNumber d (shapeOf s)) 0) rest (Refused (lineNumber d (shapeOf s)) line)
 
 -- "at most .. 65,536 bytes"
 abbrev pub textMost : ℕ
@@ -79,3 +79,20 @@ lineOf (ReplyRefused number line) = line
 abbrev pub countOf : Reply → ℕ
 countOf (ReplyDone lines) = lines
 countOf (ReplyRefused number line) = 0
+
+-- the three values that document 01 gives to each reply
+pub record Values : Type 0 where
+  pub number : ℕ
+  pub line : ℕ
+  pub count : ℕ
+
+abbrev pub valuesOf : Reply → Values
+valuesOf r = record { number = numberOf r; line = lineOf r; count = countOf r }
+
+abbrev pub outcomeValues : Outcome → Values
+outcomeValues (Accepted t lines) = record { number = 0; line = 0; count = lines }
+outcomeValues (Refused number line) = record { number = number; line = line; count = 0 }
+
+unfoldable pub readValues : List ℕ → ℕ → Values
+readValues text n =
+    cond (leb slicesLeast n) (outcomeValues (reading text)) (record { number = 8; line = 0; count = 0 })

@@ -6,15 +6,36 @@ ghost use lib.ListN.{length, set};
 ghost use Rattle.words.specs.Put.{put};
 ghost use Rattle.text.specs.Shape.{shapeOf};
 ghost use Rattle.text.specs.declared.Line.the-variants.{Station, Stop};
-ghost use Rattle.reading.specs.Draft.{stationNumber, stopNumber, stopFits};
-ghost use Rattle.reading.specs.Reading.{readLines, readReply, readWords};
-ghost use Rattle.reading.specs.Model.{Within, advance, nextOf, bodyAfter, startsAfter, endOf, LinesRead, tableWords};
-
+ghost use Rattle.reading.specs.Progress.{stationNumberAt, stopNumberAt, stopFitsAt};
+ghost use Rattle.reading.specs.Reading.{readLines, readReply, valuesOf, readValues, readWords};
+ghost use Rattle.reading.specs.Model.{
+  Within,
+  advance,
+  nextOf,
+  bodyAfter,
+  startsAfter,
+  endOf,
+  LinesRead,
+  tableWords,
+};
 use text::Line;
 use text::StationLine;
 use text::StopLine;
 
 const LINE_END: u8 = 10;
+
+const TEXT_MOST: usize = 65536;
+
+const STATIONS_MOST: usize = timetable::STATIONS_MOST as usize;
+
+const TRIPS_MOST: usize = timetable::TRIPS_MOST as usize;
+
+const STOPS_MOST: usize = timetable::STOPS_MOST as usize;
+
+// The words of all stations and stops, at the limits, and the places where trips begin.
+const BODY_WORDS: usize = 2 * STATIONS_MOST + 4 * STOPS_MOST;
+
+const STARTS_WORDS: usize = TRIPS_MOST + 1;
 
 // How far the lines of a text have come: stations, ended trips, stops in all, stops of the begun trip, and the station
 // and departure of the stop before, where a trip has begun.
@@ -46,13 +67,15 @@ pub enum Reply {
 // Questions 3 to 5 to a station line: 0, or the number of the first no.
 fn station_number(p: Progress, l: StationLine) -> u32
     requires { ⌜ Within p ⌝ }
-    ensures { λ r. ⌜ r ≡ stationNumber p l ⌝ }
+    ensures { λ r. ⌜ r ≡ stationNumberAt p l ⌝ }
 {
-    if text::range_number(text::CHANGE_MINUTES, l.minutes) != 0 {
-        return 3;
+    let minutes = text::range_number(text::CHANGE_MINUTES, l.minutes);
+    if minutes != 0 {
+        return minutes;
     }
-    if text::range_number(text::CHANGE_PENALTY, l.points) != 0 {
-        return 3;
+    let points = text::range_number(text::CHANGE_PENALTY, l.points);
+    if points != 0 {
+        return points;
     }
     if p.stops != 0 {
         return 4;
@@ -60,7 +83,7 @@ fn station_number(p: Progress, l: StationLine) -> u32
     if l.number as usize != p.stations + 1 {
         return 4;
     }
-    if 64 <= p.stations {
+    if STATIONS_MOST <= p.stations {
         return 5;
     }
     0
@@ -69,7 +92,7 @@ fn station_number(p: Progress, l: StationLine) -> u32
 // Question 6 to a stop line.
 fn stop_fits(p: Progress, l: StopLine) -> bool
     requires { ⌜ Within p ⌝ }
-    ensures { λ r. ⌜ r ≡ stopFits p l ⌝ }
+    ensures { λ r. ⌜ r ≡ stopFitsAt p l ⌝ }
 {
     if l.station < 1 {
         return false;
@@ -95,16 +118,19 @@ fn stop_fits(p: Progress, l: StopLine) -> bool
 // Questions 3 to 6 to a stop line: 0, or the number of the first no.
 fn stop_number(p: Progress, l: StopLine) -> u32
     requires { ⌜ Within p ⌝ }
-    ensures { λ r. ⌜ r ≡ stopNumber p l ⌝ }
+    ensures { λ r. ⌜ r ≡ stopNumberAt p l ⌝ }
 {
-    if text::range_number(text::TIME, l.arrive) != 0 {
-        return 3;
+    let arrive = text::range_number(text::TIME, l.arrive);
+    if arrive != 0 {
+        return arrive;
     }
-    if text::range_number(text::TIME, l.depart) != 0 {
-        return 3;
+    let depart = text::range_number(text::TIME, l.depart);
+    if depart != 0 {
+        return depart;
     }
-    if text::range_number(text::RIDE_PENALTY, l.points) != 0 {
-        return 3;
+    let points = text::range_number(text::RIDE_PENALTY, l.points);
+    if points != 0 {
+        return points;
     }
     if l.trip as usize != p.trips + 1 {
         return 4;
@@ -112,10 +138,10 @@ fn stop_number(p: Progress, l: StopLine) -> u32
     if l.stop as usize != p.begun + 1 {
         return 4;
     }
-    if 256 <= p.trips {
+    if TRIPS_MOST <= p.trips {
         return 5;
     }
-    if 2048 <= p.stops {
+    if STOPS_MOST <= p.stops {
         return 5;
     }
     if stop_fits(p, l) {
@@ -127,9 +153,7 @@ fn stop_number(p: Progress, l: StopLine) -> u32
 // Puts the questions to a station line, and where all have a yes takes its words.
 fn take_station(p: Progress, l: StationLine, body: &mut [u16]) -> Next
     requires { ⌜ Within p × (length (now body) ≡ 8320) ⌝ }
-    ensures {
-        λ r. ⌜ (r ≡ nextOf p (Station l)) × (now (body .exit) ≡ bodyAfter p (Station l) (now (body .entry))) ⌝
-    }
+    ensures { λ r. ⌜ (r ≡ nextOf p (Station l)) × (now (body .exit) ≡ bodyAfter p (Station l) (now (body .entry))) ⌝ }
 {
     let number = station_number(p, l);
     if number != 0 {
@@ -174,9 +198,8 @@ fn after_stop(p: Progress, l: StopLine) -> Progress
 // A trip's last stop says where the next trip begins.
 fn mark_start(p: Progress, last: bool, starts: &mut [u16])
     requires { ⌜ (p .trips < 256) × (p .stops < 2048) × (length (now starts) ≡ 257) ⌝ }
-    ensures {
-        λ _. ⌜ now (starts .exit) ≡ cond last (set (now (starts .entry)) (p .trips + 1) (p .stops + 1)) (now (starts .entry)) ⌝
-    }
+    ensures { λ _. ⌜ now (starts .exit) ≡ cond last (set (now (starts .entry)) (p .trips + 1) (p .stops + 1))
+        (now (starts .entry)) ⌝ }
 {
     if last {
         let next = p.trips + 1;
@@ -187,17 +210,22 @@ fn mark_start(p: Progress, last: bool, starts: &mut [u16])
 // Puts the questions to a stop line, and where all have a yes takes its words.
 fn take_stop(p: Progress, l: StopLine, body: &mut [u16], starts: &mut [u16]) -> Next
     requires { ⌜ Within p × (length (now body) ≡ 8320) × (length (now starts) ≡ 257) ⌝ }
-    ensures {
-        λ r. ⌜ (r ≡ nextOf p (Stop l))
-            × (now (body .exit) ≡ bodyAfter p (Stop l) (now (body .entry)))
-            × (now (starts .exit) ≡ startsAfter p (Stop l) (now (starts .entry))) ⌝
-    }
+    ensures { λ r. ⌜ (r ≡ nextOf p (Stop l))
+        × (now (body .exit) ≡ bodyAfter p (Stop l) (now (body .entry)))
+        × (now (starts .exit) ≡ startsAfter p (Stop l) (now (starts .entry))) ⌝ }
 {
     let number = stop_number(p, l);
     if number != 0 {
         return Next::Refused(number);
     }
-    words::put_four(body, 2 * p.stations + 4 * p.stops, l.station, l.arrive, l.depart, l.points);
+    words::put_four(
+        body,
+        2 * p.stations + 4 * p.stops,
+        l.station,
+        l.arrive,
+        l.depart,
+        l.points,
+    );
     mark_start(p, l.last, starts);
     Next::On(after_stop(p, l))
 }
@@ -205,11 +233,9 @@ fn take_stop(p: Progress, l: StopLine, body: &mut [u16], starts: &mut [u16]) -> 
 // Takes a line, without its line end: the progress after it, or the number of the first no.
 fn take_line(p: Progress, line: &[u8], body: &mut [u16], starts: &mut [u16]) -> Next
     requires { ⌜ Within p × (length (now body) ≡ 8320) × (length (now starts) ≡ 257) ⌝ }
-    ensures {
-        λ r. ⌜ (r ≡ nextOf p (shapeOf (now (line .entry))))
-            × (now (body .exit) ≡ bodyAfter p (shapeOf (now (line .entry))) (now (body .entry)))
-            × (now (starts .exit) ≡ startsAfter p (shapeOf (now (line .entry))) (now (starts .entry))) ⌝
-    }
+    ensures { λ r. ⌜ (r ≡ nextOf p (shapeOf (now (line .entry))))
+        × (now (body .exit) ≡ bodyAfter p (shapeOf (now (line .entry))) (now (body .entry)))
+        × (now (starts .exit) ≡ startsAfter p (shapeOf (now (line .entry))) (now (starts .entry))) ⌝ }
 {
     match text::shape(line) {
         Line::Station(l) => {
@@ -240,13 +266,9 @@ fn end_lines(p: Progress, line: u32) -> Lines
 
 // Reads all lines of a text, into the words of stations and stops and the places where trips begin.
 fn read_lines(text: &[u8], body: &mut [u16], starts: &mut [u16]) -> Lines
-    requires {
-        ⌜ (length (now text) ≤ 65536) × (length (now body) ≡ 8320) × (length (now starts) ≡ 257) ⌝
-    }
-    ensures {
-        λ r. ⌜ LinesRead (readLines (now (text .entry))) r (now (body .exit)) (now (starts .exit)) (now (body .entry))
-            (now (starts .entry)) ⌝
-    }
+    requires { ⌜ (length (now text) ≤ 65536) × (length (now body) ≡ 8320) × (length (now starts) ≡ 257) ⌝ }
+    ensures { λ r. ⌜ LinesRead (readLines (now (text .entry))) r (now (body .exit)) (now (starts .exit))
+        (now (body .entry)) (now (starts .entry)) ⌝ }
 {
     starts[0] = 0;
     let n = text.len();
@@ -283,21 +305,23 @@ fn read_lines(text: &[u8], body: &mut [u16], starts: &mut [u16]) -> Lines
 
 // Writes the words of a timetable that was read.
 fn write_timetable(timetable: &mut [u16], p: Progress, body: &[u16], starts: &[u16])
-    requires {
-        ⌜ Within p
-            × (16384 ≤ length (now timetable))
-            × (length (now body) ≡ 8320)
-            × (length (now starts) ≡ 257) ⌝
-    }
-    ensures {
-        λ _. ⌜ now (timetable .exit)
-            ≡ put 0 (tableWords p (now (body .entry)) (now (starts .entry))) (now (timetable .entry)) ⌝
-    }
+    requires { ⌜ Within p
+        × (16384 ≤ length (now timetable))
+        × (length (now body) ≡ 8320)
+        × (length (now starts) ≡ 257) ⌝ }
+    ensures { λ _. ⌜ now (timetable .exit)
+        ≡ put 0 (tableWords p (now (body .entry)) (now (starts .entry))) (now (timetable .entry)) ⌝ }
 {
     let body_length = 2 * p.stations + 4 * p.stops;
     let starts_at = 3 + body_length;
     let starts_length = p.trips + 1;
-    words::put_three(timetable, 0, p.stations as u32, p.trips as u32, p.stops as u32);
+    words::put_three(
+        timetable,
+        0,
+        p.stations as u32,
+        p.trips as u32,
+        p.stops as u32,
+    );
     words::copy(timetable, 3, body, body_length);
     words::copy(timetable, starts_at, starts, starts_length);
 }
@@ -305,16 +329,17 @@ fn write_timetable(timetable: &mut [u16], p: Progress, body: &[u16], starts: &[u
 // Reads a text into the lent words of a timetable.
 pub fn read(text: &[u8], timetable: &mut [u16]) -> Reply
     ensures reply { λ r. ⌜ r ≡ readReply (now (text .entry)) (length (now (timetable .entry))) ⌝ }
+    ensures values { λ r. ⌜ valuesOf r ≡ readValues (now (text .entry)) (length (now (timetable .entry))) ⌝ }
     ensures words { λ _. ⌜ now (timetable .exit) ≡ readWords (now (text .entry)) (now (timetable .entry)) ⌝ }
 {
-    if timetable.len() < 16384 {
+    if timetable.len() < timetable::WORDS_LEAST {
         return Reply::Refused { number: 8, line: 0 };
     }
-    if 65536 < text.len() {
+    if TEXT_MOST < text.len() {
         return Reply::Refused { number: 1, line: 0 };
     }
-    let mut body = [0u16; 8320];
-    let mut starts = [0u16; 257];
+    let mut body = [0u16; BODY_WORDS];
+    let mut starts = [0u16; STARTS_WORDS];
     match read_lines(text, &mut body, &mut starts) {
         Lines::Refused { number, line } => {
             return Reply::Refused { number, line };

@@ -8,3 +8,5 @@ pub mod BlocksLaws
 pub mod CallLaws
 pub mod StationLaws
 pub mod PairLaws
+pub mod BodyLaws
+pub mod TableLaws

@@ -126,6 +126,13 @@ pairPlaces w ls k s (suc n) = k ∷ pairPlaces w ls (k + length (callsAt w s ls)
 abbrev pub indexAt : List ℕ → ℕ
 indexAt w = 4 + length (linesAt w) + length (blocksAt w (linesAt w))
 
+-- the words of lines, then the lists of stations
+unfoldable pub bodyAt : List ℕ → List ℕ
+bodyAt w =
+    blocksAt w (linesAt w)
+    ++ (pairPlaces w (linesAt w) (indexAt w + stationCount w + 1) 1 (stationCount w)
+        ++ pairsAt w (linesAt w) 1 (stationCount w))
+
 unfoldable pub tableAt : List ℕ → List ℕ
 tableAt w =
     stationCount w

@@ -1,12 +1,11 @@
 -- A turn of `field_values`: of the values l of all fields, k are written, and those from index `from` on are left.
 -- The field at `from` ends at index `end`.
-use mathlib.Core.Path.{_≡_, refl, sym, ap, _∙_}
-use mathlib.Core.List.{List, [], _∷_, _++_, map}
+use mathlib.Core.Path.{_≡_, sym, ap, _∙_}
+use mathlib.Core.List.{List, [], _∷_, _++_}
 use Prim.Native.Nat.{ℕ, zero, suc, _+_, _-_, _≤_, _<_, min}
-use native.Mathlib.Nat.{add-sub-cancel-left}
 use native.Mathlib.Numerals.{add-one}
-use native.Mathlib.Omega.{arith, by-contra}
-use lib.ListN.{length, take, drop, getD, set, length-drop}
+use native.Mathlib.Omega.{arith}
+use lib.ListN.{length, take, drop, set, length-drop}
 use lib.Seq.{drop-drop, take-all, length-take-le}
 use native.Mathlib.Decide.{ℕ-discrete}
 use Rattle.words.specs.Put.{put, put-next}
@@ -56,47 +55,47 @@ module _
     (is-value : x ≡ fieldValue (take (end - from) (drop from s)))
     (room : length old ≡ 7)
     (few : k < 7)
-    where
-  next : (r : List ℕ) → fieldValues (drop from s) ≡ value s from end ends in-s ∷ r → drop k (fieldValues s) ≡ x ∷ r
-  next r e = rw is-value (left ∙ e)
+  where
+    next : (r : List ℕ) → fieldValues (drop from s) ≡ value s from end ends in-s ∷ r → drop k (fieldValues s) ≡ x ∷ r
+    next r e = rw is-value (left ∙ e)
 
-  stored : (r : List ℕ) → drop k (fieldValues s) ≡ x ∷ r → set values k x ≡ put 0 (take (k + 1) (fieldValues s)) old
-  stored r e =
-      let long : length (take k (fieldValues s)) ≡ k =
-          length-take-le k (fieldValues s) (omega (arith, length-next (fieldValues s) k x r e)) in
-      rw (held, take-next (fieldValues s) k x r e) (put-next k (take k (fieldValues s)) old x long (omega arith))
+    stored : (r : List ℕ) → drop k (fieldValues s) ≡ x ∷ r → set values k x ≡ put 0 (take (k + 1) (fieldValues s)) old
+    stored r e =
+        let long : length (take k (fieldValues s)) ≡ k =
+        length-take-le k (fieldValues s) (omega (arith, length-next (fieldValues s) k x r e)) in
+        rw (held, take-next (fieldValues s) k x r e) (put-next k (take k (fieldValues s)) old x long (omega arith))
 
-  -- with the seventh value the rest does not matter
-  seven-counted : (r : List ℕ) → drop k (fieldValues s) ≡ x ∷ r → k + 1 ≡ 7 → k + 1 ≡ min 7 (length (fieldValues s))
-  seven-counted r e h = omega (arith, length-next (fieldValues s) k x r e)
+    -- with the seventh value the rest does not matter
+    seven-counted : (r : List ℕ) → drop k (fieldValues s) ≡ x ∷ r → k + 1 ≡ 7 → k + 1 ≡ min 7 (length (fieldValues s))
+    seven-counted r e h = omega (arith, length-next (fieldValues s) k x r e)
 
-  more : (end ≡ length s → ⊥) → drop k (fieldValues s) ≡ x ∷ fieldValues (drop (end + 1) s)
-  more n = next (fieldValues (drop (end + 1) s)) (first-value s from end ends in-s within n)
+    more : (end ≡ length s → ⊥) → drop k (fieldValues s) ≡ x ∷ fieldValues (drop (end + 1) s)
+    more n = next (fieldValues (drop (end + 1) s)) (first-value s from end ends in-s within n)
 
-  last : end ≡ length s → drop k (fieldValues s) ≡ x ∷ []
-  last e = next [] (last-value s from end ends in-s e)
+    last : end ≡ length s → drop k (fieldValues s) ≡ x ∷ []
+    last e = next [] (last-value s from end ends in-s e)
 
-  some : (r : List ℕ) × (drop k (fieldValues s) ≡ x ∷ r)
-  some = elim (ℕ-discrete end (length s)) [ yes e ↦ ([], last e) | no n ↦ (fieldValues (drop (end + 1) s), more n) ]
+    some : (r : List ℕ) × (drop k (fieldValues s) ≡ x ∷ r)
+    some = elim (ℕ-discrete end (length s)) [ yes e ↦ ([], last e) | no n ↦ (fieldValues (drop (end + 1) s), more n) ]
 
-  pub seven-count : k + 1 ≡ 7 → k + 1 ≡ min 7 (length (fieldValues s))
-  seven-count h = seven-counted (some .0) (some .1) h
+    pub seven-count : k + 1 ≡ 7 → k + 1 ≡ min 7 (length (fieldValues s))
+    seven-count h = seven-counted (some .0) (some .1) h
 
-  pub seven-stored : k + 1 ≡ 7 → set values k x ≡ put 0 (take 7 (fieldValues s)) old
-  seven-stored h = rw h at (stored (some .0) (some .1))
+    pub seven-stored : k + 1 ≡ 7 → set values k x ≡ put 0 (take 7 (fieldValues s)) old
+    seven-stored h = rw h at (stored (some .0) (some .1))
 
-  pub last-count : end ≡ length s → k + 1 ≡ min 7 (length (fieldValues s))
-  last-count e = omega (arith, length-next (fieldValues s) k x [] (last e))
+    pub last-count : end ≡ length s → k + 1 ≡ min 7 (length (fieldValues s))
+    last-count e = omega (arith, length-next (fieldValues s) k x [] (last e))
 
-  pub last-stored : end ≡ length s → set values k x ≡ put 0 (take 7 (fieldValues s)) old
-  last-stored e =
-      let long : length (fieldValues s) ≡ k + 1 = omega (arith, length-next (fieldValues s) k x [] (last e)) in
-      let whole : take (k + 1) (fieldValues s) ≡ fieldValues s = take-all (k + 1) (fieldValues s) (omega arith) in
-      let seven : take 7 (fieldValues s) ≡ fieldValues s = take-all 7 (fieldValues s) (omega arith) in
-      rw seven (rw whole at (stored [] (last e)))
+    pub last-stored : end ≡ length s → set values k x ≡ put 0 (take 7 (fieldValues s)) old
+    last-stored e =
+        let long : length (fieldValues s) ≡ k + 1 = omega (arith, length-next (fieldValues s) k x [] (last e)) in
+        let whole : take (k + 1) (fieldValues s) ≡ fieldValues s = take-all (k + 1) (fieldValues s) (omega arith) in
+        let seven : take 7 (fieldValues s) ≡ fieldValues s = take-all 7 (fieldValues s) (omega arith) in
+        rw seven (rw whole at (stored [] (last e)))
 
-  pub more-left : (end ≡ length s → ⊥) → drop (k + 1) (fieldValues s) ≡ fieldValues (drop (end + 1) s)
-  more-left n = drop-next (fieldValues s) k x (fieldValues (drop (end + 1) s)) (more n)
+    pub more-left : (end ≡ length s → ⊥) → drop (k + 1) (fieldValues s) ≡ fieldValues (drop (end + 1) s)
+    more-left n = drop-next (fieldValues s) k x (fieldValues (drop (end + 1) s)) (more n)
 
-  pub more-stored : (end ≡ length s → ⊥) → set values k x ≡ put 0 (take (k + 1) (fieldValues s)) old
-  more-stored n = stored (fieldValues (drop (end + 1) s)) (more n)
+    pub more-stored : (end ≡ length s → ⊥) → set values k x ≡ put 0 (take (k + 1) (fieldValues s)) old
+    more-stored n = stored (fieldValues (drop (end + 1) s)) (more n)

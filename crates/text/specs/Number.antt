@@ -2,13 +2,14 @@
 use mathlib.Core.Path.{_≡_, refl, sym, ap, _∙_}
 use mathlib.Core.Bool.{Bool, true, false, cond, _&&_, _||_}
 use mathlib.Core.List.{List, [], _∷_, map}
-use Prim.Native.Nat.{ℕ, suc, _+_, _-_, _*_, _≤_, _<_}
+use Prim.Native.Nat.{ℕ, _+_, _-_, _*_, _≤_, _<_}
 use lib.Dec.{leb, ltb, eqb}
 use native.Mathlib.Numerals.{add-one}
 use native.Mathlib.Omega.{arith}
 use borrow.Author.Tests.{eq-eqb, ne-eqb, le-leb, lt-leb, le-ltb, lt-ltb}
 use lib.ListN.{length, getD, drop, drop-of-length-le}
 use lib.Seq.{drop-cons}
+use Rattle.questions.specs.Question.{and-false}
 use Rattle.text.specs.Piece.{pieces}
 
 -- The values of an empty field and of a field that is neither empty nor a number stand above every number.
@@ -45,10 +46,6 @@ fieldValue f =
 unfoldable pub fieldValues : List ℕ → List ℕ
 fieldValues s = map fieldValue (pieces 44 s)
 
-and-false : (t : Bool) → (t && false) ≡ false
-and-false true = refl
-and-false false = refl
-
 -- ---- what a field is, by its length
 module _ (f : List ℕ) where
   pub value-empty : length f ≡ 0 → emptyField ≡ fieldValue f
@@ -63,7 +60,7 @@ module _ (f : List ℕ) where
   unfolding fieldValue decimal digitValue
   value-zero e h =
       let whole : f ≡ getD f 0 0 ∷ [] =
-          drop-cons f 0 0 (omega arith) ∙ ap (λ s. getD f 0 0 ∷ s) (drop-of-length-le f {i = 1} (omega arith)) in
+      drop-cons f 0 0 (omega arith) ∙ ap (λ s. getD f 0 0 ∷ s) (drop-of-length-le f {i = 1} (omega arith)) in
       rw (whole, e)
 
   pub value-leading : (length f ≡ 0 → ⊥) → length f ≤ 4 → getD f 0 0 ≡ 48 → (length f ≡ 1 → ⊥)
@@ -76,7 +73,9 @@ module _ (f : List ℕ) where
   pub value-digits : (length f ≡ 0 → ⊥) → length f ≤ 4 → (getD f 0 0 ≡ 48 → ⊥) → fieldValue f ≡ decimal 0 f
   unfolding fieldValue
   value-digits h g e =
-      simp (ne-eqb (length f) 0 h, le-ltb 4 (length f) g, ne-eqb (getD f 0 0) 48 e, and-false)
+      let led : leadingZero f ≡ false =
+      and-false (ltb 1 (length f)) (eqb (getD f 0 0) 48) (ne-eqb (getD f 0 0) 48 e) in
+      simp (ne-eqb (length f) 0 h, le-ltb 4 (length f) g, led)
 
 -- ---- a loop over the digits of f, at index i, where the digits before have value v
 module _ (f : List ℕ) (v i : ℕ) (so-far : fieldValue f ≡ decimal v (drop i f)) where

@@ -1,12 +1,12 @@
 -- The pieces of a text between the marks that part it: lines end with byte 10, "fields stand .. parted by commas,
 -- without quoting". There is always a last piece, behind the last mark; it may be empty.
-use mathlib.Core.Path.{_≡_, refl, sym, ap, _∙_}
+use mathlib.Core.Path.{_≡_, refl, ap}
 use mathlib.Core.Bool.{Bool, true, false, cond}
-use mathlib.Core.List.{List, [], _∷_, _++_, map}
-use Prim.Native.Nat.{ℕ, zero, suc, _+_, _-_, _≤_, _<_}
+use mathlib.Core.List.{List, [], _∷_}
+use Prim.Native.Nat.{ℕ, suc, _+_, _-_, _≤_, _<_}
 use native.Mathlib.Numerals.{add-one}
 use native.Mathlib.Omega.{arith}
-use borrow.Author.Tests.{eq-eqb, ne-eqb, eqb-true}
+use borrow.Author.Tests.{eq-eqb, ne-eqb}
 use lib.Dec.{eqb}
 use lib.ListN.{length, getD, take, drop, length-drop, drop-of-length-le}
 use lib.Seq.{drop-cons, drop-drop, take-all}
@@ -30,28 +30,28 @@ module _
     (s : List ℕ)
     (from i : ℕ)
     (at : from + pieceLength mark (drop from s) ≡ i + pieceLength mark (drop i s))
-    where
-  pub piece-ends : i ≡ length s → i ≡ from + pieceLength mark (drop from s)
-  unfolding pieceLength
-  piece-ends e =
-      let none : drop i s ≡ [] = drop-of-length-le s {i = i} (omega arith) in
-      let zero-long : pieceLength mark (drop i s) ≡ 0 = rw none in
-      omega arith
+  where
+    pub piece-ends : i ≡ length s → i ≡ from + pieceLength mark (drop from s)
+    unfolding pieceLength
+    piece-ends e =
+        let none : drop i s ≡ [] = drop-of-length-le s {i = i} (omega arith) in
+        let zero-long : pieceLength mark (drop i s) ≡ 0 = rw none in
+        omega arith
 
-  pub piece-found : i ≤ length s → (i ≡ length s → ⊥) → getD s i 0 ≡ mark → i ≡ from + pieceLength mark (drop from s)
-  unfolding pieceLength
-  piece-found h g e =
-      let zero-long : pieceLength mark (drop i s) ≡ 0 =
-          rw (drop-cons s i 0 (omega arith), eq-eqb (getD s i 0) mark e) in
-      omega arith
+    pub piece-found : i ≤ length s → (i ≡ length s → ⊥) → getD s i 0 ≡ mark → i ≡ from + pieceLength mark (drop from s)
+    unfolding pieceLength
+    piece-found h g e =
+        let zero-long : pieceLength mark (drop i s) ≡ 0 =
+        rw (drop-cons s i 0 (omega arith), eq-eqb (getD s i 0) mark e) in
+        omega arith
 
-  pub piece-goes-on : i ≤ length s → (i ≡ length s → ⊥) → (getD s i 0 ≡ mark → ⊥)
-      → from + pieceLength mark (drop from s) ≡ i + 1 + pieceLength mark (drop (i + 1) s)
-  unfolding pieceLength
-  piece-goes-on h g e =
-      let longer : pieceLength mark (drop i s) ≡ suc (pieceLength mark (drop (i + 1) s)) =
-          rw (drop-cons s i 0 (omega arith), ne-eqb (getD s i 0) mark e, add-one i) in
-      omega arith
+    pub piece-goes-on : i ≤ length s → (i ≡ length s → ⊥) → (getD s i 0 ≡ mark → ⊥)
+        → from + pieceLength mark (drop from s) ≡ i + 1 + pieceLength mark (drop (i + 1) s)
+    unfolding pieceLength
+    piece-goes-on h g e =
+        let longer : pieceLength mark (drop i s) ≡ suc (pieceLength mark (drop (i + 1) s)) =
+        rw (drop-cons s i 0 (omega arith), ne-eqb (getD s i 0) mark e, add-one i) in
+        omega arith
 
 -- ---- the first piece and the rest
 pub piece-within : (mark : ℕ) (s : List ℕ) → pieceLength mark s ≤ length s
@@ -82,7 +82,7 @@ first-piece mark (b ∷ s) h = by-test (eqb b mark) (first-piece mark s) h
   where
     by-test : (t : Bool)
         → (pieceLength mark s < length s
-            → pieces mark s ≡ take (pieceLength mark s) s ∷ pieces mark (drop (suc (pieceLength mark s)) s))
+        → pieces mark s ≡ take (pieceLength mark s) s ∷ pieces mark (drop (suc (pieceLength mark s)) s))
         → cond t 0 (suc (pieceLength mark s)) < suc (length s)
         → cond t ([] ∷ pieces mark s) (joined b (pieces mark s))
         ≡ take (cond t 0 (suc (pieceLength mark s))) (b ∷ s)
@@ -97,31 +97,31 @@ module _
     (from end : ℕ)
     (ends : end ≡ from + pieceLength mark (drop from s))
     (in-s : from ≤ length s)
-    where
-  length-left : length (drop from s) ≡ length s - from
-  length-left = length-drop from s
+  where
+    length-left : length (drop from s) ≡ length s - from
+    length-left = length-drop from s
 
-  this-piece : end - from ≡ pieceLength mark (drop from s)
-  this-piece = omega arith
+    this-piece : end - from ≡ pieceLength mark (drop from s)
+    this-piece = omega arith
 
-  pub last-from : end ≡ length s → pieces mark (drop from s) ≡ take (end - from) (drop from s) ∷ []
-  last-from e =
-      let whole : pieceLength mark (drop from s) ≡ length (drop from s) = omega (arith, length-left) in
-      let all : take (end - from) (drop from s) ≡ drop from s =
-          take-all (end - from) (drop from s) (omega (arith, length-left)) in
-      rw all (last-piece mark (drop from s) whole)
+    pub last-from : end ≡ length s → pieces mark (drop from s) ≡ take (end - from) (drop from s) ∷ []
+    last-from e =
+        let whole : pieceLength mark (drop from s) ≡ length (drop from s) = omega (arith, length-left) in
+        let all : take (end - from) (drop from s) ≡ drop from s =
+        take-all (end - from) (drop from s) (omega (arith, length-left)) in
+        rw all (last-piece mark (drop from s) whole)
 
-  pub first-from : end ≤ length s → (end ≡ length s → ⊥)
-      → pieces mark (drop from s) ≡ take (end - from) (drop from s) ∷ pieces mark (drop (end + 1) s)
-  first-from h n =
-      let short : pieceLength mark (drop from s) < length (drop from s) = omega (arith, length-left) in
-      let next : from + suc (pieceLength mark (drop from s)) ≡ end + 1 = omega arith in
-      rw (
+    pub first-from : end ≤ length s → (end ≡ length s → ⊥)
+        → pieces mark (drop from s) ≡ take (end - from) (drop from s) ∷ pieces mark (drop (end + 1) s)
+    first-from h n =
+        let short : pieceLength mark (drop from s) < length (drop from s) = omega (arith, length-left) in
+        let next : from + suc (pieceLength mark (drop from s)) ≡ end + 1 = omega arith in
+        rw (
           first-piece mark (drop from s) short,
           drop-drop (suc (pieceLength mark (drop from s))) from s,
           next,
-          this-piece
-      )
+          this-piece,
+        )
 
 -- there is always a piece
 pub pieces-some : (mark : ℕ) (s : List ℕ) → (p : List ℕ) × (l : List (List ℕ)) × (pieces mark s ≡ p ∷ l)

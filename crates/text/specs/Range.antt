@@ -1,9 +1,9 @@
 -- "Value ranges: change minutes 0 to 240, change penalty 1 to 1,000, times 0 to 2,879 (minutes from midnight, two
--- days), ride penalty 0 to 100." By the field's kind number: 1 change minutes, 2 change penalty, 3 time, 4 ride penalty.
--- "An empty field has no range": as a 0 it passes, for times and ride penalties may be 0.
-use mathlib.Core.Path.{_≡_, refl, sym, _∙_}
+-- days), ride penalty 0 to 100." By the field's kind number: 1 change minutes, 2 change penalty, 3 time, 4 ride
+-- penalty. "An empty field has no range": as a 0 it passes, for times and ride penalties may be 0.
+use mathlib.Core.Path.{_≡_, refl, _∙_}
 use mathlib.Core.Bool.{Bool, true, false, cond, _&&_}
-use Prim.Native.Nat.{ℕ, zero, suc, _≤_, _<_}
+use Prim.Native.Nat.{ℕ, _≤_}
 use native.Mathlib.Omega.{arith}
 use borrow.Author.Tests.{leb-true}
 use lib.Dec.{leb, eqb}
@@ -40,6 +40,11 @@ module _ (kind v n : ℕ) (is : n ≡ rangeNumber kind v) where
       by-test : (t : Bool) → n ≡ cond t 0 3 → t ≡ false
       by-test true h = absurd (e h)
       by-test false h = refl
+
+-- a number other than 0 is the refusal's
+pub range-three : (kind v n : ℕ) → n ≡ rangeNumber kind v → (n ≡ 0 → ⊥) → n ≡ 3
+unfolding rangeNumber
+range-three kind v n is h = is ∙ rw (range-out kind v n is h)
 
 -- ---- the bounds that a kind of field has
 within-bounds : (low high v : ℕ) → within low high v ≡ true → (low ≤ v) × (v ≤ high)

@@ -1,11 +1,10 @@
 -- The two shapes of a line.
-use mathlib.Core.Path.{_≡_, refl, sym, ap, _∙_}
-use mathlib.Core.Bool.{Bool, true, false, not, cond, _&&_, _||_}
-use mathlib.Core.List.{List, [], _∷_}
-use Prim.Native.Nat.{ℕ, suc, _+_, _-_, _*_, _≤_, _<_}
-use lib.Dec.{leb, ltb, eqb}
-use native.Mathlib.Omega.{arith}
-use borrow.Author.Tests.{le-leb, lt-leb, eq-eqb, ne-eqb, not-true, not-false}
+use mathlib.Core.Path.{_≡_}
+use mathlib.Core.Bool.{Bool, true, false, not, cond, _&&_}
+use mathlib.Core.List.{List}
+use Prim.Native.Nat.{ℕ, _≤_, _<_}
+use lib.Dec.{eqb}
+use borrow.Author.Tests.{le-leb, lt-leb, not-true, not-false}
 use lib.ListN.{length, getD, drop}
 use Rattle.text.specs.Number.{emptyField, isNumber, fieldValues}
 use Rattle.text.specs.declared.Line.{Line}
@@ -38,18 +37,18 @@ filled v = cond (eqb v emptyField) 0 v
 unfoldable pub stopOf : (trip stop station arrive depart points : ℕ) → Line
 stopOf trip stop station arrive depart points =
     cond (isNumber trip
-        && isNumber stop
-        && isNumber station
-        && arriveFits stop arrive
-        && departFits stop depart points)
+    && isNumber stop
+    && isNumber station
+    && arriveFits stop arrive
+    && departFits stop depart points)
     (Stop (record {
-        trip = trip;
-        stop = stop;
-        station = station;
-        arrive = filled arrive;
-        depart = filled depart;
-        points = filled points;
-        last = eqb depart emptyField
+      trip = trip;
+      stop = stop;
+      station = station;
+      arrive = filled arrive;
+      depart = filled depart;
+      points = filled points;
+      last = eqb depart emptyField;
     }))
     Shapeless
 
@@ -92,29 +91,37 @@ module _ (trip stop station arrive depart points : ℕ) where
         pub depart-shapeless : not goes ≡ true → Shapeless ≡ stopOf trip stop station arrive depart points
         unfolding stopOf
         depart-shapeless h =
-            simp (le-leb trip 9999 t, le-leb stop 9999 k, le-leb station 9999 s, ← f, not-false fits a, ← g, not-true goes h)
+            simp (
+              le-leb trip 9999 t,
+              le-leb stop 9999 k,
+              le-leb station 9999 s,
+              ← f,
+              not-false fits a,
+              ← g,
+              not-true goes h,
+            )
 
         pub stop-shaped : not goes ≡ false → (x y z : ℕ) → x ≡ filled arrive → y ≡ filled depart → z ≡ filled points
             → Stop (record {
-                trip = trip;
-                stop = stop;
-                station = station;
-                arrive = x;
-                depart = y;
-                points = z;
-                last = eqb depart 10000
+              trip = trip;
+              stop = stop;
+              station = station;
+              arrive = x;
+              depart = y;
+              points = z;
+              last = eqb depart 10000;
             }) ≡ stopOf trip stop station arrive depart points
         unfolding stopOf
         stop-shaped h x y z p q r =
             simp (
-                le-leb trip 9999 t,
-                le-leb stop 9999 k,
-                le-leb station 9999 s,
-                ← f,
-                not-false fits a,
-                ← g,
-                not-false goes h,
-                p,
-                q,
-                r
+              le-leb trip 9999 t,
+              le-leb stop 9999 k,
+              le-leb station 9999 s,
+              ← f,
+              not-false fits a,
+              ← g,
+              not-false goes h,
+              p,
+              q,
+              r,
             )

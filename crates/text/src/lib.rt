@@ -1,7 +1,6 @@
 // What a timetable text says, line by line: pieces, numbers, the two shapes of a line, and the value ranges.
 ghost use mathlib.Core.Path.{_≡_};
-ghost use Prim.Native.Nat.{ℕ, _+_, _≤_, _<_, min};
-ghost use mathlib.Core.List.{map};
+ghost use Prim.Native.Nat.{_+_, _≤_, _<_, min};
 ghost use lib.ListN.{length, take, drop};
 ghost use Rattle.words.specs.Put.{put};
 ghost use Rattle.text.specs.Piece.{pieceLength};
@@ -26,8 +25,15 @@ pub const NO_NUMBER: u32 = 10001;
 
 const NUMBER_MOST: u32 = 9999;
 
-// The fields of the longest line and one more, which shows a line that is too long.
-const FIELDS_MOST: usize = 7;
+const DIGITS_MOST: usize = 4;
+
+// The fields behind the first of a station line and of a stop line.
+const STATION_FIELDS: usize = 3;
+
+const STOP_FIELDS: usize = 6;
+
+// One field more than the longest line has shows a line that is too long.
+const FIELDS_MOST: usize = STOP_FIELDS + 1;
 
 // The kinds of fields that have a value range.
 pub const CHANGE_MINUTES: u8 = 1;
@@ -65,9 +71,9 @@ pub enum Line {
 // The index of the first byte mark at or after index from, or the length where there is none.
 pub fn piece_end(s: &[u8], mark: u8, from: usize) -> usize
     requires { ⌜ from ≤ length (now s) ⌝ }
-    ensures {
-        λ r. ⌜ (r ≡ from + pieceLength mark (drop from (now (s .entry)))) × (from ≤ r) × (r ≤ length (now (s .entry))) ⌝
-    }
+    ensures { λ r. ⌜ (r ≡ from + pieceLength mark (drop from (now (s .entry))))
+        × (from ≤ r)
+        × (r ≤ length (now (s .entry))) ⌝ }
 {
     let mut i = from;
     loop {
@@ -102,7 +108,7 @@ pub fn field_value(field: &[u8]) -> u32
     if n == 0 {
         return EMPTY;
     }
-    if 4 < n {
+    if DIGITS_MOST < n {
         return NO_NUMBER;
     }
     if field[0] == ZERO {
@@ -127,10 +133,8 @@ pub fn field_value(field: &[u8]) -> u32
 // Writes the values of the first seven fields of s, and answers how many it wrote.
 fn field_values(s: &[u8], values: &mut [u32]) -> usize
     requires { ⌜ length (now values) ≡ 7 ⌝ }
-    ensures {
-        λ r. ⌜ (r ≡ min 7 (length (fieldValues (now (s .entry)))))
-            × (now (values .exit) ≡ put 0 (take 7 (fieldValues (now (s .entry)))) (now (values .entry))) ⌝
-    }
+    ensures { λ r. ⌜ (r ≡ min 7 (length (fieldValues (now (s .entry)))))
+        × (now (values .exit) ≡ put 0 (take 7 (fieldValues (now (s .entry)))) (now (values .entry))) ⌝ }
 {
     let n = s.len();
     let mut from = 0;
@@ -246,19 +250,26 @@ pub fn shape(line: &[u8]) -> Line
     if line[1] != COMMA {
         return Line::Shapeless;
     }
-    let mut values = [0u32; 7];
+    let mut values = [0u32; FIELDS_MOST];
     let count = field_values(&line[2..n], &mut values);
     if line[0] == STATION {
-        if count != 3 {
+        if count != STATION_FIELDS {
             return Line::Shapeless;
         }
         return station_line(values[0], values[1], values[2]);
     }
     if line[0] == STOP {
-        if count != 6 {
+        if count != STOP_FIELDS {
             return Line::Shapeless;
         }
-        return stop_line(values[0], values[1], values[2], values[3], values[4], values[5]);
+        return stop_line(
+            values[0],
+            values[1],
+            values[2],
+            values[3],
+            values[4],
+            values[5],
+        );
     }
     Line::Shapeless
 }

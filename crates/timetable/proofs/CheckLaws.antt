@@ -1,42 +1,37 @@
 -- The ways out of the functions that decide question 9.
 use mathlib.Core.Path.{_≡_, refl, sym, ap, _∙_}
-use mathlib.Core.Bool.{Bool, true, false, not, cond, _&&_}
-use mathlib.Core.List.{List, [], _∷_, map}
-use Prim.Native.Nat.{ℕ, zero, suc, _+_, _-_, _≤_, _<_}
+use mathlib.Core.Bool.{Bool, true, false, not, _&&_}
+use mathlib.Core.List.{List, [], _∷_}
+use Prim.Native.Nat.{ℕ, _+_, _≤_, _<_}
 use native.Mathlib.Omega.{arith}
 use borrow.Author.Tests.{le-leb, lt-leb, eq-eqb, ne-eqb, leb-true, eqb-true, not-true, not-false}
-use lib.Dec.{leb, ltb, eqb}
+use lib.Dec.{leb, eqb}
 use Rattle.questions.specs.Question.{and-left, and-right, and-true, and-false}
 use Rattle.timetable.specs.Timetable.{
-    Station,
-    Stop,
-    listed,
-    leaves,
-    ends,
-    follows,
-    runs,
-    validTrip,
-    validStation,
-    validStations,
-    validTrips
+  Station,
+  Stop,
+  listed,
+  leaves,
+  ends,
+  follows,
+  runs,
+  validTrip,
+  validStation,
+  validStations,
+  validTrips,
 }
 use Rattle.timetable.specs.Words.{stationAt, stopAt, startAt, tripAt, rise}
 use Rattle.timetable.specs.Check.{
-    begins,
-    passes,
-    stationsAt,
-    stopsAt,
-    tripsAt,
-    startsAt,
-    tripsTest,
-    stations-more,
-    stations-none,
-    stops-more,
-    stops-none,
-    trips-more,
-    trips-none,
-    starts-more,
-    starts-none
+  begins,
+  passes,
+  stationsAt,
+  stopsAt,
+  tripsAt,
+  startsAt,
+  tripsTest,
+  between,
+  between-more,
+  between-none,
 }
 
 -- ---- a first stop
@@ -73,12 +68,12 @@ module _ (n : ℕ) (b s : Stop) (t : Bool) (is : t ≡ follows n b s) where
 module _ (w : List ℕ) (n i : ℕ) (left : validStations (stationsAt w 0 n) ≡ validStations (stationsAt w i n)) where
   pub stations-done : n ≤ i → true ≡ validStations (stationsAt w 0 n)
   unfolding validStations
-  stations-done h = sym (left ∙ ap validStations (stations-none w i n h))
+  stations-done h = sym (left ∙ ap validStations (between-none (stationAt w) i n h))
 
   module _ (h : i < n) (s : Station) (is : s ≡ stationAt w i) (t : Bool) (test : t ≡ validStation s) where
     next : validStations (stationsAt w 0 n) ≡ (t && validStations (stationsAt w (i + 1) n))
     unfolding validStations
-    next = left ∙ ap validStations (stations-more w i n h) ∙ rw (test, is)
+    next = left ∙ ap validStations (between-more (stationAt w) i n h) ∙ rw (test, is)
 
     pub station-bad : not t ≡ true → false ≡ validStations (stationsAt w 0 n)
     station-bad e = sym (next ∙ rw (not-true t e))
@@ -95,7 +90,7 @@ module _ (w : List ℕ) (n : ℕ) (whole : Bool) (before : Stop) (i end : ℕ)
     (left : whole ≡ runs n before (stopsAt w i end)) where
   pub run-short : i ≡ end → false ≡ whole
   unfolding runs
-  run-short e = sym (left ∙ ap (runs n before) (stops-none w i end (omega arith)))
+  run-short e = sym (left ∙ ap (runs n before) (between-none (stopAt w) i end (omega arith)))
 
   module _ (s : Stop) (is : s ≡ stopAt w i) (h : i ≤ end) (g : i ≡ end → ⊥) where
     module _ (e : i + 1 ≡ end) (t : Bool) (after : t ≡ follows n before s) where
@@ -103,7 +98,9 @@ module _ (w : List ℕ) (n : ℕ) (whole : Bool) (before : Stop) (i end : ℕ)
       unfolding runs
       last =
           left
-          ∙ ap (runs n before) (stops-more w i end (omega arith) ∙ ap (λ l. stopAt w i ∷ l) (stops-none w (i + 1) end (omega arith)))
+          ∙ ap (runs n before)
+          (between-more (stopAt w) i end (omega arith)
+          ∙ ap (λ l. stopAt w i ∷ l) (between-none (stopAt w) (i + 1) end (omega arith)))
           ∙ rw (after, is)
 
       pub run-ends : t ≡ true → (u : Bool) → u ≡ ends s → u ≡ whole
@@ -116,9 +113,9 @@ module _ (w : List ℕ) (n : ℕ) (whole : Bool) (before : Stop) (i end : ℕ)
       middle : whole ≡ (t && runs n s (stopsAt w (i + 1) end))
       unfolding runs passes
       middle =
-          let two = stops-more w (i + 1) end (omega arith) in
+          let two = between-more (stopAt w) (i + 1) end (omega arith) in
           left
-          ∙ ap (runs n before) (stops-more w i end (omega arith) ∙ ap (λ l. stopAt w i ∷ l) two)
+          ∙ ap (runs n before) (between-more (stopAt w) i end (omega arith) ∙ ap (λ l. stopAt w i ∷ l) two)
           ∙ rw (on, is, two)
 
       pub run-breaks : not t ≡ true → false ≡ whole
@@ -131,12 +128,12 @@ module _ (w : List ℕ) (n : ℕ) (whole : Bool) (before : Stop) (i end : ℕ)
 module _ (w : List ℕ) (n first end : ℕ) where
   pub trip-empty : end ≤ first → false ≡ validTrip n (stopsAt w first end)
   unfolding validTrip
-  trip-empty h = sym (ap (validTrip n) (stops-none w first end h))
+  trip-empty h = sym (ap (validTrip n) (between-none (stopAt w) first end h))
 
   module _ (h : first < end) (s : Stop) (is : s ≡ stopAt w first) (t : Bool) (test : t ≡ begins n s) where
     begun : validTrip n (stopsAt w first end) ≡ (t && runs n (stopAt w first) (stopsAt w (first + 1) end))
     unfolding validTrip begins
-    begun = ap (validTrip n) (stops-more w first end h) ∙ rw (test, is)
+    begun = ap (validTrip n) (between-more (stopAt w) first end h) ∙ rw (test, is)
 
     pub trip-unbegun : not t ≡ true → false ≡ validTrip n (stopsAt w first end)
     trip-unbegun y = sym (begun ∙ rw (not-true t y))
@@ -151,7 +148,9 @@ rise-most : (b : ℕ) (l : List ℕ) (n : ℕ) → rise b l n ≡ true → b ≤
 unfolding rise
 rise-most b [] n e = omega (arith, eqb-true b n e)
 rise-most b (c ∷ l) n e =
-    omega (arith, leb-true b c (and-left (leb b c) (rise c l n) e), rise-most c l n (and-right (leb b c) (rise c l n) e))
+    let here = leb-true b c (and-left (leb b c) (rise c l n) e) in
+    let later = rise-most c l n (and-right (leb b c) (rise c l n) e) in
+    omega (arith, here, later)
 
 rise-beyond : (b : ℕ) (l : List ℕ) (n : ℕ) → n < b → rise b l n ≡ false
 rise-beyond b l n h = by-test (rise b l n) (rise-most b l n)
@@ -160,20 +159,21 @@ rise-beyond b l n h = by-test (rise b l n) (rise-most b l n)
     by-test true f = absurd (omega (arith, f refl))
     by-test false f = refl
 
-module _ (w : List ℕ) (n stops k first trips : ℕ) (whole : Bool) (left : whole ≡ tripsTest w n stops k first trips) where
+module _ (w : List ℕ) (n stops k first trips : ℕ) (whole : Bool)
+    (left : whole ≡ tripsTest w n stops k first trips) where
   pub trips-done : k ≤ trips → trips ≤ k → eqb first stops ≡ whole
   unfolding tripsTest rise validTrips
   trips-done h g =
       sym
       (left
-      ∙ rw (starts-none w (k + 1) (trips + 1) (omega arith), trips-none w k trips g)
+      ∙ rw (between-none (startAt w) (k + 1) (trips + 1) (omega arith), between-none (tripAt w) k trips g)
       (and-true (eqb first stops)))
 
   module _ (h : k < trips) (end : ℕ) (is-end : end ≡ startAt w (k + 1)) where
     rises : rise first (startsAt w (k + 1) (trips + 1)) stops
         ≡ (leb first end && rise end (startsAt w (k + 1 + 1) (trips + 1)) stops)
     unfolding rise
-    rises = rw (starts-more w (k + 1) (trips + 1) (omega arith), is-end)
+    rises = rw (between-more (startAt w) (k + 1) (trips + 1) (omega arith), is-end)
 
     pub trip-falls : end < first → false ≡ whole
     unfolding tripsTest
@@ -187,8 +187,8 @@ module _ (w : List ℕ) (n stops k first trips : ℕ) (whole : Bool) (left : who
 
     module _ (is-first : first ≡ startAt w k) (t : Bool) (test : t ≡ validTrip n (stopsAt w first end)) where
       goes : validTrips n (tripsAt w k trips) ≡ (t && validTrips n (tripsAt w (k + 1) trips))
-      unfolding validTrips tripAt stopsAt
-      goes = rw (trips-more w k trips h, test, is-first, is-end)
+      unfolding validTrips tripAt between
+      goes = rw (between-more (tripAt w) k trips h, test, is-first, is-end)
 
       pub trip-bad : not t ≡ true → false ≡ whole
       unfolding tripsTest

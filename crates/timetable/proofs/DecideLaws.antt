@@ -1,10 +1,10 @@
 -- The ways out of `is_timetable`: its tests are those of `decision`, one after the other.
-use mathlib.Core.Path.{_≡_, refl, sym, ap, _∙_}
-use mathlib.Core.Bool.{Bool, true, false, not, cond, _&&_}
+use mathlib.Core.Path.{_≡_, sym, _∙_}
+use mathlib.Core.Bool.{Bool, true, false, not, _&&_}
 use mathlib.Core.List.{List}
-use Prim.Native.Nat.{ℕ, _+_, _≤_, _<_}
+use Prim.Native.Nat.{ℕ, _≤_, _<_}
 use borrow.Author.Tests.{le-leb, lt-leb, eq-eqb, ne-eqb, not-true, not-false}
-use lib.Dec.{leb, eqb}
+use lib.Dec.{eqb}
 use lib.ListN.{getD}
 use Rattle.timetable.specs.Timetable.{validStations}
 use Rattle.timetable.specs.Words.{startAt, isTimetable}
@@ -28,13 +28,13 @@ module _ (w : List ℕ) (s : ℕ) (is-s : s ≡ getD w 0 0) where
             sym
             (decided w
             ∙ simp (
-                ← is-s,
-                ← is-t,
-                ← is-n,
-                le-leb 1 s some,
-                le-leb s 64 few,
-                le-leb t 256 few-trips,
-                lt-leb n 2048 h
+              ← is-s,
+              ← is-t,
+              ← is-n,
+              le-leb 1 s some,
+              le-leb s 64 few,
+              le-leb t 256 few-trips,
+              lt-leb n 2048 h,
             ))
 
         module _ (few-stops : n ≤ 2048) (a : ℕ) (is-a : a ≡ startAt w 0) where
@@ -42,14 +42,14 @@ module _ (w : List ℕ) (s : ℕ) (is-s : s ≡ getD w 0 0) where
           headed =
               decided w
               ∙ simp (
-                  ← is-s,
-                  ← is-t,
-                  ← is-n,
-                  ← is-a,
-                  le-leb 1 s some,
-                  le-leb s 64 few,
-                  le-leb t 256 few-trips,
-                  le-leb n 2048 few-stops
+                ← is-s,
+                ← is-t,
+                ← is-n,
+                ← is-a,
+                le-leb 1 s some,
+                le-leb s 64 few,
+                le-leb t 256 few-trips,
+                le-leb n 2048 few-stops,
               )
 
           pub late-start : (a ≡ 0 → ⊥) → false ≡ isTimetable w

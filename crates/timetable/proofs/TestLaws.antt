@@ -1,9 +1,9 @@
 -- The ways out of the tests of one station or stop.
-use mathlib.Core.Path.{_≡_, refl, sym, ap, _∙_}
-use mathlib.Core.Bool.{Bool, true, false, not, cond, _&&_}
-use Prim.Native.Nat.{ℕ, _+_, _≤_, _<_}
+use mathlib.Core.Path.{_≡_}
+use mathlib.Core.Bool.{Bool, true, false, not}
+use Prim.Native.Nat.{ℕ, _≤_, _<_}
 use borrow.Author.Tests.{lt-ltb, le-ltb, le-leb, lt-leb, eq-eqb, ne-eqb, not-true, not-false}
-use lib.Dec.{leb, ltb, eqb}
+use lib.Dec.{leb, eqb}
 use Rattle.timetable.specs.Timetable.{Station, Stop, validStation, listed, leaves, ends, follows}
 
 module _ (s : Station) where
@@ -61,18 +61,18 @@ module _ (n : ℕ) (b s : Stop) (t : Bool) (is : t ≡ listed n s) where
       unfolding follows
       too-early h =
           simp (
-              ← is,
-              not-false t in-list,
-              ne-eqb (s .station) (b .station) unlike,
-              le-ltb (b .depart) (s .arrive) h
+            ← is,
+            not-false t in-list,
+            ne-eqb (s .station) (b .station) unlike,
+            le-ltb (b .depart) (s .arrive) h,
           )
 
       pub arrive-decides : b .depart < s .arrive → leb (s .arrive) 2879 ≡ follows n b s
       unfolding follows
       arrive-decides h =
           simp (
-              ← is,
-              not-false t in-list,
-              ne-eqb (s .station) (b .station) unlike,
-              lt-ltb (b .depart) (s .arrive) h
+            ← is,
+            not-false t in-list,
+            ne-eqb (s .station) (b .station) unlike,
+            lt-ltb (b .depart) (s .arrive) h,
           )

@@ -9,6 +9,7 @@ use native.Mathlib.Omega.{arith}
 use borrow.Author.Tests.{leb-true, eqb-true}
 use lib.Dec.{leb, eqb}
 use lib.ListN.{length, getD, length-map, List·getD-map}
+use Rattle.lists.specs.Lists.{range}
 use Rattle.questions.specs.Question.{and-left, and-right}
 use Rattle.timetable.specs.Timetable.{
     Station,
@@ -24,20 +25,7 @@ use Rattle.timetable.specs.Timetable.{
     counted,
     valid
 }
-use Rattle.timetable.specs.Words.{
-    stationCount,
-    tripCount,
-    stopCount,
-    numbersFrom,
-    stationAt,
-    stopAt,
-    startAt,
-    tripAt,
-    timetableOf,
-    rise,
-    chained,
-    isTimetable
-}
+use Rattle.timetable.specs.Words.{stationCount, tripCount, stopCount, stationAt, stopAt, startAt, tripAt, timetableOf, rise, chained, isTimetable}
 use Rattle.timetable.specs.Check.{
     length-trips,
     length-trip,
@@ -50,7 +38,7 @@ use Rattle.timetable.specs.Check.{
 }
 
 -- the numbers from k on, one by one
-map-numbers : {A : Type 0} (f : ℕ → A) (k n i : ℕ) (d : A) → i < n → getD (map f (numbersFrom k n)) i d ≡ f (k + i)
+map-numbers : {A : Type 0} (f : ℕ → A) (k n i : ℕ) (d : A) → i < n → getD (map f (range k n)) i d ≡ f (k + i)
 map-numbers f k zero i d h = absurd (omega arith)
 map-numbers f k (suc n) zero d h = ap f (omega arith)
 map-numbers f k (suc n) (suc i) d h = map-numbers f (suc k) n i d (omega arith) ∙ ap f (omega arith)
@@ -91,7 +79,7 @@ trip-valid n (t ∷ l) zero d e h = and-left (validTrip n t) (validTrips n l) e
 trip-valid n (t ∷ l) (suc k) d e h = trip-valid n l k d (and-right (validTrip n t) (validTrips n l) e) (omega arith)
 
 -- starts that rise to n are at most n, and the last of them is n
-rise-at : (w : List ℕ) (k m n i : ℕ) → rise (startAt w k) (map (startAt w) (numbersFrom (suc k) m)) n ≡ true → i ≤ m
+rise-at : (w : List ℕ) (k m n i : ℕ) → rise (startAt w k) (map (startAt w) (range (suc k) m)) n ≡ true → i ≤ m
     → startAt w (k + i) ≤ n
 unfolding rise
 rise-at w k zero n i e h =
@@ -99,7 +87,7 @@ rise-at w k zero n i e h =
     omega (arith, eqb-true (startAt w k) n e, ap (startAt w) here)
 rise-at w k (suc m) n zero e h =
     let up : Bool = leb (startAt w k) (startAt w (suc k)) in
-    let rest : Bool = rise (startAt w (suc k)) (map (startAt w) (numbersFrom (suc (suc k)) m)) n in
+    let rest : Bool = rise (startAt w (suc k)) (map (startAt w) (range (suc (suc k)) m)) n in
     let here : k + 0 ≡ k = omega arith in
     let next : suc k + 0 ≡ suc k = omega arith in
     let later = rise-at w (suc k) m n 0 (and-right up rest e) (omega arith) in
@@ -112,11 +100,11 @@ rise-at w k (suc m) n zero e h =
     )
 rise-at w k (suc m) n (suc i) e h =
     let up : Bool = leb (startAt w k) (startAt w (suc k)) in
-    let rest : Bool = rise (startAt w (suc k)) (map (startAt w) (numbersFrom (suc (suc k)) m)) n in
+    let rest : Bool = rise (startAt w (suc k)) (map (startAt w) (range (suc (suc k)) m)) n in
     let same : suc k + i ≡ k + suc i = omega arith in
     omega (arith, ap (startAt w) same, rise-at w (suc k) m n i (and-right up rest e) (omega arith))
 
-rise-last : (w : List ℕ) (k m n : ℕ) → rise (startAt w k) (map (startAt w) (numbersFrom (suc k) m)) n ≡ true
+rise-last : (w : List ℕ) (k m n : ℕ) → rise (startAt w k) (map (startAt w) (range (suc k) m)) n ≡ true
     → startAt w (k + m) ≡ n
 unfolding rise
 rise-last w k zero n e =
@@ -124,7 +112,7 @@ rise-last w k zero n e =
     ap (startAt w) here ∙ eqb-true (startAt w k) n e
 rise-last w k (suc m) n e =
     let up : Bool = leb (startAt w k) (startAt w (suc k)) in
-    let rest : Bool = rise (startAt w (suc k)) (map (startAt w) (numbersFrom (suc (suc k)) m)) n in
+    let rest : Bool = rise (startAt w (suc k)) (map (startAt w) (range (suc (suc k)) m)) n in
     let same : k + suc m ≡ suc k + m = omega arith in
     ap (startAt w) same ∙ rise-last w (suc k) m n (and-right up rest e)
 
@@ -142,7 +130,7 @@ module _ (w : List ℕ) (yes : isTimetable w ≡ true) where
   unfolding chained
   start-first = eqb-true (startAt w 0) 0 (and-left (zeroed w) (rising w) is-chained)
 
-  rises : rise (startAt w 0) (map (startAt w) (numbersFrom 1 (tripCount w))) (stopCount w) ≡ true
+  rises : rise (startAt w 0) (map (startAt w) (range 1 (tripCount w))) (stopCount w) ≡ true
   unfolding chained
   rises = rw start-first (and-right (zeroed w) (rising w) is-chained)
 

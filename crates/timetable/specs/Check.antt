@@ -1,48 +1,31 @@
 -- How the code decides question 9, part by part. No reader of the promise needs this file: `decided` shows that the
 -- parts come to `isTimetable`.
 use mathlib.Core.Path.{_≡_, refl, sym, ap, _∙_}
-use mathlib.Core.Bool.{Bool, true, false, not, cond, _&&_}
-use mathlib.Core.List.{List, [], _∷_, _++_, map}
-use Prim.Native.Nat.{ℕ, zero, suc, _+_, _-_, _*_, _≤_, _<_}
+use mathlib.Core.Bool.{Bool, true, _&&_}
+use mathlib.Core.List.{List, [], _∷_, map}
+use Prim.Native.Nat.{ℕ, zero, suc, _+_, _-_, _≤_, _<_}
 use native.Mathlib.Nat.{sub-zero}
 use native.Mathlib.Numerals.{add-one}
 use native.Mathlib.Omega.{arith}
-use borrow.Author.Tests.{le-leb, lt-leb, eq-eqb, ne-eqb, leb-true, eqb-true, not-true, not-false}
-use lib.Dec.{leb, ltb, eqb}
-use lib.ListN.{length, getD, length-append, length-map}
-use Rattle.questions.specs.Question.{and-left, and-right, and-both, and-false, same-tests}
+use borrow.Author.Tests.{leb-true, eqb-true}
+use lib.Dec.{leb, eqb}
+use lib.ListN.{length, length-append, length-map}
+use Rattle.lists.specs.Lists.{range}
+use Rattle.questions.specs.Question.{and-left, and-right, and-both, same-tests}
 use Rattle.timetable.specs.Timetable.{
-    Station,
-    Stop,
-    Trip,
-    Timetable,
-    stopsOf,
-    listed,
-    leaves,
-    ends,
-    follows,
-    runs,
-    validTrip,
-    validStation,
-    validStations,
-    validTrips,
-    counted,
-    valid
+  Station,
+  Stop,
+  Trip,
+  stopsOf,
+  listed,
+  leaves,
+  follows,
+  validStations,
+  validTrips,
+  counted,
+  valid,
 }
-use Rattle.timetable.specs.Words.{
-    stationCount,
-    tripCount,
-    stopCount,
-    numbersFrom,
-    stationAt,
-    stopAt,
-    startAt,
-    tripAt,
-    timetableOf,
-    rise,
-    chained,
-    isTimetable
-}
+use Rattle.timetable.specs.Words.{stationCount, tripCount, stopCount, stationAt, stopAt, startAt, tripAt, timetableOf, rise, chained, isTimetable}
 
 -- a trip's first stop
 unfoldable pub begins : ℕ → Stop → Bool
@@ -52,18 +35,22 @@ begins n s = listed n s && eqb (s .arrive) 0 && leaves s
 unfoldable pub passes : ℕ → Stop → Stop → Bool
 passes n b s = follows n b s && leb (s .arrive) (s .depart) && leaves s
 
--- the stations, stops and trips from one number up to another
-unfoldable pub stationsAt : List ℕ → ℕ → ℕ → List Station
-stationsAt w i n = map (stationAt w) (numbersFrom i (n - i))
+-- what f gives for the numbers from i up to n
+unfoldable pub between : {A : Type 0} → (ℕ → A) → ℕ → ℕ → List A
+between f i n = map f (range i (n - i))
 
-unfoldable pub stopsAt : List ℕ → ℕ → ℕ → List Stop
-stopsAt w i n = map (stopAt w) (numbersFrom i (n - i))
+-- the stations, stops, trips and starts from one number up to another
+abbrev pub stationsAt : List ℕ → ℕ → ℕ → List Station
+stationsAt w = between (stationAt w)
 
-unfoldable pub tripsAt : List ℕ → ℕ → ℕ → List Trip
-tripsAt w i n = map (tripAt w) (numbersFrom i (n - i))
+abbrev pub stopsAt : List ℕ → ℕ → ℕ → List Stop
+stopsAt w = between (stopAt w)
 
-unfoldable pub startsAt : List ℕ → ℕ → ℕ → List ℕ
-startsAt w i n = map (startAt w) (numbersFrom i (n - i))
+abbrev pub tripsAt : List ℕ → ℕ → ℕ → List Trip
+tripsAt w = between (tripAt w)
+
+abbrev pub startsAt : List ℕ → ℕ → ℕ → List ℕ
+startsAt w = between (startAt w)
 
 -- the trips from number k on, the first of which begins at stop `first`
 unfoldable pub tripsTest : List ℕ → (n stops k first trips : ℕ) → Bool
@@ -71,69 +58,39 @@ tripsTest w n stops k first trips =
     rise first (startsAt w (k + 1) (trips + 1)) stops && validTrips n (tripsAt w k trips)
 
 -- ---- one more at a time
-numbers-more : (i n : ℕ) → i < n → numbersFrom i (n - i) ≡ i ∷ numbersFrom (i + 1) (n - (i + 1))
-numbers-more i n h =
-    let some : n - i ≡ suc (n - (i + 1)) = omega arith in
-    rw (some, add-one i)
+module _ {A : Type 0} (f : ℕ → A) (i n : ℕ) where
+  pub between-more : i < n → between f i n ≡ f i ∷ between f (i + 1) n
+  unfolding between
+  between-more h =
+      let some : n - i ≡ suc (n - (i + 1)) = omega arith in
+      rw (some, add-one i)
 
-numbers-none : (i n : ℕ) → n ≤ i → numbersFrom i (n - i) ≡ []
-numbers-none i n h =
-    let none : n - i ≡ 0 = omega arith in
-    rw none
-
-module _ (w : List ℕ) (i n : ℕ) where
-  pub stations-more : i < n → stationsAt w i n ≡ stationAt w i ∷ stationsAt w (i + 1) n
-  unfolding stationsAt
-  stations-more h = ap (map (stationAt w)) (numbers-more i n h)
-
-  pub stations-none : n ≤ i → stationsAt w i n ≡ []
-  unfolding stationsAt
-  stations-none h = ap (map (stationAt w)) (numbers-none i n h)
-
-  pub stops-more : i < n → stopsAt w i n ≡ stopAt w i ∷ stopsAt w (i + 1) n
-  unfolding stopsAt
-  stops-more h = ap (map (stopAt w)) (numbers-more i n h)
-
-  pub stops-none : n ≤ i → stopsAt w i n ≡ []
-  unfolding stopsAt
-  stops-none h = ap (map (stopAt w)) (numbers-none i n h)
-
-  pub trips-more : i < n → tripsAt w i n ≡ tripAt w i ∷ tripsAt w (i + 1) n
-  unfolding tripsAt
-  trips-more h = ap (map (tripAt w)) (numbers-more i n h)
-
-  pub trips-none : n ≤ i → tripsAt w i n ≡ []
-  unfolding tripsAt
-  trips-none h = ap (map (tripAt w)) (numbers-none i n h)
-
-  pub starts-more : i < n → startsAt w i n ≡ startAt w i ∷ startsAt w (i + 1) n
-  unfolding startsAt
-  starts-more h = ap (map (startAt w)) (numbers-more i n h)
-
-  pub starts-none : n ≤ i → startsAt w i n ≡ []
-  unfolding startsAt
-  starts-none h = ap (map (startAt w)) (numbers-none i n h)
+  pub between-none : n ≤ i → between f i n ≡ []
+  unfolding between
+  between-none h =
+      let none : n - i ≡ 0 = omega arith in
+      rw none
 
 -- ---- the parts come to question 9
-pub length-numbersFrom : (i n : ℕ) → length (numbersFrom i n) ≡ n
-length-numbersFrom i zero = refl
-length-numbersFrom i (suc n) = ap suc (length-numbersFrom (suc i) n)
+pub length-range : (i n : ℕ) → length (range i n) ≡ n
+length-range i zero = refl
+length-range i (suc n) = ap suc (length-range (suc i) n)
 
 pub length-trip : (w : List ℕ) (k : ℕ) → length (tripAt w k) ≡ startAt w (suc k) - startAt w k
 unfolding tripAt
 length-trip w k =
-    length-map (numbersFrom (startAt w k) (startAt w (k + 1) - startAt w k)) (stopAt w)
-    ∙ length-numbersFrom (startAt w k) (startAt w (k + 1) - startAt w k)
+    length-map (range (startAt w k) (startAt w (k + 1) - startAt w k)) (stopAt w)
+    ∙ length-range (startAt w k) (startAt w (k + 1) - startAt w k)
     ∙ ap (λ j. startAt w j - startAt w k) (add-one k)
 
 -- trips that stand one behind the other have as many stops as lie between the first's beginning and the last's end
-stops-between : (w : List ℕ) (k m n : ℕ) → rise (startAt w k) (map (startAt w) (numbersFrom (suc k) m)) n ≡ true
-    → startAt w k + length (stopsOf (map (tripAt w) (numbersFrom k m))) ≡ n
+stops-between : (w : List ℕ) (k m n : ℕ) → rise (startAt w k) (map (startAt w) (range (suc k) m)) n ≡ true
+    → startAt w k + length (stopsOf (map (tripAt w) (range k m))) ≡ n
 unfolding rise
 stops-between w k zero n e = omega (arith, eqb-true (startAt w k) n e)
 stops-between w k (suc m) n e =
     let up : Bool = leb (startAt w k) (startAt w (suc k)) in
-    let rest : Bool = rise (startAt w (suc k)) (map (startAt w) (numbersFrom (suc (suc k)) m)) n in
+    let rest : Bool = rise (startAt w (suc k)) (map (startAt w) (range (suc (suc k)) m)) n in
     let later = stops-between w (suc k) m n (and-right up rest e) in
     simp length-append
     (omega (arith, later, length-trip w k, leb-true (startAt w k) (startAt w (suc k)) (and-left up rest e)))
@@ -155,17 +112,17 @@ module _ (w : List ℕ) where
   pub length-stations : length ((timetableOf w) .stations) ≡ stationCount w
   unfolding timetableOf
   length-stations =
-      length-map (numbersFrom 0 (stationCount w)) (stationAt w) ∙ length-numbersFrom 0 (stationCount w)
+      length-map (range 0 (stationCount w)) (stationAt w) ∙ length-range 0 (stationCount w)
 
   pub length-trips : length ((timetableOf w) .trips) ≡ tripCount w
   unfolding timetableOf
-  length-trips = length-map (numbersFrom 0 (tripCount w)) (tripAt w) ∙ length-numbersFrom 0 (tripCount w)
+  length-trips = length-map (range 0 (tripCount w)) (tripAt w) ∙ length-range 0 (tripCount w)
 
   abbrev pub zeroed : Bool
   zeroed = eqb (startAt w 0) 0
 
   abbrev pub rising : Bool
-  rising = rise 0 (map (startAt w) (numbersFrom 1 (tripCount w))) (stopCount w)
+  rising = rise 0 (map (startAt w) (range 1 (tripCount w))) (stopCount w)
 
   pub length-stops : zeroed ≡ true → rising ≡ true → length (stopsOf ((timetableOf w) .trips)) ≡ stopCount w
   unfolding timetableOf
@@ -178,21 +135,21 @@ module _ (w : List ℕ) where
   is-counted z r = rw (length-stations, length-trips, length-stops z r)
 
   stations-same : validStations ((timetableOf w) .stations) ≡ stationsTest
-  unfolding timetableOf stationsAt
+  unfolding timetableOf between
   stations-same = rw sub-zero
 
   abbrev tripsValid : Bool
   tripsValid = validTrips (stationCount w) (tripsAt w 0 (tripCount w))
 
   trips-there : (timetableOf w) .trips ≡ tripsAt w 0 (tripCount w)
-  unfolding timetableOf tripsAt
+  unfolding timetableOf between
   trips-there = rw sub-zero
 
   trips-same : validTrips (length ((timetableOf w) .stations)) ((timetableOf w) .trips) ≡ tripsValid
   trips-same = rw (length-stations, trips-there)
 
   test-same : allTripsTest ≡ (rising && tripsValid)
-  unfolding tripsTest startsAt
+  unfolding tripsTest between
   test-same =
       let one : tripCount w + 1 - (0 + 1) ≡ tripCount w = omega arith in
       rw one

@@ -1,8 +1,7 @@
 -- The words of stations, stops and starts, one more at a time.
 use mathlib.Core.Path.{_≡_, refl, sym, ap, _∙_}
-use mathlib.Core.List.{List, [], _∷_, _++_, append-assoc, append-nil}
-use Prim.Native.Nat.{ℕ, zero, suc, _+_, _*_}
-use native.Mathlib.Nat.{add-assoc}
+use mathlib.Core.List.{List, [], _∷_, _++_, append-assoc}
+use Prim.Native.Nat.{ℕ, _+_, _*_}
 use native.Mathlib.Omega.{arith}
 use lib.ListN.{length, length-append}
 use Rattle.timetable.specs.Timetable.{Station, Stop, Trip, stopsOf}
@@ -44,7 +43,7 @@ unfolding startWords
 startWords-append k [] t = refl
 startWords-append k (u ∷ a) t =
     let sum : k + length u + length (stopsOf a ++ t) ≡ k + length (u ++ stopsOf a ++ t) =
-        simp length-append (omega arith) in
+    simp length-append (omega arith) in
     ap (λ l. k ∷ l) (rw sum at (startWords-append (k + length u) a t))
 
 pub start-first : (k : ℕ) (l : List Trip) → (ws : List ℕ) × (startWords k l ≡ k ∷ ws)

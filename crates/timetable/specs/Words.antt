@@ -1,10 +1,11 @@
 -- The words of a timetable (docs/LAYOUT.md): S, T, N; change minutes and penalty of each station; station, arrive,
 -- depart and ride penalty of each stop, trip by trip; the place of each trip's first stop among all stops, and N.
-use mathlib.Core.Bool.{Bool, true, false, cond, _&&_}
+use mathlib.Core.Bool.{Bool, _&&_}
 use mathlib.Core.List.{List, [], _∷_, _++_, map}
 use Prim.Native.Nat.{ℕ, zero, suc, _+_, _-_, _*_}
-use lib.Dec.{leb, ltb, eqb}
+use lib.Dec.{leb, eqb}
 use lib.ListN.{length, getD}
+use Rattle.lists.specs.Lists.{range}
 use Rattle.questions.specs.Question.{ask, firstNo}
 use Rattle.timetable.specs.Timetable.{Station, Stop, Trip, Timetable, stopsOf, valid}
 
@@ -29,11 +30,6 @@ words t =
     ∷ (stationWords (t .stations) ++ stopWords (stopsOf (t .trips)) ++ startWords 0 (t .trips))
 
 -- ---- the timetable that words spell
--- the numbers from k on, n of them
-abbrev pub numbersFrom : ℕ → ℕ → List ℕ
-numbersFrom k zero = []
-numbersFrom k (suc n) = k ∷ numbersFrom (suc k) n
-
 abbrev pub stationCount : List ℕ → ℕ
 stationCount w = getD w 0 0
 
@@ -54,10 +50,10 @@ stopPlace w i = 3 + 2 * stationCount w + 4 * i
 unfoldable pub stopAt : List ℕ → ℕ → Stop
 stopAt w i =
     record {
-        station = getD w (stopPlace w i) 0;
-        arrive = getD w (stopPlace w i + 1) 0;
-        depart = getD w (stopPlace w i + 2) 0;
-        points = getD w (stopPlace w i + 3) 0
+      station = getD w (stopPlace w i) 0;
+      arrive = getD w (stopPlace w i + 1) 0;
+      depart = getD w (stopPlace w i + 2) 0;
+      points = getD w (stopPlace w i + 3) 0;
     }
 
 -- the place of trip k's first stop, trips counted from 0
@@ -65,13 +61,13 @@ unfoldable pub startAt : List ℕ → ℕ → ℕ
 startAt w k = getD w (stopPlace w (stopCount w) + k) 0
 
 unfoldable pub tripAt : List ℕ → ℕ → Trip
-tripAt w k = map (stopAt w) (numbersFrom (startAt w k) (startAt w (k + 1) - startAt w k))
+tripAt w k = map (stopAt w) (range (startAt w k) (startAt w (k + 1) - startAt w k))
 
 unfoldable pub timetableOf : List ℕ → Timetable
 timetableOf w =
     record {
-        stations = map (stationAt w) (numbersFrom 0 (stationCount w));
-        trips = map (tripAt w) (numbersFrom 0 (tripCount w))
+      stations = map (stationAt w) (range 0 (stationCount w));
+      trips = map (tripAt w) (range 0 (tripCount w));
     }
 
 -- ---- question 9, as it is decided on words
@@ -82,7 +78,7 @@ rise a (b ∷ l) n = leb a b && rise b l n
 
 -- the trips begin at stop 0, each where the one before ends, and the last ends with the last stop
 unfoldable pub chained : List ℕ → Bool
-chained w = eqb (startAt w 0) 0 && rise 0 (map (startAt w) (numbersFrom 1 (tripCount w))) (stopCount w)
+chained w = eqb (startAt w 0) 0 && rise 0 (map (startAt w) (range 1 (tripCount w))) (stopCount w)
 
 -- "Could the timetable words come from an accepted text? 9" The crate accepted proves that this is what it decides.
 unfoldable pub isTimetable : List ℕ → Bool

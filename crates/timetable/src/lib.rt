@@ -1,15 +1,44 @@
 // The abstract timetable, the words that hold it, and question 9: could these words come from an accepted text?
 ghost use mathlib.Core.Path.{_≡_};
-ghost use mathlib.Core.List.{map};
-ghost use Prim.Native.Nat.{_+_, _-_, _*_, _≤_, _<_};
-ghost use lib.ListN.{length, getD};
+ghost use Prim.Native.Nat.{_+_, _*_, _≤_, _<_};
+ghost use lib.ListN.{length};
 ghost use Rattle.timetable.specs.Timetable.{
-    validStation, listed, leaves, ends, follows, runs, validTrip, validStations,
+  validStation,
+  listed,
+  leaves,
+  ends,
+  follows,
+  runs,
+  validTrip,
+  validStations,
 };
 ghost use Rattle.timetable.specs.Words.{
-    stationCount, stopCount, stationAt, stopAt, startAt, isTimetable, timetableNumber,
+  stationCount,
+  stopCount,
+  stationAt,
+  stopAt,
+  startAt,
+  isTimetable,
+  timetableNumber,
 };
 ghost use Rattle.timetable.specs.Check.{begins, passes, stationsAt, stopsAt, tripsTest};
+
+// The words that every lent timetable slice has at least.
+pub const WORDS_LEAST: usize = 16384;
+
+pub const STATIONS_MOST: u32 = 64;
+
+pub const TRIPS_MOST: u32 = 256;
+
+pub const STOPS_MOST: u32 = 2048;
+
+const CHANGE_MINUTES_MOST: u32 = 240;
+
+const CHANGE_PENALTY_MOST: u32 = 1000;
+
+const LAST_MINUTE: u32 = 2879;
+
+const RIDE_PENALTY_MOST: u32 = 100;
 
 // A station: what a change there takes and costs.
 pub struct Station {
@@ -42,9 +71,7 @@ pub fn station_at(words: &[u16], i: usize) -> Station
 
 // Stop i, counted from 0 over all trips.
 pub fn stop_at(words: &[u16], i: usize) -> Stop
-    requires {
-        ⌜ (16384 ≤ length (now words)) × (stationCount (now words) ≤ 64) × (i < 2048) ⌝
-    }
+    requires { ⌜ (16384 ≤ length (now words)) × (stationCount (now words) ≤ 64) × (i < 2048) ⌝ }
     ensures { λ r. ⌜ r ≡ stopAt (now (words .entry)) i ⌝ }
 {
     let place = 3 + 2 * words::word(words, 0) as usize + 4 * i;
@@ -58,12 +85,10 @@ pub fn stop_at(words: &[u16], i: usize) -> Stop
 
 // The place of the first stop of trip k, counted from 0, among all stops; of the trip past the last, their number.
 pub fn start_at(words: &[u16], k: usize) -> usize
-    requires {
-        ⌜ (16384 ≤ length (now words))
-            × (stationCount (now words) ≤ 64)
-            × (stopCount (now words) ≤ 2048)
-            × (k ≤ 256) ⌝
-    }
+    requires { ⌜ (16384 ≤ length (now words))
+        × (stationCount (now words) ≤ 64)
+        × (stopCount (now words) ≤ 2048)
+        × (k ≤ 256) ⌝ }
     ensures { λ r. ⌜ (r ≡ startAt (now (words .entry)) k) × (r < 65536) ⌝ }
 {
     let stops = 3 + 2 * words::word(words, 0) as usize;
@@ -76,13 +101,13 @@ pub fn start_at(words: &[u16], k: usize) -> usize
 fn station_is_valid(s: Station) -> bool
     ensures { λ r. ⌜ r ≡ validStation s ⌝ }
 {
-    if 240 < s.minutes {
+    if CHANGE_MINUTES_MOST < s.minutes {
         return false;
     }
     if s.points < 1 {
         return false;
     }
-    s.points <= 1000
+    s.points <= CHANGE_PENALTY_MOST
 }
 
 // The stop's station is one of n.
@@ -98,10 +123,10 @@ fn is_listed(n: u32, s: Stop) -> bool
 fn stop_leaves(s: Stop) -> bool
     ensures { λ r. ⌜ r ≡ leaves s ⌝ }
 {
-    if 2879 < s.depart {
+    if LAST_MINUTE < s.depart {
         return false;
     }
-    s.points <= 100
+    s.points <= RIDE_PENALTY_MOST
 }
 
 fn stop_ends(s: Stop) -> bool
@@ -126,7 +151,7 @@ fn stop_follows(n: u32, b: Stop, s: Stop) -> bool
     if s.arrive <= b.depart {
         return false;
     }
-    s.arrive <= 2879
+    s.arrive <= LAST_MINUTE
 }
 
 // A trip's first stop: listed, with no arrival, and left again.
@@ -157,12 +182,8 @@ fn stop_passes(n: u32, b: Stop, s: Stop) -> bool
 
 // The stops behind the first of a trip, which stands at place first, to the trip's end.
 fn trip_runs(words: &[u16], n: u32, first: usize, end: usize) -> bool
-    requires {
-        ⌜ (16384 ≤ length (now words)) × (stationCount (now words) ≤ 64) × (first < end) × (end ≤ 2048) ⌝
-    }
-    ensures {
-        λ r. ⌜ r ≡ runs n (stopAt (now (words .entry)) first) (stopsAt (now (words .entry)) (first + 1) end) ⌝
-    }
+    requires { ⌜ (16384 ≤ length (now words)) × (stationCount (now words) ≤ 64) × (first < end) × (end ≤ 2048) ⌝ }
+    ensures { λ r. ⌜ r ≡ runs n (stopAt (now (words .entry)) first) (stopsAt (now (words .entry)) (first + 1) end) ⌝ }
 {
     let mut before = stop_at(words, first);
     let mut i = first + 1;
@@ -215,14 +236,12 @@ fn stations_are_valid(words: &[u16], n: usize) -> bool
 
 // The trips stand one behind the other, from stop 0 to the last of all stops, and each is valid.
 fn trips_are_valid(words: &[u16], n: u32, trips: usize, stops: usize) -> bool
-    requires {
-        ⌜ (16384 ≤ length (now words))
-            × (stationCount (now words) ≤ 64)
-            × (stopCount (now words) ≤ 2048)
-            × (trips ≤ 256)
-            × (stops ≤ 2048)
-            × (startAt (now words) 0 ≡ 0) ⌝
-    }
+    requires { ⌜ (16384 ≤ length (now words))
+        × (stationCount (now words) ≤ 64)
+        × (stopCount (now words) ≤ 2048)
+        × (trips ≤ 256)
+        × (stops ≤ 2048)
+        × (startAt (now words) 0 ≡ 0) ⌝ }
     ensures { λ r. ⌜ r ≡ tripsTest (now (words .entry)) n stops 0 0 trips ⌝ }
 {
     let mut first = 0;
@@ -253,15 +272,15 @@ pub fn is_timetable(words: &[u16]) -> bool
     if stations < 1 {
         return false;
     }
-    if 64 < stations {
+    if STATIONS_MOST < stations {
         return false;
     }
     let trips = words::word(words, 1);
-    if 256 < trips {
+    if TRIPS_MOST < trips {
         return false;
     }
     let stops = words::word(words, 2);
-    if 2048 < stops {
+    if STOPS_MOST < stops {
         return false;
     }
     if start_at(words, 0) != 0 {
@@ -277,7 +296,7 @@ pub fn is_timetable(words: &[u16]) -> bool
 pub fn timetable_number(words: &[u16]) -> u32
     ensures { λ r. ⌜ r ≡ timetableNumber (now (words .entry)) ⌝ }
 {
-    if words.len() < 16384 {
+    if words.len() < WORDS_LEAST {
         return 8;
     }
     if is_timetable(words) {

@@ -2,12 +2,24 @@
 -- All of this speaks of lists of numbers, and so of words of any width.
 use mathlib.Core.Path.{_≡_, refl, sym, ap, _∙_}
 use mathlib.Core.List.{List, [], _∷_, _++_, append-assoc, append-nil}
-use Prim.Native.Nat.{ℕ, zero, suc, _+_, _≤_, _<_}
+use Prim.Native.Nat.{ℕ, suc, _+_, _≤_, _<_}
 use native.Mathlib.Nat.{add-zero, zero-add}
 use native.Mathlib.Numerals.{add-one}
 use native.Mathlib.Omega.{arith}
-use lib.ListN.{length, take, drop, set, getD, length-append, length-take, length-drop, take-append-drop, List·getD-append}
-use lib.Seq.{drop-cons, set-at, take-suc, take-length, take-at, drop-at, drop-drop, length-take-le, drop-set-lt}
+use lib.ListN.{
+  length,
+  take,
+  drop,
+  set,
+  getD,
+  length-append,
+  length-take,
+  length-drop,
+  take-append-drop,
+  List·getD-append,
+}
+use lib.Seq.{drop-cons, set-at, take-suc, take-at, drop-at, drop-drop, length-take-le, drop-set-lt}
+use lib.Seq.{take-append-le, take-take}
 
 -- `old` with `ws` in the place of the words from `at` on
 unfoldable pub put : ℕ → List ℕ → List ℕ → List ℕ
@@ -29,12 +41,12 @@ put-more at n ws old w e h =
     let long : length (take at old ++ ws) ≡ at + n = simp (length-append, length-take) (omega arith) in
     let past : at + length (ws ++ (w ∷ [])) ≡ suc (at + n) = simp length-append (omega arith) in
     rw (
-        e,
-        drop-cons old (at + n) 0 h,
-        set-at _ _ _ w (at + n) long,
-        past,
-        ← append-assoc,
-        append-assoc _ (w ∷ []) _
+      e,
+      drop-cons old (at + n) 0 h,
+      set-at _ _ _ w (at + n) long,
+      past,
+      ← append-assoc,
+      append-assoc _ (w ∷ []) _,
     )
 
 pub put-next : (n : ℕ) (ws old : List ℕ) (w : ℕ) → length ws ≡ n → n < length old
@@ -68,14 +80,33 @@ put-append at n a b old e h =
     let long : length (take at old ++ a) ≡ at + n = simp (length-append, length-take) (omega arith) in
     let past : at + length (a ++ b) ≡ at + n + length b = simp length-append (omega arith) in
     rw (
-        e,
-        take-at (take at old ++ a) (drop (at + n) old) (at + n) long,
-        ← drop-drop (length b) (at + n) (take at old ++ a ++ drop (at + n) old),
-        drop-at (take at old ++ a) (drop (at + n) old) (at + n) long,
-        drop-drop (length b) (at + n) old,
-        past,
-        append-assoc (take at old) a b
+      e,
+      take-at (take at old ++ a) (drop (at + n) old) (at + n) long,
+      ← drop-drop (length b) (at + n) (take at old ++ a ++ drop (at + n) old),
+      drop-at (take at old ++ a) (drop (at + n) old) (at + n) long,
+      drop-drop (length b) (at + n) old,
+      past,
+      append-assoc (take at old) a b,
     )
+
+-- words just before what was put
+pub put-before : (at n : ℕ) (a b old : List ℕ) → length a ≡ n → at + n + length b ≤ length old
+    → put at a (put (at + n) b old) ≡ put at (a ++ b) old
+unfolding put
+put-before at n a b old e h =
+    let long : length (take (at + n) old) ≡ at + n = length-take-le (at + n) old (omega arith) in
+    let front : take at (take (at + n) old ++ b ++ drop (at + n + length b) old) ≡ take at old =
+        ap (take at) (append-assoc (take (at + n) old) b (drop (at + n + length b) old))
+        ∙ take-append-le at (take (at + n) old) (b ++ drop (at + n + length b) old) (omega (arith, long))
+        ∙ take-take at (at + n) old (omega arith) in
+    let back : drop (at + n) (take (at + n) old ++ b ++ drop (at + n + length b) old)
+        ≡ b ++ drop (at + n + length b) old =
+        ap (drop (at + n)) (append-assoc (take (at + n) old) b (drop (at + n + length b) old))
+        ∙ drop-at (take (at + n) old) (b ++ drop (at + n + length b) old) (at + n) long in
+    let past : at + length (a ++ b) ≡ at + n + length b = simp length-append (omega arith) in
+    rw (e, front, back, past)
+    (sym (append-assoc (take at old ++ a) b (drop (at + n + length b) old))
+    ∙ ap (λ x. x ++ drop (at + n + length b) old) (append-assoc (take at old) a b))
 
 -- a turn of a loop that copies the first n words of src, and its end
 module _ (at n j : ℕ) (src old dst : List ℕ) (so-far : dst ≡ put at (take j src) old) where

@@ -27,6 +27,19 @@ pub fn copy(dst: &mut [u16], at: usize, src: &[u16], n: usize)
     }
 }
 
+// The same for words of 32 bits.
+pub fn copy_long(dst: &mut [u32], at: usize, src: &[u32], n: usize)
+    requires { ⌜ (at + n ≤ length (now dst)) × (n ≤ length (now src)) ⌝ }
+    ensures { λ _. ⌜ now (dst .exit) ≡ put at (take n (now (src .entry))) (now (dst .entry)) ⌝ }
+    ensures { λ _. ⌜ length (now (dst .exit)) ≡ length (now (dst .entry)) ⌝ }
+{
+    let mut j = 0;
+    while j < n {
+        dst[at + j] = src[j];
+        j += 1;
+    }
+}
+
 // Writes two numbers as words, from index at on.
 pub fn put_two(dst: &mut [u16], at: usize, a: u32, b: u32)
     requires { ⌜ (at + 2 ≤ length (now dst)) × (a < 65536) × (b < 65536) ⌝ }
@@ -60,9 +73,7 @@ pub fn put_three(dst: &mut [u16], at: usize, a: u32, b: u32, c: u32)
 
 // Writes four numbers as words, from index at on.
 pub fn put_four(dst: &mut [u16], at: usize, a: u32, b: u32, c: u32, d: u32)
-    requires {
-        ⌜ (at + 4 ≤ length (now dst)) × (a < 65536) × (b < 65536) × (c < 65536) × (d < 65536) ⌝
-    }
+    requires { ⌜ (at + 4 ≤ length (now dst)) × (a < 65536) × (b < 65536) × (c < 65536) × (d < 65536) ⌝ }
     ensures { λ _. ⌜ now (dst .exit) ≡ put at (a ∷ b ∷ c ∷ d ∷ []) (now (dst .entry)) ⌝ }
     ensures { λ _. ⌜ length (now (dst .exit)) ≡ length (now (dst .entry)) ⌝ }
 {

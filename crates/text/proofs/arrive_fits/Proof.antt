@@ -1,6 +1,5 @@
 -- Two ways out: stop 1, and the others.
-use borrow.Author.Tests.{le-leb, lt-leb, eq-eqb, ne-eqb}
-use borrow.Author.Needs.{needs}
+use borrow.Author.Tests.{ne-eqb}
 use Rattle.text.specs.Shape.{arriveFits}
 use Rattle.text.proofs.arrive_fits.Statement.{statement}
 use Rattle.text.proofs.arrive_fits.Tie as tie

@@ -1,6 +1,5 @@
 -- Four ways out, each by its tests.
-use borrow.Author.Tests.{le-leb, lt-leb, eq-eqb, ne-eqb}
-use borrow.Author.Needs.{needs}
+use borrow.Author.Tests.{le-leb, lt-leb, ne-eqb}
 use Rattle.text.specs.Shape.{departFits}
 use Rattle.text.proofs.depart_fits.Statement.{statement}
 use Rattle.text.proofs.depart_fits.Tie as tie

@@ -1,6 +1,5 @@
 -- Two ways out.
-use borrow.Author.Tests.{le-leb, lt-leb, eq-eqb, ne-eqb}
-use borrow.Author.Needs.{needs}
+use borrow.Author.Tests.{ne-eqb}
 use Rattle.text.specs.Shape.{filled}
 use Rattle.text.proofs.fill.Statement.{statement}
 use Rattle.text.proofs.fill.Tie as tie

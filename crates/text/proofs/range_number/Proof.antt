@@ -1,6 +1,6 @@
 -- Ten ways out: for each kind the values in its range and those out of it; a kind with no range last.
 use native.Mathlib.Omega.{arith}
-use lib.Dec.{leb, leb·zero}
+use lib.Dec.{leb·zero}
 use borrow.Author.Tests.{le-leb, lt-leb, ne-eqb}
 use Rattle.text.specs.Range.{rangeNumber, inRange}
 use Rattle.text.proofs.range_number.Statement.{statement}

@@ -1,12 +1,12 @@
 -- Six ways out, each a law of the shape.
 use borrow.Author.Needs.{needs}
 use Rattle.text.specs.Shape.{
-    trip-shapeless,
-    stop-shapeless,
-    station-shapeless,
-    arrive-shapeless,
-    depart-shapeless,
-    stop-shaped
+  trip-shapeless,
+  stop-shapeless,
+  station-shapeless,
+  arrive-shapeless,
+  depart-shapeless,
+  stop-shaped,
 }
 use Rattle.text.proofs.stop_line.Statement.{statement}
 use Rattle.text.proofs.stop_line.Tie as tie

@@ -5,11 +5,11 @@ use borrow.Author.Needs.{needs}
 use Rattle.words.proofs.word.Statement.{statement}
 use Rattle.words.proofs.word.Tie as tie
 
-cast-result : tie.Need-cast-result
-cast-result c = omega (arith, c .shared-slice-known .given (c .before .args .i))
+fits : tie.Need-cast-result
+fits c = omega (arith, c .shared-slice-known .given (c .before .args .i))
 
-returns : tie.Need-returns
-returns c = (refl, omega (arith, c .shared-slice-known .given (c .before .args .i)))
+is-word : tie.Need-returns
+is-word c = (refl, omega (arith, c .shared-slice-known .given (c .before .args .i)))
 
 pub word-spec : {M : Type 1} → statement M
-word-spec = tie.close (tie.spec (λ c. search needs) (λ c. search needs) cast-result returns)
+word-spec = tie.close (tie.spec (λ c. search needs) (λ c. search needs) fits is-word)

@@ -1,0 +1,5 @@
+pub mod ArrayLaws
+pub mod TripLaws
+pub mod OrderLaws
+pub mod JoinLaws
+pub mod GroupLaws

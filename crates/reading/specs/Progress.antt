@@ -1,0 +1,94 @@
+-- What the code knows of a draft: counts, and the station and departure of the stop before. The questions of Draft can
+-- be answered from that alone, as `same-number` shows; no reader of the promise needs this file.
+use mathlib.Core.Path.{_≡_, refl, sym, ap, _∙_}
+use mathlib.Core.Bool.{Bool, true, false, not, cond, _&&_, _||_}
+use mathlib.Core.List.{List, [], _∷_, _++_}
+use Prim.Native.Nat.{ℕ, suc, _+_}
+use lib.Dec.{leb, ltb, eqb, eqb·suc-zero}
+use lib.ListN.{length}
+use Rattle.questions.specs.Question.{ask, firstNo}
+use Rattle.text.specs.declared.Line.{Line}
+use Rattle.text.specs.declared.Line.the-variants.{Station as StationIn, Stop as StopIn, Shapeless}
+use Rattle.text.specs.declared.StationLine.{StationLine}
+use Rattle.text.specs.declared.StopLine.{StopLine}
+use Rattle.timetable.specs.Timetable.{Stop, Trip, stationsMost, tripsMost, stopsMost}
+use Rattle.reading.specs.Draft.{
+    Draft,
+    final,
+    stopsIn,
+    stationInRange,
+    stationNumber,
+    stopInRange,
+    comesAfter,
+    goesOn,
+    stopFits,
+    stopNumber,
+    lineNumber
+}
+use Rattle.reading.specs.declared.Progress.{Progress}
+
+abbrev pub progress : Draft → Progress
+progress d =
+    record {
+      stations = length (d .stations);
+      trips = length (d .trips);
+      stops = length (stopsIn d);
+      begun = length (d .begun);
+      station = (final (d .begun)) .station;
+      depart = (final (d .begun)) .depart;
+    }
+
+abbrev pub placeOfStation : Progress → StationLine → Bool
+placeOfStation p l = eqb (p .stops) 0 && eqb (l .number) (p .stations + 1)
+
+abbrev pub roomForStation : Progress → Bool
+roomForStation p = ltb (p .stations) stationsMost
+
+unfoldable pub stationNumberAt : Progress → StationLine → ℕ
+stationNumberAt p l =
+    firstNo (ask 3 (stationInRange l) ∷ ask 4 (placeOfStation p l) ∷ ask 5 (roomForStation p) ∷ [])
+
+abbrev pub placeOfStop : Progress → StopLine → Bool
+placeOfStop p l = eqb (l .trip) (p .trips + 1) && eqb (l .stop) (p .begun + 1)
+
+abbrev pub roomForStop : Progress → Bool
+roomForStop p = ltb (p .trips) tripsMost && ltb (p .stops) stopsMost
+
+unfoldable pub stopFitsAt : Progress → StopLine → Bool
+stopFitsAt p l =
+    leb 1 (l .station)
+    && leb (l .station) (p .stations)
+    && (eqb (p .begun) 0
+        || not (eqb (l .station) (p .station))
+        && ltb (p .depart) (l .arrive)
+        && (l .last || leb (l .arrive) (l .depart)))
+
+unfoldable pub stopNumberAt : Progress → StopLine → ℕ
+stopNumberAt p l =
+    firstNo
+    (ask 3 (stopInRange l) ∷ ask 4 (placeOfStop p l) ∷ ask 5 (roomForStop p) ∷ ask 6 (stopFitsAt p l) ∷ [])
+
+abbrev pub lineNumberAt : Progress → Line → ℕ
+lineNumberAt p (StationIn l) = stationNumberAt p l
+lineNumberAt p (StopIn l) = stopNumberAt p l
+lineNumberAt p Shapeless = 2
+
+-- ---- the answers are the same
+same-fits : (d : Draft) (l : StopLine) → stopFits d l ≡ stopFitsAt (progress d) l
+unfolding stopFits stopFitsAt comesAfter
+same-fits d l = ap (λ t. leb 1 (l .station) && leb (l .station) (length (d .stations)) && t) (by-begun (d .begun))
+  where
+    by-begun : (b : Trip)
+        → goesOn b l
+        ≡ (eqb (length b) 0
+            || not (eqb (l .station) ((final b) .station))
+            && ltb ((final b) .depart) (l .arrive)
+            && (l .last || leb (l .arrive) (l .depart)))
+    by-begun [] = refl
+    by-begun (s ∷ r) = rw (eqb·suc-zero (length r))
+
+pub same-number : (d : Draft) (line : Line) → lineNumber d line ≡ lineNumberAt (progress d) line
+unfolding stationNumber stationNumberAt stopNumber stopNumberAt
+same-number d (StationIn l) = refl
+same-number d (StopIn l) = rw (same-fits d l)
+same-number d Shapeless = refl
