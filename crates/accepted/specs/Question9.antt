@@ -18,7 +18,8 @@ use Rattle.timetable.specs.Timetable.{Timetable, valid}
 use Rattle.timetable.specs.Words.{words, timetableOf, isTimetable}
 use Rattle.reading.specs.declared.Reply.{Reply}
 use Rattle.reading.specs.declared.Reply.the-variants.{Refused as ReplyRefused}
-use Rattle.reading.specs.Draft.{Draft, blank, progress, lineNumber, withLine}
+use Rattle.reading.specs.Draft.{Draft, blank, withLine}
+use Rattle.reading.specs.Progress.{progress, lineNumberAt}
 use Rattle.reading.specs.Reading.{Outcome, Accepted, Refused, ended, readFrom, textMost, readLines, reading}
 use Rattle.reading.specs.Reading.{slicesLeast, replyTo, readReply, readWords, numberOf}
 use Rattle.accepted.specs.Lists.{both, Below}
@@ -139,7 +140,7 @@ from-numbered d line [] = end-numbered d line
 from-numbered d line (s ∷ []) =
     either-numbered (eqb (length s) 0) (ended d line) (Refused 2 line) (end-numbered d line) (omega arith)
 from-numbered d line (s ∷ u ∷ l) =
-    let number = lineNumber (progress d) (shapeOf s) in
+    let number = lineNumberAt (progress d) (shapeOf s) in
     let after = withLine d (shapeOf s) in
     subst Numbered (sym (read-more d line s u l))
     (line-numbered number line (readFrom after (line + 1) (u ∷ l)) (from-numbered after (line + 1) (u ∷ l)))
