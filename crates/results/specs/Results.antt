@@ -65,6 +65,7 @@ module _ {X : Type 0} (m : Measure X) where
   abbrev pub shown : List X → X → Bool
   shown l e = not (any (ahead e) l)
 
+  -- the entries of those that are shown, rising: two of one cost and key are one entry
   unfoldable pub entries : List X → List (List ℕ)
   entries l = sort (map entry (filter (shown l) l))
 
