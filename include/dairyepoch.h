@@ -5,6 +5,7 @@
  * call ends, whatever the lent bytes and words are: the reply tells what is wrong with them. The caller sees to one
  * thing only: a pointer and the length after it describe memory that is there, aligned for its type, and the slices
  * lent to one call do not overlap. Lengths count bytes for a text and words for a table.
+ * A pointer may be null where its length is 0.
  *
  * A reply is 64 bits. The upper 32 are its number: 0 for success, or else the number of the first question that the
  * call had to answer with no. The lower 32 are a count on success; on a refusal they are the line for the numbers 1

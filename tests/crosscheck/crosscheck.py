@@ -224,7 +224,8 @@ def table(rows):
 
 def as_timetable(stations, trips):
     listed = " ∷ ".join(["station %d %d" % s for s in stations] + ["[]"])
-    runs = " ∷ ".join(["(%s)" % " ∷ ".join(["stop %d %d %d %d" % tuple(s) for s in trip] + ["[]"]) for trip in trips] + ["[]"])
+    stops = [["stop %d %d %d %d" % tuple(s) for s in trip] for trip in trips]
+    runs = " ∷ ".join(["(%s)" % " ∷ ".join(trip + ["[]"]) for trip in stops] + ["[]"])
     return "record { stations = %s; trips = %s }" % (listed, runs)
 
 
@@ -321,7 +322,8 @@ def main():
         ties = {rule: ties.get(rule, 0) + n for rule, n in settled.items()}
         text.append("%s : Timetable\n%s = %s\n" % (name, name, timetable))
         for i, (call, value) in enumerate(claims):
-            text.append("%s-%d : %s ≡ %s\nunfolding %s %s\n%s-%d = refl\n" % (name, i, call, value, name, OPENED, name, i))
+            equation = "%s-%d : %s ≡ %s\nunfolding %s %s\n%s-%d = refl\n"
+            text.append(equation % (name, i, call, value, name, OPENED, name, i))
             where["%s-%d" % (name, i)] = (call, value)
     with tempfile.TemporaryDirectory() as scratch:
         kept = rests_on(root, CRATES)
@@ -332,8 +334,12 @@ def main():
             listed.writelines(kept + ["equations: %s\n" % " ".join(names)])
         os.makedirs(os.path.join(scratch, "crates", "equations", "src"))
         os.makedirs(os.path.join(scratch, "crates", "equations", "specs"))
-        for path, content in (("src/lib.rt", "// The cross-check's equations.\n"), ("specs/Lib.antt", "pub mod Equations\n"),
-                              ("specs/Equations.antt", "\n".join(text))):
+        files = {
+            "src/lib.rt": "// The cross-check's equations.\n",
+            "specs/Lib.antt": "pub mod Equations\n",
+            "specs/Equations.antt": "\n".join(text),
+        }
+        for path, content in files.items():
             with open(os.path.join(scratch, "crates", "equations", path), "w") as file:
                 file.write(content)
         run = subprocess.run(["rt", "check", "equations"], cwd=scratch, capture_output=True, text=True)
@@ -346,7 +352,8 @@ def main():
     rows = sum(value.count("(") for _, value in where.values())
     print("crosscheck: %d timetables, %d equations, %d rows; ties settled by departure %d, rides %d, numbers %d"
           % (len(seeds), len(where), rows, ties["departure"], ties["rides"], ties["numbers"]))
-    print("crosscheck: %d not closed by the checker: %s" % (len(wrong), "AGREED" if run.returncode == 0 else "NOT AGREED"))
+    verdict = "AGREED" if run.returncode == 0 else "NOT AGREED"
+    print("crosscheck: %d not closed by the checker: %s" % (len(wrong), verdict))
     sys.exit(run.returncode)
 
 

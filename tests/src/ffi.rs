@@ -32,3 +32,10 @@ pub fn check_timetable(timetable: &[u16]) -> Reply {
     let bits = unsafe { exported::dairyepoch_check_timetable(timetable.as_ptr(), timetable.len()) };
     Reply::from_bits(bits)
 }
+
+/// Reading with no text at all: a null pointer and length 0, as a host has it whose file did not open.
+pub fn read_nothing(timetable: &mut [u16]) -> Reply {
+    // SAFETY: the text has no byte, so that nothing is read of it; the other two are those of a slice.
+    let bits = unsafe { exported::dairyepoch_read(std::ptr::null(), 0, timetable.as_mut_ptr(), timetable.len()) };
+    Reply::from_bits(bits)
+}

@@ -36,6 +36,13 @@ fn the_words_of_m_have_a_yes() {
 }
 
 #[test]
+fn no_text_at_all_is_the_empty_text() {
+    let mut words = vec![0x5a5a; TIMETABLE_WORDS];
+    assert_eq!(ffi::read_nothing(&mut words), ffi::Reply { number: 7, beside: 1 });
+    assert!(words.iter().all(|&word| word == 0x5a5a));
+}
+
+#[test]
 fn case_k_the_empty_text() {
     Host::new(3).expect_read("", 7, 1);
 }
