@@ -58,6 +58,15 @@ uint64_t dairyepoch_read(const uint8_t *text, size_t text_len, uint16_t *timetab
  */
 uint64_t dairyepoch_check_timetable(const uint16_t *timetable, size_t timetable_len);
 
+/*
+ * Builds the line tables of timetable words (docs/LAYOUT.md) and writes them to the start of the lines slice. Words
+ * past the tables keep their values. Each of the three slices has at least 16,384 words: the timetable and the lines
+ * of 16 bits, the working space of 32; after the call the working space may hold anything. The count is the number of
+ * lines. Refusals: 8, 9.
+ */
+uint64_t dairyepoch_build_lines(const uint16_t *timetable, size_t timetable_len, uint16_t *lines, size_t lines_len,
+                                uint32_t *work, size_t work_len);
+
 #ifdef __cplusplus
 }
 #endif

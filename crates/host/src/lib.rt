@@ -4,7 +4,8 @@ ghost use mathlib.Core.Path.{_≡_};
 ghost use lib.ListN.{length};
 ghost use Rattle.timetable.specs.Words.{timetableNumber};
 ghost use Rattle.reading.specs.Reading.{readReply, readWords};
-ghost use Rattle.host.specs.Packed.{packed, packedReply};
+ghost use Rattle.tables.specs.Building.{buildReply, buildWords};
+ghost use Rattle.host.specs.Packed.{packed, packedReply, packedBuilt};
 use reading::Reply;
 
 // What 1 in the upper half of a reply counts.
@@ -45,4 +46,33 @@ pub extern "C" fn dairyepoch_check_timetable(timetable: &[u16]) -> u64
     ensures { λ r. ⌜ r ≡ packed (timetableNumber (now (timetable .entry))) 0 ⌝ }
 {
     pack(timetable::timetable_number(timetable), 0)
+}
+
+fn pack_built(reply: tables::Reply) -> u64
+    ensures { λ r. ⌜ r ≡ packedBuilt reply ⌝ }
+{
+    match reply {
+        tables::Reply::Done { count } => {
+            return pack(0, count);
+        }
+        tables::Reply::Refused { number } => {
+            return pack(number, 0);
+        }
+    }
+}
+
+// Builds the line tables of timetable words, with lent working space.
+#[no_mangle]
+pub extern "C" fn dairyepoch_build_lines(
+    timetable: &[u16],
+    lines: &mut [u16],
+    work: &mut [u32],
+) -> u64
+    ensures reply { λ r. ⌜ r
+        ≡ packedBuilt
+        (buildReply (now (timetable .entry)) (length (now (lines .entry))) (length (now (work .entry)))) ⌝ }
+    ensures words { λ _. ⌜ now (lines .exit)
+        ≡ buildWords (now (timetable .entry)) (now (lines .entry)) (length (now (work .entry))) ⌝ }
+{
+    pack_built(tables::build(timetable, lines, work))
 }

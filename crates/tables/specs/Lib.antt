@@ -4,3 +4,5 @@ pub mod Spelled
 pub mod Same
 pub mod Sums
 pub mod Fits
+pub mod Narrow
+pub mod Building

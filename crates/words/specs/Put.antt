@@ -121,6 +121,11 @@ module _ (at n j : ℕ) (src old dst : List ℕ) (so-far : dst ≡ put at (take 
       let whole : j ≡ n = omega arith in
       rw (so-far, whole)
 
+-- the same turn where the words go to the beginning
+pub copy-first : (n j : ℕ) (src old dst : List ℕ) → dst ≡ put 0 (take j src) old → j < n → n ≤ length src
+    → n ≤ length old → set dst j (getD src j 0) ≡ put 0 (take (j + 1) src) old
+copy-first n j src old dst so-far h l g = rw zero-add at (copy-more 0 n j src old dst so-far h l (omega arith))
+
 -- what was put can be read again
 pub take-put : (ws old : List ℕ) → take (length ws) (put 0 ws old) ≡ ws
 unfolding put

@@ -5,6 +5,7 @@ ghost use mathlib.Core.List.{[], _∷_};
 ghost use Prim.Native.Nat.{_+_, _≤_, _<_};
 ghost use lib.ListN.{length, getD, take};
 ghost use Rattle.words.specs.Put.{put};
+ghost use Rattle.words.specs.Below.{Below};
 
 // The word at index i, as a number.
 pub fn word(s: &[u16], i: usize) -> u32
@@ -36,6 +37,19 @@ pub fn copy_long(dst: &mut [u32], at: usize, src: &[u32], n: usize)
     let mut j = 0;
     while j < n {
         dst[at + j] = src[j];
+        j += 1;
+    }
+}
+
+// Copies the first n words of src, each of which fits 16 bits, to the beginning of dst.
+pub fn narrow(dst: &mut [u16], src: &[u32], n: usize)
+    requires { ⌜ (n ≤ length (now dst)) × (n ≤ length (now src)) × Below 65536 (take n (now src)) ⌝ }
+    ensures { λ _. ⌜ now (dst .exit) ≡ put 0 (take n (now (src .entry))) (now (dst .entry)) ⌝ }
+    ensures { λ _. ⌜ length (now (dst .exit)) ≡ length (now (dst .entry)) ⌝ }
+{
+    let mut j = 0;
+    while j < n {
+        dst[j] = src[j] as u16;
         j += 1;
     }
 }
