@@ -4,6 +4,14 @@ mod exported {
     extern "C" {
         pub fn dairyepoch_read(text: *const u8, text_len: usize, timetable: *mut u16, timetable_len: usize) -> u64;
         pub fn dairyepoch_check_timetable(timetable: *const u16, timetable_len: usize) -> u64;
+        pub fn dairyepoch_build_lines(
+            timetable: *const u16,
+            timetable_len: usize,
+            lines: *mut u16,
+            lines_len: usize,
+            work: *mut u32,
+            work_len: usize,
+        ) -> u64;
     }
 }
 
@@ -37,5 +45,28 @@ pub fn check_timetable(timetable: &[u16]) -> Reply {
 pub fn read_nothing(timetable: &mut [u16]) -> Reply {
     // SAFETY: the text has no byte, so that nothing is read of it; the other two are those of a slice.
     let bits = unsafe { exported::dairyepoch_read(std::ptr::null(), 0, timetable.as_mut_ptr(), timetable.len()) };
+    Reply::from_bits(bits)
+}
+
+pub fn build_lines(timetable: &[u16], lines: &mut [u16], work: &mut [u32]) -> Reply {
+    // SAFETY: the pointers and lengths are those of three slices, which cannot overlap.
+    let bits = unsafe {
+        exported::dairyepoch_build_lines(
+            timetable.as_ptr(),
+            timetable.len(),
+            lines.as_mut_ptr(),
+            lines.len(),
+            work.as_mut_ptr(),
+            work.len(),
+        )
+    };
+    Reply::from_bits(bits)
+}
+
+/// Building with nothing lent at all: null pointers and lengths 0.
+pub fn build_lines_of_nothing() -> Reply {
+    let (timetable, lines, work) = (std::ptr::null(), std::ptr::null_mut(), std::ptr::null_mut());
+    // SAFETY: no slice has a word, so that nothing is read or written.
+    let bits = unsafe { exported::dairyepoch_build_lines(timetable, 0, lines, 0, work, 0) };
     Reply::from_bits(bits)
 }

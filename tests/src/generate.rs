@@ -62,6 +62,107 @@ pub fn with_trips(random: &mut Random, stations: usize, lengths: &[usize]) -> Ti
     }
 }
 
+/// As `largest`, with 8 stops to each trip and all on one way, each overtaking those that left before it: 256 lines.
+pub fn overtaking() -> Timetable {
+    let trip = |late: u16| {
+        let stop = move |place: u16| Stop {
+            station: 9 * place + 1,
+            arrive: (place > 0).then_some(if place < 7 { 300 * place } else { LAST_MINUTE - late }),
+            onward: (place < 7)
+                .then_some(Onward { depart: if place > 0 { 300 * place } else { late }, penalty: place }),
+        };
+        (0..8).map(stop).collect()
+    };
+    let stations = vec![Station { change_minutes: 0, change_penalty: CHANGE_PENALTY_LEAST }; STATIONS_MOST];
+    Timetable { stations, trips: (0..TRIPS_MOST as u16).map(trip).collect() }
+}
+
+/// A timetable of few ways, alike or almost so, with trips that run a little before or behind one another.
+pub fn with_shared_ways(random: &mut Random, size: &Size) -> Timetable {
+    let stations = random.within(size.stations.clone()).max(2);
+    let mut ways = vec![way(random, stations, size)];
+    for _ in 0..random.below(4) {
+        let next = if random.one_in(4) { way(random, stations, size) } else { varied_way(random, stations, &ways) };
+        ways.push(next);
+    }
+    let mut days: Vec<Vec<u16>> = ways.iter().map(|way| moments(random, way.len() - 1)).collect();
+    let mut stops_left = STOPS_MOST;
+    let mut trips = Vec::new();
+    for _ in 0..random.within(size.trips.clone()) {
+        let chosen = random.below(ways.len());
+        if ways[chosen].len() > stops_left {
+            break;
+        }
+        stops_left -= ways[chosen].len();
+        let moments = varied_moments(random, &days[chosen]);
+        trips.push(trip_on(&ways[chosen], &rides_at(&moments)));
+        if random.one_in(3) {
+            days[chosen] = moments;
+        }
+    }
+    Timetable { stations: (0..stations).map(|_| station(random)).collect(), trips }
+}
+
+/// Station and ride penalty of each stop; the last penalty is none of a ride's.
+type Way = Vec<(usize, u16)>;
+
+fn way(random: &mut Random, stations: usize, size: &Size) -> Way {
+    let mut station = random.within(1..=stations);
+    let mut way = Vec::new();
+    for _ in 0..random.within(size.stops_of_a_trip.clone()) {
+        way.push((station, random.below(3) as u16));
+        station = another(random, stations, station);
+    }
+    way
+}
+
+/// One of the ways with another penalty, another last station, or without its last stop.
+fn varied_way(random: &mut Random, stations: usize, ways: &[Way]) -> Way {
+    let mut way = ways[random.below(ways.len())].clone();
+    let last = way.len() - 1;
+    match random.below(3) {
+        0 => way[random.below(last)].1 += 1,
+        1 => way[last].0 = another(random, stations, way[last - 1].0),
+        _ if last > 1 => way.truncate(last),
+        _ => way[0].1 += 3,
+    }
+    way
+}
+
+/// The same moments, or all of them later, or one or each moved by a little, or others.
+fn varied_moments(random: &mut Random, before: &[u16]) -> Vec<u16> {
+    let latest = spare(before.len() / 2);
+    let mut moments = before.to_vec();
+    match random.below(8) {
+        0 => {}
+        1 | 2 => {
+            let later = random.within(1..=20) as u16;
+            moments.iter_mut().for_each(|moment| *moment = (*moment + later).min(latest));
+        }
+        3..=5 => {
+            let moved = random.below(moments.len());
+            moments[moved] = nearby(random, moments[moved], latest);
+        }
+        6 => moments.iter_mut().for_each(|moment| *moment = nearby(random, *moment, latest)),
+        _ => return self::moments(random, before.len() / 2),
+    }
+    moments.sort_unstable();
+    moments
+}
+
+fn nearby(random: &mut Random, moment: u16, latest: u16) -> u16 {
+    (moment + random.below(5) as u16).saturating_sub(2).min(latest)
+}
+
+fn trip_on(way: &[(usize, u16)], rides: &[(u16, u16)]) -> Vec<Stop> {
+    let stop = |(place, &(station, penalty)): (usize, &(usize, u16))| Stop {
+        station: station as u16,
+        arrive: (place > 0).then(|| rides[place - 1].1),
+        onward: rides.get(place).map(|&(depart, _)| Onward { depart, penalty }),
+    };
+    way.iter().enumerate().map(stop).collect()
+}
+
 fn station(random: &mut Random) -> Station {
     Station {
         change_minutes: value(random, 0, CHANGE_MINUTES_MOST),
@@ -99,13 +200,28 @@ fn another(random: &mut Random, stations: usize, station: usize) -> usize {
     (station + random.below(stations - 1)) % stations + 1
 }
 
-/// Departure and arrival of each ride of a trip: a ride takes a minute or more, a wait may take none.
+/// Departure and arrival of each ride of a trip.
 fn rides(random: &mut Random, count: usize) -> Vec<(u16, u16)> {
-    let spare = LAST_MINUTE - count as u16;
-    let (earliest, latest) = span(random, spare);
+    let moments = moments(random, count);
+    rides_at(&moments)
+}
+
+/// A moment for each departure and arrival of a trip of `count` rides, none before the one in front of it.
+fn moments(random: &mut Random, count: usize) -> Vec<u16> {
+    let (earliest, latest) = span(random, spare(count));
     let mut moments: Vec<u16> =
         (0..2 * count).map(|_| random.within(usize::from(earliest)..=usize::from(latest)) as u16).collect();
     moments.sort_unstable();
+    moments
+}
+
+/// The minutes of two days that are left over where each of the rides takes one.
+fn spare(rides: usize) -> u16 {
+    LAST_MINUTE - rides as u16
+}
+
+/// The rides at these moments: a ride takes a minute or more, a wait may take none.
+fn rides_at(moments: &[u16]) -> Vec<(u16, u16)> {
     let ride = |(before, ends): (u16, &[u16])| (ends[0] + before, ends[1] + before + 1);
     (0..).zip(moments.chunks(2)).map(ride).collect()
 }
@@ -136,6 +252,8 @@ mod tests {
             for _ in 0..200 {
                 let timetable = timetable(&mut random, &size);
                 assert_eq!(read(&timetable.to_text()), Ok(timetable));
+                let timetable = with_shared_ways(&mut random, &size);
+                assert_eq!(read(&timetable.to_text()), Ok(timetable));
             }
         }
     }
@@ -143,7 +261,7 @@ mod tests {
     #[test]
     fn the_largest_timetables_read_back_from_their_texts() {
         let mut random = Random::new(2);
-        for timetable in (0..20).map(|_| largest(&mut random)).chain([long_lines()]) {
+        for timetable in (0..20).map(|_| largest(&mut random)).chain([long_lines(), overtaking()]) {
             assert_eq!(read(&timetable.to_text()).as_ref(), Ok(&timetable));
             assert_eq!(timetable.stations.len(), STATIONS_MOST);
             assert_eq!(timetable.trips.len(), TRIPS_MOST);

@@ -1,6 +1,10 @@
 //! A display's host: it lends words to the calls and looks at what they did with them.
 
+use std::fmt::Display;
+use std::ops::Not;
+
 use crate::ffi::{self, Reply};
+use crate::lines::{self, LINE_WORDS, WORK_WORDS};
 use crate::random::Random;
 use crate::reference;
 use crate::words::{text_of, to_words, TIMETABLE_WORDS};
@@ -10,21 +14,27 @@ const FENCE: usize = 32;
 
 /// Every call is made twice, over words that differ in every bit: whatever a call writes then shows at least once.
 pub struct Host {
-    loans: [Loan; 2],
+    loans: [Loan<u16>; 2],
+    works: [Loan<u32>; 2],
 }
 
-struct Loan {
-    entry: Vec<u16>,
-    words: Vec<u16>,
+struct Loan<W> {
+    entry: Vec<W>,
+    words: Vec<W>,
 }
 
 impl Host {
-    /// A host that lends `length` words for a timetable.
-    pub fn lending(length: usize, seed: u64) -> Host {
+    /// A host that lends `length` words for a result, and `work_length` words of working space.
+    pub fn lending_both(length: usize, work_length: usize, seed: u64) -> Host {
         let mut random = Random::new(seed);
-        let entry: Vec<u16> = (0..length + 2 * FENCE).map(|_| random.word()).collect();
-        let inverse = entry.iter().map(|word| !word).collect();
-        Host { loans: [Loan::of(entry), Loan::of(inverse)] }
+        let loans = Loan::pair(length, || random.word());
+        let works = Loan::pair(work_length, || random.bits() as u32);
+        Host { loans, works }
+    }
+
+    /// A host that lends `length` words for a result.
+    pub fn lending(length: usize, seed: u64) -> Host {
+        Host::lending_both(length, WORK_WORDS, seed)
     }
 
     /// A host that lends as many words as question 8 asks for.
@@ -79,20 +89,48 @@ impl Host {
         let length = table_length(words);
         assert_eq!(written[..length], words[..length], "the words of\n{}", excerpt(text));
     }
-}
 
-impl Loan {
-    fn of(entry: Vec<u16>) -> Loan {
-        Loan { words: entry.clone(), entry }
+    /// Has the line tables of a timetable's words built, and fails unless the reply and every word are the
+    /// reference's. Returns the reply.
+    pub fn build_lines(&mut self, timetable: &[u16]) -> Reply {
+        let before = timetable.to_vec();
+        let (expected, result) = expected_lines(timetable, self.loans[0].slice().len(), self.works[0].slice().len());
+        for (loan, work) in self.loans.iter_mut().zip(&mut self.works) {
+            let reply = ffi::build_lines(timetable, loan.slice(), work.slice());
+            let of = || format!("for the words\n{}", first_words(timetable));
+            assert_eq!(reply, expected, "the reply (left) and the reference's, {}", of());
+            if let Err(difference) = loan.settle(&result) {
+                panic!("{difference} after {reply:?} {}", of());
+            }
+            if let Err(difference) = work.settle_work() {
+                panic!("beside the working space {difference} after {reply:?} {}", of());
+            }
+            assert!(timetable == before, "the timetable changed after {reply:?} {}", of());
+        }
+        expected
     }
 
-    fn slice(&mut self) -> &mut [u16] {
+    /// As `build_lines`, and fails unless the reply is the one given, which document 01 asks for.
+    pub fn expect_lines(&mut self, timetable: &[u16], number: u32, beside: u32) {
+        assert_eq!(self.build_lines(timetable), Reply { number, beside }, "for {}", first_words(timetable));
+    }
+}
+
+impl<W: Copy + Display + Not<Output = W> + PartialEq> Loan<W> {
+    /// Two loans of `length` words that differ in every bit.
+    fn pair(length: usize, mut word: impl FnMut() -> W) -> [Loan<W>; 2] {
+        let entry: Vec<W> = (0..length + 2 * FENCE).map(|_| word()).collect();
+        let inverse = entry.iter().map(|&word| !word).collect();
+        [entry, inverse].map(|entry: Vec<W>| Loan { words: entry.clone(), entry })
+    }
+
+    fn slice(&mut self) -> &mut [W] {
         let end = self.words.len() - FENCE;
         &mut self.words[FENCE..end]
     }
 
     /// Tells of the first word that is neither `result`'s nor what it was at entry; then takes the words back.
-    fn settle(&mut self, result: &[u16]) -> Result<(), String> {
+    fn settle(&mut self, result: &[W]) -> Result<(), String> {
         let end = FENCE + result.len();
         let kept = self.words[..FENCE] == self.entry[..FENCE] && self.words[end..] == self.entry[end..];
         if kept && self.words[FENCE..end] == *result {
@@ -104,6 +142,13 @@ impl Loan {
         let at = (0..expected.len()).find(|&at| self.words[at] != expected[at]).expect("some word differs");
         let place = at as i64 - FENCE as i64;
         Err(format!("word {place} is {} and not {}", self.words[at], expected[at]))
+    }
+
+    /// As `settle`, where the slice itself may hold anything.
+    fn settle_work(&mut self) -> Result<(), String> {
+        let end = self.words.len() - FENCE;
+        self.words[FENCE..end].copy_from_slice(&self.entry[FENCE..end]);
+        self.settle(&[])
     }
 }
 
@@ -119,6 +164,17 @@ fn expected_read(text: &[u8], length: usize) -> (Reply, Vec<u16>) {
         }
         Err(refusal) => (Reply { number: refusal.number, beside: refusal.line }, Vec::new()),
     }
+}
+
+/// The reply to building of `timetable` into slices of these lengths, and the words of the result.
+fn expected_lines(timetable: &[u16], length: usize, work_length: usize) -> (Reply, Vec<u16>) {
+    if timetable.len() < TIMETABLE_WORDS || length < LINE_WORDS || work_length < WORK_WORDS {
+        return (Reply { number: 8, beside: 0 }, Vec::new());
+    }
+    let Some(text) = text_of(timetable) else { return (Reply { number: 9, beside: 0 }, Vec::new()) };
+    let timetable = reference::read(&text).expect("the words have this text");
+    let lines = lines::lines(&timetable).len();
+    (Reply { number: 0, beside: lines as u32 }, lines::to_words(&timetable))
 }
 
 /// How many words a table has, by its first three.

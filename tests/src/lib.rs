@@ -9,6 +9,7 @@ pub mod examples;
 pub mod ffi;
 pub mod generate;
 pub mod host;
+pub mod lines;
 pub mod random;
 pub mod reference;
 pub mod timetable;

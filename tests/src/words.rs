@@ -25,7 +25,7 @@ pub fn to_words(timetable: &Timetable) -> Vec<u16> {
     words
 }
 
-fn word(number: usize) -> u16 {
+pub(crate) fn word(number: usize) -> u16 {
     u16::try_from(number).expect("a count that fits a word")
 }
 

@@ -5,9 +5,11 @@
 use std::hint::black_box;
 use std::time::{Duration, Instant};
 
-use dairyepoch_tests::ffi::{check_timetable, read, Reply};
-use dairyepoch_tests::generate::long_lines;
+use dairyepoch_tests::ffi::{build_lines, check_timetable, read, Reply};
+use dairyepoch_tests::generate::{long_lines, overtaking};
+use dairyepoch_tests::lines::{self, LINE_WORDS, WORK_WORDS};
 use dairyepoch_tests::reference;
+use dairyepoch_tests::timetable::Timetable;
 use dairyepoch_tests::words::{text_of, to_words, TIMETABLE_WORDS};
 
 const ROUNDS: usize = 1_001;
@@ -37,6 +39,32 @@ fn main() {
     ]);
     report("reading a text into words", reading, reference);
     report("question 9 on its words", question, reference_question);
+    building("line tables of one line", &long_lines(), 1);
+    building("line tables of 256 lines", &overtaking(), 256);
+}
+
+/// Times building, with question 9 on both sides and then without it on the reference's.
+fn building(what: &str, timetable: &Timetable, lines: u32) {
+    let mut table = to_words(timetable);
+    table.resize(TIMETABLE_WORDS, 0);
+    let (mut words, mut work) = (vec![0; LINE_WORDS], vec![0; WORK_WORDS]);
+    let reply = build_lines(&table, &mut words, &mut work);
+    assert_eq!(reply, Reply { number: 0, beside: lines }, "the lines of the largest timetable");
+    let [library, reference, alone] = medians([
+        &mut || {
+            black_box(build_lines(black_box(&table), &mut words, &mut work));
+        },
+        &mut || {
+            let text = text_of(black_box(&table)).expect("the words have a text");
+            let timetable = reference::read(&text).expect("the text of words is accepted");
+            black_box(lines::to_words(&timetable));
+        },
+        &mut || {
+            black_box(lines::to_words(black_box(timetable)));
+        },
+    ]);
+    report(&format!("{what}, question 9 asked"), library, reference);
+    report(&format!("{what}, the reference not asking"), library, alone);
 }
 
 /// Runs the works in turn, so that what else the machine does falls on all of them, and takes each one's median.

@@ -1,0 +1,104 @@
+//! Lines and line tables, written from document 01's sentences and docs/LAYOUT.md.
+
+use crate::timetable::{Onward, Stop, Timetable};
+use crate::words::word;
+
+/// What a lent slice of line tables must have room for: question 8.
+pub const LINE_WORDS: usize = 16_384;
+/// The same for working space, in words of 32 bits.
+pub const WORK_WORDS: usize = 16_384;
+/// No line tables have more words than these, by docs/LAYOUT.md.
+pub const LINE_WORDS_MOST: usize = 13_381;
+
+/// For each line the places of its trips among all trips, counted from 0, as they joined it.
+pub fn lines(timetable: &Timetable) -> Vec<Vec<usize>> {
+    let trips = &timetable.trips;
+    let mut order: Vec<usize> = (0..trips.len()).collect();
+    order.sort_by_key(|&trip| (trips[trip][0].onward.map(|onward| onward.depart), trip));
+    let mut lines: Vec<Vec<usize>> = Vec::new();
+    for trip in order {
+        let takes = |line: &&mut Vec<usize>| {
+            let last = &trips[line[line.len() - 1]];
+            same_way(last, &trips[trip]) && nowhere_later(last, &trips[trip])
+        };
+        match lines.iter_mut().find(takes) {
+            Some(line) => line.push(trip),
+            None => lines.push(vec![trip]),
+        }
+    }
+    lines
+}
+
+/// "The same stations and ride penalties."
+pub fn same_way(one: &[Stop], other: &[Stop]) -> bool {
+    one.len() == other.len()
+        && one.iter().zip(other).all(|(one, other)| one.station == other.station && penalty(one) == penalty(other))
+}
+
+/// "Nowhere later than it, in any arrival or departure", of two trips of the same way.
+fn nowhere_later(one: &[Stop], other: &[Stop]) -> bool {
+    one.iter().zip(other).all(|(one, other)| one.arrive <= other.arrive && depart(one) <= depart(other))
+}
+
+fn depart(stop: &Stop) -> Option<u16> {
+    stop.onward.map(|Onward { depart, .. }| depart)
+}
+
+fn penalty(stop: &Stop) -> Option<u16> {
+    stop.onward.map(|Onward { penalty, .. }| penalty)
+}
+
+/// The words of the timetable's line tables.
+pub fn to_words(timetable: &Timetable) -> Vec<u16> {
+    let lines = lines(timetable);
+    let pieces: Vec<Vec<u16>> = lines.iter().map(|line| line_words(timetable, line)).collect();
+    let lists: Vec<Vec<u16>> =
+        (1..=timetable.stations.len()).map(|station| list_words(timetable, &lines, word(station))).collect();
+
+    let first_piece = 4 + lines.len();
+    let first_index = first_piece + pieces.iter().map(Vec::len).sum::<usize>();
+    let first_list = first_index + lists.len() + 1;
+    let mut words = [lists.len(), lines.len(), timetable.trips.len(), first_index].map(word).to_vec();
+    words.extend(&begins(first_piece, &pieces)[..pieces.len()]);
+    words.extend(pieces.concat());
+    words.extend(begins(first_list, &lists));
+    words.extend(lists.concat());
+    words
+}
+
+/// Where each of the pieces begins if the first one begins at `first`, and where the last one ends.
+fn begins(first: usize, pieces: &[Vec<u16>]) -> Vec<u16> {
+    let mut next = first;
+    let mut begins = vec![word(first)];
+    for piece in pieces {
+        next += piece.len();
+        begins.push(word(next));
+    }
+    begins
+}
+
+fn line_words(timetable: &Timetable, line: &[usize]) -> Vec<u16> {
+    let trips: Vec<&[Stop]> = line.iter().map(|&trip| &timetable.trips[trip][..]).collect();
+    let way = trips[0];
+    let mut words = vec![word(way.len()), word(trips.len())];
+    words.extend(line.iter().map(|trip| word(trip + 1)));
+    words.extend(way.iter().flat_map(|stop| [stop.station, penalty(stop).unwrap_or(0)]));
+    for position in 0..way.len() {
+        words.extend(trips.iter().map(|trip| trip[position].arrive.unwrap_or(0)));
+        words.extend(trips.iter().map(|trip| depart(&trip[position]).unwrap_or(0)));
+    }
+    words
+}
+
+/// Line and position wherever a line meets the station.
+fn list_words(timetable: &Timetable, lines: &[Vec<usize>], station: u16) -> Vec<u16> {
+    let mut words = Vec::new();
+    for (number, line) in (1..).zip(lines) {
+        for (position, stop) in (1..).zip(&timetable.trips[line[0]]) {
+            if stop.station == station {
+                words.extend([number, position]);
+            }
+        }
+    }
+    words
+}
