@@ -115,11 +115,11 @@ module _ (w : List ℕ) (yes : isTimetable w ≡ true) where
       )
 
 -- ---- the words of one line
-numbers-long : (line : List ℕ) → length (numbersAt line) ≡ length line
+pub numbers-long : (line : List ℕ) → length (numbersAt line) ≡ length line
 unfolding numbersAt
 numbers-long line = length-map line suc
 
-course-long : (w : List ℕ) (z k n : ℕ) → length (courseAt w z k n) ≡ 2 * n
+pub course-long : (w : List ℕ) (z k n : ℕ) → length (courseAt w z k n) ≡ 2 * n
 unfolding courseAt
 course-long w z k zero = refl
 course-long w z k (suc n) = omega (arith, course-long w z (suc k) n)
@@ -197,7 +197,7 @@ blocks-most w i (l ∷ ls) all =
       blocks-most w (i + 1) ls (rest-lines w l ls all),
     )
 
-places-long : (w : List ℕ) (k : ℕ) (ls : List (List ℕ)) → length (placesFrom w k ls) ≡ length ls
+pub places-long : (w : List ℕ) (k : ℕ) (ls : List (List ℕ)) → length (placesFrom w k ls) ≡ length ls
 unfolding placesFrom
 places-long w k [] = refl
 places-long w k (l ∷ ls) = ap suc (places-long w (k + length (blockAt w l)) ls)
@@ -258,7 +258,7 @@ pairs-long w ls s (suc n) =
       pairs-long w ls (suc s) n,
     )
 
-pair-places-long : (w : List ℕ) (ls : List (List ℕ)) (k s n : ℕ) → length (pairPlaces w ls k s n) ≡ n + 1
+pub pair-places-long : (w : List ℕ) (ls : List (List ℕ)) (k s n : ℕ) → length (pairPlaces w ls k s n) ≡ n + 1
 unfolding pairPlaces
 pair-places-long w ls k s zero = refl
 pair-places-long w ls k s (suc n) =
