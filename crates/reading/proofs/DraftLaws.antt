@@ -20,15 +20,11 @@ use Rattle.timetable.specs.WordLaws.{
   stopsOf-append,
   startWords-append,
 }
-use Rattle.reading.specs.Draft.{Draft, final, stationOfLine, stopOfLine, withStop, withLine}
+use Rattle.reading.specs.Draft.{Draft, final, stationOfLine, stopOfLine, withStop, withLine, stopsIn}
 use Rattle.reading.specs.Progress.{progress, lineNumberAt}
 use Rattle.reading.specs.Model.{Within, advance, lineWords, startsWith}
 use Rattle.reading.specs.declared.Progress.{Progress}
 use Rattle.reading.proofs.YesLaws.{station-yes, StopYes, stop-yes}
-
--- all stops of a draft
-abbrev pub stopsIn : Draft → List Stop
-stopsIn d = stopsOf (d .trips) ++ d .begun
 
 -- the words of a draft's stations and stops
 abbrev pub bodyOf : Draft → List ℕ

@@ -1,4 +1,4 @@
--- The questions 3 to 5, in document 01's order: six ways out, each a law of `stationNumber`.
+-- The questions 3 to 5, in document 01's order: six ways out, each a law of `stationNumberAt`.
 use borrow.Author.Needs.{needs}
 use Rattle.reading.proofs.NumberLaws.{
   minutes-refused,

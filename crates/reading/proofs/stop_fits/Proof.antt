@@ -1,4 +1,4 @@
--- The parts of question 6, one after the other: seven ways out, each a law of `stopFits`.
+-- The parts of question 6, one after the other: seven ways out, each a law of `stopFitsAt`.
 use borrow.Author.Needs.{needs}
 use Rattle.reading.proofs.NumberLaws.{
   no-station,

@@ -1,4 +1,4 @@
--- The questions 3 to 6, in document 01's order: nine ways out, each a law of `stopNumber`.
+-- The questions 3 to 6, in document 01's order: nine ways out, each a law of `stopNumberAt`.
 use borrow.Author.Needs.{needs}
 use Rattle.reading.proofs.NumberLaws.{
   arrive-refused,
