@@ -17,6 +17,8 @@ pub struct Size {
 
 pub const SMALL: Size = Size { stations: 1..=4, trips: 0..=3, stops_of_a_trip: 2..=4 };
 pub const MIDDLING: Size = Size { stations: 1..=20, trips: 0..=20, stops_of_a_trip: 2..=12 };
+/// For `crowded`.
+pub const CROWDED: Size = Size { stations: 2..=4, trips: 0..=7, stops_of_a_trip: 2..=6 };
 pub const LARGE: Size = Size { stations: 40..=64, trips: 100..=256, stops_of_a_trip: 2..=16 };
 
 pub fn timetable(random: &mut Random, size: &Size) -> Timetable {
@@ -99,6 +101,23 @@ pub fn with_shared_ways(random: &mut Random, size: &Size) -> Timetable {
         if random.one_in(3) {
             days[chosen] = moments;
         }
+    }
+    Timetable { stations: (0..stations).map(|_| station(random)).collect(), trips }
+}
+
+/// A timetable whose trips all run within a few minutes, by a few ways of small penalties: many rides cost the same.
+pub fn crowded(random: &mut Random, size: &Size) -> Timetable {
+    let stations = random.within(size.stations.clone()).max(2);
+    let ways: Vec<Way> = (0..random.within(1..=3)).map(|_| way(random, stations, size)).collect();
+    let width = random.pick(&[1, 2, 4, 8]);
+    let latest = usize::from(spare(size.stops_of_a_trip.end() - 1)) + 1 - width;
+    let begin = random.pick(&[0, 1, 480, latest]);
+    let mut trips = Vec::new();
+    for _ in 0..random.within(size.trips.clone()) {
+        let way = &ways[random.below(ways.len())];
+        let mut moments: Vec<u16> = (0..2 * (way.len() - 1)).map(|_| (begin + random.below(width)) as u16).collect();
+        moments.sort_unstable();
+        trips.push(trip_on(way, &rides_at(&moments)));
     }
     Timetable { stations: (0..stations).map(|_| station(random)).collect(), trips }
 }
@@ -253,6 +272,8 @@ mod tests {
                 let timetable = timetable(&mut random, &size);
                 assert_eq!(read(&timetable.to_text()), Ok(timetable));
                 let timetable = with_shared_ways(&mut random, &size);
+                assert_eq!(read(&timetable.to_text()), Ok(timetable));
+                let timetable = crowded(&mut random, &CROWDED);
                 assert_eq!(read(&timetable.to_text()), Ok(timetable));
             }
         }
