@@ -223,6 +223,12 @@ impl<W: Copy + Display + Not<Output = W> + PartialEq> Loan<W> {
     }
 }
 
+/// The table in a slice of the least length, with any words behind it.
+pub fn lent(mut table: Vec<u16>, random: &mut Random) -> Vec<u16> {
+    table.resize_with(table.len().max(TIMETABLE_WORDS), || random.word());
+    table
+}
+
 /// How many words a table has, by its first three.
 fn table_length(words: &[u16]) -> usize {
     let [stations, trips, stops] = [0, 1, 2].map(|at| usize::from(words[at]));
