@@ -79,6 +79,29 @@ pub fn overtaking() -> Timetable {
     Timetable { stations, trips: (0..TRIPS_MOST as u16).map(trip).collect() }
 }
 
+/// The most rows that a direct query can have.
+pub const DIRECT_ROWS_MOST: u32 = 507;
+
+/// One trip of 2,044 stops with a ride from station 1 to 2 for each penalty from 506 down to 0.
+///
+/// From each stop at a station a trip has at most one ride that counts, to the next stop at the other one: so the rides
+/// of different rows share no stop. One of penalty p needs a stop for each 100 points, and one more, so that 507 rows
+/// have 2,044 stops, and the 508th would bring them to 2,051.
+pub fn most_rows() -> Timetable {
+    let mut way = Vec::new();
+    for penalty in (0..DIRECT_ROWS_MOST as u16).rev() {
+        let rides = penalty.div_ceil(RIDE_PENALTY_MOST).max(1);
+        for ride in 0..rides {
+            let station = if ride == 0 { 1 } else { 3 + usize::from(ride % 2) };
+            way.push((station, penalty.saturating_sub(RIDE_PENALTY_MOST * ride).min(RIDE_PENALTY_MOST)));
+        }
+        way.push((2, 0));
+    }
+    let rides: Vec<(u16, u16)> = (1..way.len() as u16).map(|minute| (minute, minute + 1)).collect();
+    let stations = vec![Station { change_minutes: 0, change_penalty: CHANGE_PENALTY_LEAST }; 4];
+    Timetable { stations, trips: vec![trip_on(&way, &rides)] }
+}
+
 /// A timetable of few ways, alike or almost so, with trips that run a little before or behind one another.
 pub fn with_shared_ways(random: &mut Random, size: &Size) -> Timetable {
     let stations = random.within(size.stations.clone()).max(2);
@@ -277,6 +300,13 @@ mod tests {
                 assert_eq!(read(&timetable.to_text()), Ok(timetable));
             }
         }
+    }
+
+    #[test]
+    fn the_most_rows_read_back_from_their_text() {
+        let timetable = most_rows();
+        assert_eq!(timetable.trips[0].len(), 2_044);
+        assert_eq!(read(&timetable.to_text()), Ok(timetable));
     }
 
     #[test]
