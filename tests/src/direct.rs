@@ -142,7 +142,12 @@ fn add(rows: &mut Vec<Ride>, ride: Ride) {
         _ => {}
     }
     let dominated = rows[at..].iter().take_while(|row| row.penalty >= ride.penalty).count();
-    rows.splice(at..at + dominated, [ride]);
+    if dominated == 0 {
+        rows.insert(at, ride);
+    } else {
+        rows[at] = ride;
+        rows.drain(at + 1..at + dominated);
+    }
 }
 
 #[cfg(test)]

@@ -509,13 +509,15 @@ fn the_first_no_ends_it() {
             true => vec![(0, to), (from, 0), (4, to), (from, 4), (from, from), (u32::MAX, to), (from, u32::MAX)],
             false => vec![(from, to)],
         };
-        let length = if room { random.below(6) } else { 6 };
+        let lengths = if room { &[0, 5][..] } else { &[6] };
         for (from, to) in queries {
             let minute = if minute { random.pick(&[2_880, 2_881, 65_536, u32::MAX]) } else { 501 };
             let query = Query { from, to, minute };
             let ask = |host: &mut Host, timetable: &[u16], lines: &[u16]| {
-                let reply = host.direct_to(timetable, lines, query, length);
-                assert_eq!(reply, Reply { number, beside: u32::from(number == 0) }, "{query:?}");
+                for &length in lengths {
+                    let reply = host.direct_to(timetable, lines, query, length);
+                    assert_eq!(reply, Reply { number, beside: u32::from(number == 0) }, "{query:?}");
+                }
             };
             if slice {
                 for short in [0, 1, 51, 16_383] {
