@@ -131,7 +131,7 @@ fn penalties_of_every_stop_ridden_from_add_up() {
         (0..30).map(|place| (place % 3 + 1, 10 * place, 10 * place + 5, 100)).collect();
     let text = text(3, &[&way]);
     assert_eq!(rows(&text, 1, 2, 0), Ok(vec![[10, 100, 1, 1, 1, 2]]));
-    assert_eq!(rows(&text, 1, 3, 36), Ok(vec![[50 + 80 - 80 - 36 + 30, 200, 1, 1, 7, 9]]));
+    assert_eq!(rows(&text, 1, 3, 36), Ok(vec![[80 - 36, 200, 1, 1, 7, 9]]));
     let straight: Vec<(u16, u16, u16, u16)> = (0..64).map(|place| (place + 1, place, place, 100)).collect();
     let text = self::text(64, &[&straight]);
     assert_eq!(rows(&text, 1, 64, 0), Ok(vec![[63, 6_300, 1, 1, 1, 64]]));
@@ -170,7 +170,7 @@ fn between_lines_the_ride_that_departs_latest_is_shown_then_the_lowest_trip() {
         let row = [[30, 3].as_slice(), &shown].concat();
         assert_eq!(rows(&text(3, &trips), 1, 2, 0), Ok(vec![row.try_into().expect("6 words")]), "{trips:?}");
     }
-    // trip 3 is on line 1, for it departs first, and comes after trip 2 on line 2
+    // trip 3 is on line 1, for it departs first; trip 2 is on line 3 and has the lower number
     let trips: [&[_]; 3] = [&[(2, 0, 1, 0), (1, 5, 0, 0)], &round(11), &[(3, 0, 0, 0), (1, 11, 11, 3), (2, 30, 0, 0)]];
     assert_eq!(rows(&text(3, &trips), 1, 2, 0), Ok(vec![[30, 3, 1, 2, 1, 3]]));
 }
@@ -186,9 +186,9 @@ fn a_trip_that_meets_a_station_twice() {
     assert_eq!(rows(&twice, 2, 1, 0), Ok(vec![[20, 2, 1, 1, 2, 3]]));
     assert_eq!(rows(&twice, 2, 1, 12), Err(14));
     // 1, 2, 1, 3: where the loop costs nothing, boarding after it departs later
-    for (penalty, row) in [(0, [50, 4, 1, 1, 3, 4]), (1, [50, 4, 1, 1, 3, 4])] {
+    for penalty in [0, 1] {
         let trip = [(1, 0, 0, penalty), (2, 10, 11, 0), (1, 20, 21, 4), (3, 50, 0, 0)];
-        assert_eq!(rows(&text(3, &[&trip]), 1, 3, 0), Ok(vec![row]));
+        assert_eq!(rows(&text(3, &[&trip]), 1, 3, 0), Ok(vec![[50, 4, 1, 1, 3, 4]]));
     }
     // 2, 1, 2: the trip begins where the ride ends; 1, 3, 1, 2, 1: it ends where the ride begins
     assert_eq!(rows(&text(2, &[&[(2, 0, 0, 9), (1, 5, 6, 3), (2, 9, 0, 0)]]), 1, 2, 0), Ok(vec![[9, 3, 1, 1, 2, 3]]));
@@ -251,7 +251,7 @@ impl Met {
         let Met { none, one_row, several_rows, tie_in_a_trip, tie_in_a_line, .. } = *self;
         let Met { tie_between_lines, tie_by_number, later_trip_of_the_line, long_ride, .. } = *self;
         let ties = [tie_in_a_trip, tie_in_a_line, tie_between_lines, tie_by_number, later_trip_of_the_line];
-        [none, one_row, several_rows, long_ride].iter().chain(&ties).all(|&count| count > 50)
+        [none, one_row, several_rows, long_ride].iter().chain(&ties).all(|&count| count > 20)
     }
 }
 
@@ -328,7 +328,7 @@ fn all_queries_of_long_loops() {
     let mut host = Host::new(6);
     let mut random = Random::new(7);
     let mut met = Met::default();
-    for _ in 0..60 {
+    for _ in 0..120 {
         let size = Size { stations: 2..=3, trips: 1..=3, stops_of_a_trip: 3..=9 };
         all_queries(&mut host, &crowded(&mut random, &size), &mut met, &mut random);
     }
