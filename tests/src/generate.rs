@@ -145,6 +145,30 @@ pub fn crowded(random: &mut Random, size: &Size) -> Timetable {
     Timetable { stations: (0..stations).map(|_| station(random)).collect(), trips }
 }
 
+/// Every trip of so many stops over so many stations, with times from 0 to `last` and penalties 0 and 1.
+pub fn every_trip(stations: u16, stops: usize, last: u16) -> Vec<Vec<Stop>> {
+    let mut trips = vec![Vec::new()];
+    for place in 0..stops {
+        let ends = place + 1 == stops;
+        let mut longer = Vec::new();
+        for trip in &trips {
+            let before: Option<&Stop> = trip.last();
+            let depart_before = before.and_then(|stop| stop.onward).map(|onward| onward.depart);
+            let arrives: Vec<Option<u16>> =
+                depart_before.map_or(vec![None], |depart| (depart + 1..=last).map(Some).collect());
+            let others = (1..=stations).filter(|&station| before.is_none_or(|stop| stop.station != station));
+            for (station, &arrive) in others.flat_map(|station| arrives.iter().map(move |arrive| (station, arrive))) {
+                let leaves =
+                    (arrive.unwrap_or(0)..=last).flat_map(|depart| [0, 1].map(|penalty| Onward { depart, penalty }));
+                let onwards: Vec<Option<Onward>> = if ends { vec![None] } else { leaves.map(Some).collect() };
+                longer.extend(onwards.iter().map(|&onward| [&trip[..], &[Stop { station, arrive, onward }]].concat()));
+            }
+        }
+        trips = longer;
+    }
+    trips
+}
+
 /// Station and ride penalty of each stop; the last penalty is none of a ride's.
 type Way = Vec<(usize, u16)>;
 

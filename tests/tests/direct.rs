@@ -4,8 +4,8 @@ use dairyepoch_tests::direct::{self, Query, Ride, ROW_WORDS};
 use dairyepoch_tests::examples::M;
 use dairyepoch_tests::ffi::{self, Reply};
 use dairyepoch_tests::generate::{
-    crowded, largest, long_lines, most_rows, overtaking, timetable, with_shared_ways, with_trips, Size, CROWDED,
-    DIRECT_ROWS_MOST, LARGE, MIDDLING, SMALL,
+    crowded, every_trip, largest, long_lines, most_rows, overtaking, timetable, with_shared_ways, with_trips, Size,
+    CROWDED, DIRECT_ROWS_MOST, LARGE, MIDDLING, SMALL,
 };
 use dairyepoch_tests::host::{lent, Host, ANSWER_WORDS};
 use dairyepoch_tests::lines::{self, lines, LINE_WORDS, WORK_WORDS};
@@ -393,30 +393,6 @@ fn the_most_rows() {
         lent.ask(&mut host, Query { from: 2, to: 1, minute });
         lent.ask(&mut host, Query { from: 3, to: 4, minute });
     }
-}
-
-/// Every trip of so many stops over so many stations, with times from 0 to `last` and penalties 0 and 1.
-fn every_trip(stations: u16, stops: usize, last: u16) -> Vec<Vec<Stop>> {
-    let mut trips = vec![Vec::new()];
-    for place in 0..stops {
-        let ends = place + 1 == stops;
-        let mut longer = Vec::new();
-        for trip in &trips {
-            let before: Option<&Stop> = trip.last();
-            let depart_before = before.and_then(|stop| stop.onward).map(|onward| onward.depart);
-            let arrives: Vec<Option<u16>> =
-                depart_before.map_or(vec![None], |depart| (depart + 1..=last).map(Some).collect());
-            let others = (1..=stations).filter(|&station| before.is_none_or(|stop| stop.station != station));
-            for (station, &arrive) in others.flat_map(|station| arrives.iter().map(move |arrive| (station, arrive))) {
-                let leaves =
-                    (arrive.unwrap_or(0)..=last).flat_map(|depart| [0, 1].map(|penalty| Onward { depart, penalty }));
-                let onwards: Vec<Option<Onward>> = if ends { vec![None] } else { leaves.map(Some).collect() };
-                longer.extend(onwards.iter().map(|&onward| [&trip[..], &[Stop { station, arrive, onward }]].concat()));
-            }
-        }
-        trips = longer;
-    }
-    trips
 }
 
 /// Asks the pairs at minutes 0 to `last` of every timetable of so many trips, each one of these.

@@ -4,8 +4,8 @@
 use dairyepoch_tests::examples::M;
 use dairyepoch_tests::ffi::{self, Reply};
 use dairyepoch_tests::generate::{
-    crowded, largest, long_lines, overtaking, timetable, with_shared_ways, with_trips, Size, CROWDED, LARGE, MIDDLING,
-    SMALL,
+    crowded, every_trip, largest, long_lines, overtaking, timetable, with_shared_ways, with_trips, Size, CROWDED,
+    LARGE, MIDDLING, SMALL,
 };
 use dairyepoch_tests::host::{lent, Host};
 use dairyepoch_tests::lines::{self, lines, same_way, words_of, LINE_WORDS, WORK_WORDS};
@@ -412,6 +412,25 @@ fn lines_that_lead_out_of_the_slice() {
                 let mut changed = tables.clone();
                 changed[at] = value;
                 ask_both(&mut host, &words, &changed, changed == tables);
+            }
+        }
+    }
+}
+
+#[test]
+fn every_two_tiny_timetables() {
+    let mut host = Host::new(43);
+    let mut random = Random::new(44);
+    let one_trip = [every_trip(3, 2, 2), every_trip(2, 3, 3)].concat();
+    let shuttles = every_trip(2, 2, 2);
+    let two_trips = shuttles.iter().flat_map(|one| shuttles.iter().map(move |other| vec![one.clone(), other.clone()]));
+    for family in [one_trip.into_iter().map(|trip| vec![trip]).collect::<Vec<_>>(), two_trips.collect()] {
+        let timetable =
+            |trips| Timetable { stations: vec![Station { change_minutes: 3, change_penalty: 2 }; 3], trips };
+        let lent: Vec<_> = family.into_iter().map(|trips| lent_with_tables(&timetable(trips), &mut random)).collect();
+        for (one, (words, _)) in lent.iter().enumerate() {
+            for (other, (_, tables)) in lent.iter().enumerate() {
+                assert_eq!(ask_both(&mut host, words, tables, one == other), 0);
             }
         }
     }
