@@ -35,6 +35,6 @@ module _ (a b : List ℕ) (n i : ℕ) (long-a : n ≤ length a) (long-b : n ≤ 
       sym
       (so-far
       ∙ rw (
-          drop-of-length-le (take n a) {i = i} (omega (arith, length-take-le n a long-a)),
-          drop-of-length-le (take n b) {i = i} (omega (arith, length-take-le n b long-b)),
-        ))
+        drop-of-length-le (take n a) {i = i} (omega (arith, length-take-le n a long-a)),
+        drop-of-length-le (take n b) {i = i} (omega (arith, length-take-le n b long-b)),
+      ))

@@ -1,1 +1,2 @@
 pub mod Question10
+pub mod Drawn

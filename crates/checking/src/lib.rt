@@ -7,6 +7,13 @@ ghost use lib.ListN.{length, take};
 ghost use Rattle.lists.specs.Lists.{same};
 ghost use Rattle.timetable.specs.Words.{isTimetable};
 ghost use Rattle.checking.specs.Question10.{areTables, tablesNumber};
+use lookup::Line;
+
+// Where a trip stands in line tables: its line, and its place among the line's trips.
+pub struct Home {
+    pub line: Line,
+    pub place: usize,
+}
 
 // Whether the first count words of both are the same.
 fn same_words(lines: &[u16], work: &[u32], count: usize) -> bool
