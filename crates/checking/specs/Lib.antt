@@ -1,3 +1,4 @@
 pub mod Question10
 pub mod Built
 pub mod Drawn
+pub mod Redrawn
