@@ -78,14 +78,22 @@ module _ (w old : List ℕ) (n : ℕ) (done : numberOf (buildReply w (length old
   pub built-holds : Holds (buildWords w old n) (length ((timetableOf w) .stations)) ((timetableOf w) .trips)
   built-holds = record { is = rw built-words (take-put (tablesOf (timetableOf w)) old) }
 
-  built-long : length (buildWords w old n) ≡ length old
-  built-long =
+  pub built-room : slicesLeast ≤ length old
+  built-room =
       let words : Bool = leb slicesLeast (length w) in
       let tables : Bool = leb slicesLeast (length old) in
       let both = and-left (words && tables) (leb slicesLeast n) yes-8 in
-      let room = leb-true slicesLeast (length old) (and-right words tables both) in
+      leb-true slicesLeast (length old) (and-right words tables both)
+
+  pub built-space : slicesLeast ≤ n
+  built-space =
+      let both : Bool = leb slicesLeast (length w) && leb slicesLeast (length old) in
+      leb-true slicesLeast n (and-right both (leb slicesLeast n) yes-8)
+
+  pub built-long : length (buildWords w old n) ≡ length old
+  built-long =
       ap length built-words
-      ∙ length-put 0 (tablesOf (timetableOf w)) old (omega (arith, tables-fit w built-yes-9))
+      ∙ length-put 0 (tablesOf (timetableOf w)) old (omega (arith, tables-fit w built-yes-9, built-room))
 
   -- question 10 has its yes, and so have all three
   pub built-has-yes : areTables w (buildWords w old n) ≡ true

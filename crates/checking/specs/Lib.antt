@@ -2,3 +2,4 @@ pub mod Question10
 pub mod Built
 pub mod Drawn
 pub mod Redrawn
+pub mod Alone

@@ -5,15 +5,14 @@ use mathlib.Core.Bool.{Bool, true, false, cond}
 use mathlib.Core.List.{List, [], _∷_, map, List·Memᴰ·head as here, List·Memᴰ·tail as there}
 use Prim.Native.Nat.{ℕ, zero, suc, _+_, _≤_, _<_}
 use native.Mathlib.Omega.{arith}
-use borrow.Author.Tests.{ltb-true, lt-ltb, eqb-true, eq-eqb}
 use native.Mathlib.Decide.{ℕ-discrete}
-use lib.Dec.{T, ltb, eqb}
+use borrow.Author.Tests.{ltb-true, lt-ltb, eqb-true, eq-eqb}
+use lib.Dec.{T, eqb}
 use lib.ListN.{length, getD, replicate}
 use Rattle.lists.specs.Lists.{_∈_, range}
-use Rattle.timetable.specs.Timetable.{Station, Stop, Trip, Timetable}
+use Rattle.timetable.specs.Timetable.{Trip, Timetable}
 use Rattle.connections.specs.Rides.{noStop}
 use Rattle.lines.specs.Lines.{lines, course}
-use Rattle.lines.specs.Behind.{Later}
 use Rattle.lines.specs.Ordered.{Line, lines-good, line-length, line-stop}
 use Rattle.lines.specs.Once.{line-of}
 use Rattle.tables.specs.Tables.{stopOf}
@@ -84,6 +83,10 @@ read-off d f k (x ∷ l) h =
     let rest = read-off d f (suc k) l (λ i g. ap f (next i) ∙ h (suc i) (omega arith)) in
     λ i. (ap f first ∙ h 0 (omega arith)) i ∷ rest i
 
+read-all : {A : Type 0} (d : A) (f : ℕ → A) (l : List A) → ((i : ℕ) → i < length l → f i ≡ getD l i d)
+    → map f (range 0 (length l)) ≡ l
+read-all d f l h = read-off d f 0 l (λ i g. ap f (omega arith) ∙ h i g)
+
 -- ---- the home that is found for the trip at place z: a line with it, whatever place has its number
 record Homed (v : List ℕ) (t : List Trip) (z : ℕ) : Type 0 where
   line : ℕ
@@ -104,11 +107,12 @@ module _ (v : List ℕ) (n : ℕ) (t : List Trip) (told : Told v n t) (z : ℕ) 
   line-has : (i : ℕ) → i < length (lines t) → Placed z 0 (getD (lines t) i []) → hasTrip v (z + 1) i ≡ true
   line-has i listed p =
       let l = told .line i listed in
+      let m = (lineAt v i) .trips in
+      let inside : p .at < 0 + m = omega (arith, l .trips, p .inside) in
       let number = l .number (p .at) (p .inside) in
       let passes = eq-eqb (numberAt v (lineAt v i) (p .at)) (z + 1) (omega (arith, p .is)) in
-      let there = first-there (numbered i) 0 ((lineAt v i) .trips) (p .at) (omega arith)
-      (omega (arith, l .trips, p .inside)) passes in
-      lt-ltb (placeIn i) ((lineAt v i) .trips) (omega arith)
+      let there = first-there (numbered i) 0 m (p .at) (omega arith) inside passes in
+      lt-ltb (placeIn i) m (omega arith)
 
   -- and where the line has it, its place is one with the trip
   place-is : (i : ℕ) → i < length (lines t) → hasTrip v (z + 1) i ≡ true
@@ -129,8 +133,8 @@ module _ (v : List ℕ) (n : ℕ) (t : List Trip) (told : Told v n t) (z : ℕ) 
       let j : Placed z 0 (getD (lines t) (i .at) []) = subst (Placed z 0) (sym (i .is)) (placed 0 (o .member)) in
       let has = line-has (i .at) (i .inside) j in
       let count = told .line-count in
-      let below = first-there (hasTrip v (z + 1)) 0 (lineCount v) (i .at) (omega arith)
-      (omega (arith, i .inside)) has in
+      let inside : i .at < 0 + lineCount v = omega (arith, i .inside) in
+      let below = first-there (hasTrip v (z + 1)) 0 (lineCount v) (i .at) (omega arith) inside has in
       let first = homeLine v (z + 1) in
       let listed : first < length (lines t) = omega arith in
       let p = place-is first listed (first-passes (hasTrip v (z + 1)) 0 (lineCount v) (omega arith)) in
@@ -151,8 +155,8 @@ module _ (v : List ℕ) (n : ℕ) (t : List Trip) (told : Told v n t) (z : ℕ) 
     abbrev trip : Trip
     trip = getD t z []
 
-    abbrev place : Home
-    place = record { line = lineAt v (home .line); place = home .place }
+    abbrev found : Home
+    found = record { line = lineAt v (home .line); place = home .place }
 
     line-told : LineTold v t (home .line) line
     line-told = told .line (home .line) (home .listed)
@@ -166,26 +170,25 @@ module _ (v : List ℕ) (n : ℕ) (t : List Trip) (told : Told v n t) (z : ℕ) 
     long : length (course t line) ≡ length trip
     long = line-length t line z good member
 
-    drawn-stop : (p : ℕ) → p < length trip → stopOn v place p ≡ getD trip p noStop
+    drawn-stop : (p : ℕ) → p < length trip → stopOn v found p ≡ getD trip p noStop
     drawn-stop p h =
+        let j = home .place in
+        let on = home .on in
+        let same = home .trip in
         let course-stop = line-stop t line z p good member in
         let inside : p < length (course t line) = omega (arith, long) in
         let station = line-told .station p inside ∙ course-stop .station in
         let points = line-told .points p inside ∙ course-stop .points in
-        let arrive = line-told .arrive p (home .place) inside (home .on)
-        ∙ ap (λ x. (stopOf t x p) .arrive) (home .trip) in
-        let depart = line-told .depart p (home .place) inside (home .on)
-        ∙ ap (λ x. (stopOf t x p) .depart) (home .trip) in
+        let arrive = line-told .arrive p j inside on ∙ ap (λ x. (stopOf t x p) .arrive) same in
+        let depart = line-told .depart p j inside on ∙ ap (λ x. (stopOf t x p) .depart) same in
         λ i. record { station = station i; arrive = arrive i; depart = depart i; points = points i }
 
     drawn-trip : drawnTrip v z ≡ trip
     unfolding tripOn
     drawn-trip =
-        let positions = line-told .positions ∙ long in
         ap (tripOn v) (home .is)
-        ∙ ap (λ k. map (stopOn v place) (range 0 k)) positions
-        ∙ read-off noStop (stopOn v place) 0 trip
-        (λ p h. ap (stopOn v place) (omega arith) ∙ drawn-stop p h)
+        ∙ ap (λ k. map (stopOn v found) (range 0 k)) (line-told .positions ∙ long)
+        ∙ read-all noStop (stopOn v found) trip drawn-stop
 
 -- ---- what is drawn: the trips of the timetable, and as many stations, which say nothing of changes
 abbrev pub plain : (n : ℕ) (t : List Trip) → Timetable
@@ -194,7 +197,8 @@ plain n t = record { stations = replicate n plainStation; trips = t }
 pub redrawn : (v : List ℕ) (n : ℕ) (t : List Trip) → Told v n t → drawn v ≡ plain n t
 unfolding drawn
 redrawn v n t told =
-    let trips = ap (λ k. map (drawnTrip v) (range 0 k)) (told .trip-count)
-    ∙ read-off [] (drawnTrip v) 0 t
-    (λ z h. ap (drawnTrip v) (omega arith) ∙ drawn-trip v n t told z (homed v n t told z h)) in
+    let each : (z : ℕ) → z < length t → drawnTrip v z ≡ getD t z [] =
+    λ z h. drawn-trip v n t told z (homed v n t told z h) in
+    let counted = ap (λ k. map (drawnTrip v) (range 0 k)) (told .trip-count) in
+    let trips = counted ∙ read-all [] (drawnTrip v) t each in
     λ i. record { stations = replicate (told .stations i) plainStation; trips = trips i }

@@ -42,9 +42,9 @@ module _ (t : List Trip) where
   unfolding lines
   all-on-lines = omega (arith, trips-added t (inOrder t) [], length-order t)
 
-  pub lines-few : length (lines t) ≤ length t
+  pub no-more-lines : length (lines t) ≤ length t
   unfolding lines
-  lines-few = omega (arith, lines-added t (inOrder t) [], length-order t)
+  no-more-lines = omega (arith, lines-added t (inOrder t) [], length-order t)
 
 some-lines : (ls : List (List ℕ)) → 1 ≤ length (onLines ls) → 1 ≤ length ls
 some-lines [] h = h
@@ -62,7 +62,7 @@ module _ (w : List ℕ) where
   trips-on-lines = all-on-lines t ∙ length-trips w
 
   pub lines-most : length (lines t) ≤ tripCount w
-  lines-most = omega (arith, lines-few t, length-trips w)
+  lines-most = omega (arith, no-more-lines t, length-trips w)
 
   pub line-some : (l : List ℕ) → l ∈ lines t → 1 ≤ length l
   line-some l m = some-member l (headOf l) (lines-good t l m .led)
