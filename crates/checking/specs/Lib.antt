@@ -1,2 +1,5 @@
 pub mod Question10
+pub mod Built
 pub mod Drawn
+pub mod Redrawn
+pub mod Alone
