@@ -1,0 +1,57 @@
+use Rattle.direct.proofs.fill_blank.Statement.{statement}
+use Rattle.direct.proofs.fill_blank.Tie as tie
+use Rattle.direct.proofs.fill_blank.Reads as reads
+use Rattle.direct.proofs.fill_blank.Lts as lts
+
+abbrev Inv-loop : tie.InvT-loop
+Inv-loop best₀ i₀ best i = ?
+
+abbrev μ-loop : tie.MeasureT-loop
+μ-loop best₀ i₀ best i = ?
+
+-- src/lib.rt:84:5
+loop-holds : tie.Need-loop-holds Inv-loop μ-loop
+loop-holds c = ?
+
+-- src/lib.rt:85:9
+mul-best : tie.Need-mul-best Inv-loop μ-loop
+mul-best c = ?
+
+-- src/lib.rt:85:9
+slice-write-best : tie.Need-slice-write-best Inv-loop μ-loop
+slice-write-best c = ?
+
+-- src/lib.rt:86:9
+add-i : tie.Need-add-i Inv-loop μ-loop
+add-i c = ?
+
+-- src/lib.rt:84:5
+loop-less : tie.Need-loop-less Inv-loop μ-loop
+loop-less c = ?
+
+-- src/lib.rt:84:5
+loop-again : tie.Need-loop-again Inv-loop μ-loop
+loop-again c = ?
+
+-- src/lib.rt:78:1
+same-length : tie.Need-same-length Inv-loop μ-loop
+same-length c = ?
+
+-- src/lib.rt:78:1
+returns : tie.Need-returns Inv-loop μ-loop
+returns c = ?
+
+pub fill-blank-spec : {M : Type 1} → statement M
+fill-blank-spec =
+    tie.close
+    (tie.spec
+    Inv-loop
+    μ-loop
+    loop-holds
+    mul-best
+    slice-write-best
+    add-i
+    loop-less
+    loop-again
+    same-length
+    returns)
