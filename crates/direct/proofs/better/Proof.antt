@@ -1,3 +1,4 @@
+use Rattle.direct.proofs.FoundLaws.{takes-new, keeps-old}
 use borrow.Author.Needs.{needs}
 use Rattle.direct.proofs.better.Statement.{statement}
 use Rattle.direct.proofs.better.Tie as tie
@@ -11,11 +12,11 @@ goes-before-requires c κs = search needs
 
 -- src/lib.rt:49:9
 returns : tie.Need-returns
-returns c = ?
+returns c = search takes-new
 
 -- src/lib.rt:45:1
 returns-2 : tie.Need-returns-2
-returns-2 c = ?
+returns-2 c = search keeps-old
 
 pub better-spec : {M : Type 1} → statement M
 better-spec = tie.close (tie.spec goes-before-requires returns returns-2)

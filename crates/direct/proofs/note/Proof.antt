@@ -1,3 +1,4 @@
+use Rattle.direct.proofs.NoteLaws.{note-past, note-here}
 use borrow.Author.Needs.{needs}
 use Rattle.direct.proofs.note.Statement.{statement}
 use Rattle.direct.proofs.note.Tie as tie
@@ -35,11 +36,11 @@ same-length c = search needs
 
 -- src/lib.rt:55:1
 returns : tie.Need-returns
-returns c = ?
+returns c = (search note-here, search needs)
 
 -- src/lib.rt:55:1
 returns-2 : tie.Need-returns-2
-returns-2 c = ?
+returns-2 c = (search note-past, search needs)
 
 pub note-spec : {M : Type 1} → statement M
 note-spec =
