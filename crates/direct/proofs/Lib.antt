@@ -1,3 +1,5 @@
 pub mod FoundLaws
 pub mod NoteLaws
 pub mod LeadLaws
+pub mod ReachLaws
+pub mod CallLaws

@@ -1,11 +1,16 @@
 // Direct rides: the costs of the query from the first trips of the lines, and for each cost the ride that is shown.
 ghost use mathlib.Core.Path.{_≡_};
 ghost use mathlib.Core.Bool.{cond};
-ghost use mathlib.Core.List.{[], _∷_};
-ghost use Prim.Native.Nat.{_+_, _*_, _≤_, _<_, min};
+ghost use mathlib.Core.List.{[], _∷_, map};
+ghost use Prim.Native.Nat.{_+_, _-_, _*_, _≤_, _<_, min};
 ghost use lib.Dec.{ltb};
 ghost use lib.ListN.{length, getD, set};
 ghost use Rattle.direct.specs.Choosing.{noPoints, blank, leads, goesBefore, better};
+ghost use Rattle.direct.specs.Choosing.{noteAll};
+ghost use Rattle.direct.specs.Candidates.{rideOn, reach, firstRead};
+ghost use Rattle.direct.specs.Turns.{lowered, notedAt};
+ghost use Rattle.lookup.specs.Lookup.{lineAt, callsPlace};
+use lookup::{Line, peek, line_at, station_at, points_at, arrive_at, calls_place, first_trip};
 use results::{Minutes, Points, Cost};
 
 // A ride that may be shown.
@@ -54,8 +59,7 @@ fn better(f: Found, g: Found) -> Found
 // Notes that a ride arrives at a minute for a penalty: best holds the least penalty for each arrival minute.
 fn note(best: &mut [u32], cost: Cost)
     ensures { λ _. ⌜ now (best .exit)
-        ≡ set (now (best .entry)) (cost .minutes .0)
-        (min (getD (now (best .entry)) (cost .minutes .0) 0) (cost .points .0)) ⌝ }
+        ≡ lowered (now (best .entry)) (cost .minutes .0) (cost .points .0) ⌝ }
     ensures { λ _. ⌜ length (now (best .exit)) ≡ length (now (best .entry)) ⌝ }
 {
     let minute = cost.minutes.0 as usize;
@@ -111,4 +115,79 @@ fn count_rows(best: &[u32]) -> usize
         a += 1;
     }
     rows
+}
+
+// Notes the ride on the trip at place j of a line to place p, if the station there is the one asked for; points is the
+// penalty of that ride.
+fn note_at(v: &[u16], l: Line, p: usize, j: usize, to: usize, points: u32, best: &mut [u32])
+    requires { ⌜ (l .at < 65536) × (l .positions < 65536) × (l .trips < 65536) × (p < 65536) × (j < 65536) ⌝ }
+    ensures { λ _. ⌜ now (best .exit) ≡ notedAt (now (v .entry)) l p j to points (now (best .entry)) ⌝ }
+    ensures { λ _. ⌜ length (now (best .exit)) ≡ length (now (best .entry)) ⌝ }
+{
+    if station_at(v, l, p) == to {
+        let minutes = Minutes(arrive_at(v, l, p, j) as u32);
+        note(best, Cost { minutes, points: Points(points) });
+    }
+}
+
+// Notes all rides on the trip at place j of a line from place x to the station.
+fn note_reach(v: &[u16], l: Line, x: usize, j: usize, to: usize, best: &mut [u32])
+    requires { ⌜ (l .at < 65536) × (l .positions < 65536) × (l .trips < 65536) × (x < 65536) × (j < 65536) ⌝ }
+    ensures { λ _. ⌜ now (best .exit)
+        ≡ noteAll (now (best .entry)) (map (rideOn (now (v .entry)) l x j) (reach (now (v .entry)) l x to)) ⌝ }
+    ensures { λ _. ⌜ length (now (best .exit)) ≡ length (now (best .entry)) ⌝ }
+{
+    let mut points: u32 = 0;
+    let mut p = x;
+    while p + 1 < l.positions {
+        points += points_at(v, l, p) as u32;
+        p += 1;
+        note_at(v, l, p, j, to, points, best);
+    }
+}
+
+// A number from 1 as a place from 0. A word that is 0 where none should be counts as 1.
+fn less_one(n: usize) -> usize
+    ensures { λ r. ⌜ r ≡ n - 1 ⌝ }
+{
+    if n == 0 {
+        return 0;
+    }
+    n - 1
+}
+
+// The line of the call at index k.
+fn call_line(v: &[u16], k: usize) -> Line
+    ensures { λ r. ⌜ r ≡ lineAt (now (v .entry)) (getD (now (v .entry)) k 0 - 1) ⌝ }
+    ensures { λ r. ⌜ (r .at < 65536) × (r .positions < 65536) × (r .trips < 65536) ⌝ }
+{
+    line_at(v, less_one(peek(v, k)))
+}
+
+// The place on its line of the call at index k.
+fn call_place(v: &[u16], k: usize) -> usize
+    requires { ⌜ k < 65536 ⌝ }
+    ensures { λ r. ⌜ (r ≡ getD (now (v .entry)) (k + 1) 0 - 1) × (r < 65536) ⌝ }
+{
+    less_one(peek(v, k + 1))
+}
+
+// Notes, at each call of station from, the rides to station to on the first trip that leaves at the minute or later.
+fn note_first(v: &[u16], from: usize, to: usize, minute: usize, best: &mut [u32])
+    requires { ⌜ (1 ≤ from) × (from ≤ 64) × (callsPlace (now v) from ≤ length (now v)) ⌝ }
+    ensures { λ _. ⌜ now (best .exit) ≡ noteAll (now (best .entry)) (firstRead (now (v .entry)) from minute to) ⌝ }
+    ensures { λ _. ⌜ length (now (best .exit)) ≡ length (now (best .entry)) ⌝ }
+{
+    let end = calls_place(v, from);
+    let mut k = calls_place(v, from - 1);
+    'calls: while k + 1 < end {
+        let l = call_line(v, k);
+        let x = call_place(v, k);
+        k += 2;
+        let first = first_trip(v, l, x, minute);
+        if l.trips <= first {
+            continue 'calls;
+        }
+        note_reach(v, l, x, first, to, best);
+    }
 }
