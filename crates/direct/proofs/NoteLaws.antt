@@ -6,7 +6,8 @@ use native.Mathlib.Omega.{arith}
 use lib.ListN.{length, getD, set, drop, replicate, length-append}
 use lib.Seq.{set-out, drop-length}
 use borrow.Author.Fill.{fill-more}
-use Rattle.direct.specs.Choosing.{noPoints, blank, noteAll}
+use Rattle.connections.specs.Rides.{Ride}
+use Rattle.direct.specs.Choosing.{noPoints, blank, noted, noteAll}
 
 module _ (best : List ℕ) (a p : ℕ) where
   pub note-past : length best ≤ a → best ≡ set best a (min (getD best a 0) p)
@@ -30,3 +31,9 @@ module _ (old best : List ℕ) (i : ℕ) (so-far : best ≡ replicate i noPoints
           ∙ ap (λ k. replicate n noPoints ++ drop k l) (sym f)
           ∙ ap (λ r. replicate n noPoints ++ r) (drop-length l)
           ∙ append-nil (replicate n noPoints)
+
+-- some rides, then some more
+pub noteAll-append : (best : List ℕ) (a b : List Ride) → noteAll best (a ++ b) ≡ noteAll (noteAll best a) b
+unfolding noteAll
+noteAll-append best [] b = refl
+noteAll-append best (r ∷ a) b = noteAll-append (noted best r) a b

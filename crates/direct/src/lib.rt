@@ -10,8 +10,17 @@ ghost use Rattle.direct.specs.Choosing.{noteAll};
 ghost use Rattle.direct.specs.Candidates.{rideOn, reach, firstRead};
 ghost use Rattle.direct.specs.Turns.{lowered, notedAt};
 ghost use Rattle.lookup.specs.Lookup.{lineAt, callsPlace};
-use lookup::{Line, peek, line_at, station_at, points_at, arrive_at, calls_place, first_trip};
-use results::{Minutes, Points, Cost};
+use lookup::Line;
+use lookup::arrive_at;
+use lookup::calls_place;
+use lookup::first_trip;
+use lookup::line_at;
+use lookup::peek;
+use lookup::points_at;
+use lookup::station_at;
+use results::Cost;
+use results::Minutes;
+use results::Points;
 
 // A ride that may be shown.
 pub struct Found {
@@ -126,7 +135,13 @@ fn note_at(v: &[u16], l: Line, p: usize, j: usize, to: usize, points: u32, best:
 {
     if station_at(v, l, p) == to {
         let minutes = Minutes(arrive_at(v, l, p, j) as u32);
-        note(best, Cost { minutes, points: Points(points) });
+        note(
+            best,
+            Cost {
+                minutes,
+                points: Points(points),
+            },
+        );
     }
 }
 
