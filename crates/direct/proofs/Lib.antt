@@ -3,3 +3,4 @@ pub mod NoteLaws
 pub mod LeadLaws
 pub mod ReachLaws
 pub mod CallLaws
+pub mod PickLaws

@@ -6,18 +6,12 @@ ghost use Prim.Native.Nat.{_+_, _-_, _*_, _≤_, _<_, min};
 ghost use lib.Dec.{ltb};
 ghost use lib.ListN.{length, getD, set};
 ghost use Rattle.direct.specs.Choosing.{noPoints, blank, leads, goesBefore, better};
-ghost use Rattle.direct.specs.Choosing.{noteAll};
-ghost use Rattle.direct.specs.Candidates.{rideOn, reach, firstRead};
-ghost use Rattle.direct.specs.Turns.{lowered, notedAt};
+ghost use Rattle.direct.specs.Choosing.{noteAll, pickFor};
+ghost use Rattle.direct.specs.Candidates.{rideOn, reach, firstRead, allRead};
+ghost use Rattle.direct.specs.Turns.{costOf, lowered, notedAt, picked, triedOn, tripsFrom, pickedAt, Fitting};
+ghost use Rattle.lists.specs.Lists.{concatMap};
 ghost use Rattle.lookup.specs.Lookup.{lineAt, callsPlace};
 use lookup::Line;
-use lookup::arrive_at;
-use lookup::calls_place;
-use lookup::first_trip;
-use lookup::line_at;
-use lookup::peek;
-use lookup::points_at;
-use lookup::station_at;
 use results::Cost;
 use results::Minutes;
 use results::Points;
@@ -133,8 +127,8 @@ fn note_at(v: &[u16], l: Line, p: usize, j: usize, to: usize, points: u32, best:
     ensures { λ _. ⌜ now (best .exit) ≡ notedAt (now (v .entry)) l p j to points (now (best .entry)) ⌝ }
     ensures { λ _. ⌜ length (now (best .exit)) ≡ length (now (best .entry)) ⌝ }
 {
-    if station_at(v, l, p) == to {
-        let minutes = Minutes(arrive_at(v, l, p, j) as u32);
+    if lookup::station_at(v, l, p) == to {
+        let minutes = Minutes(lookup::arrive_at(v, l, p, j) as u32);
         note(
             best,
             Cost {
@@ -155,7 +149,7 @@ fn note_reach(v: &[u16], l: Line, x: usize, j: usize, to: usize, best: &mut [u32
     let mut points: u32 = 0;
     let mut p = x;
     while p + 1 < l.positions {
-        points += points_at(v, l, p) as u32;
+        points += lookup::points_at(v, l, p) as u32;
         p += 1;
         note_at(v, l, p, j, to, points, best);
     }
@@ -176,7 +170,7 @@ fn call_line(v: &[u16], k: usize) -> Line
     ensures { λ r. ⌜ r ≡ lineAt (now (v .entry)) (getD (now (v .entry)) k 0 - 1) ⌝ }
     ensures { λ r. ⌜ (r .at < 65536) × (r .positions < 65536) × (r .trips < 65536) ⌝ }
 {
-    line_at(v, less_one(peek(v, k)))
+    lookup::line_at(v, less_one(lookup::peek(v, k)))
 }
 
 // The place on its line of the call at index k.
@@ -184,7 +178,7 @@ fn call_place(v: &[u16], k: usize) -> usize
     requires { ⌜ k < 65536 ⌝ }
     ensures { λ r. ⌜ (r ≡ getD (now (v .entry)) (k + 1) 0 - 1) × (r < 65536) ⌝ }
 {
-    less_one(peek(v, k + 1))
+    less_one(lookup::peek(v, k + 1))
 }
 
 // Notes, at each call of station from, the rides to station to on the first trip that leaves at the minute or later.
@@ -193,16 +187,144 @@ fn note_first(v: &[u16], from: usize, to: usize, minute: usize, best: &mut [u32]
     ensures { λ _. ⌜ now (best .exit) ≡ noteAll (now (best .entry)) (firstRead (now (v .entry)) from minute to) ⌝ }
     ensures { λ _. ⌜ length (now (best .exit)) ≡ length (now (best .entry)) ⌝ }
 {
-    let end = calls_place(v, from);
-    let mut k = calls_place(v, from - 1);
+    let end = lookup::calls_place(v, from);
+    let mut k = lookup::calls_place(v, from - 1);
     'calls: while k + 1 < end {
         let l = call_line(v, k);
         let x = call_place(v, k);
         k += 2;
-        let first = first_trip(v, l, x, minute);
+        let first = lookup::first_trip(v, l, x, minute);
         if l.trips <= first {
             continue 'calls;
         }
         note_reach(v, l, x, first, to, best);
     }
+}
+
+// The ride on the trip at place j of a line from place x to place p, if it arrives at the minute of the cost and goes
+// before the one found so far.
+fn pick_trip(v: &[u16], l: Line, x: usize, p: usize, j: usize, cost: Cost, found: Found) -> Found
+    requires { ⌜ (l .at < 65536)
+        × (l .positions < 65536)
+        × (l .trips < 65536)
+        × (x < 65536)
+        × (p < 65536)
+        × (j < 65536)
+        × Fitting found ⌝ }
+    ensures { λ r. ⌜ (r ≡ triedOn (now (v .entry)) l x p j (cost .minutes .0) found) × Fitting r ⌝ }
+{
+    if lookup::arrive_at(v, l, p, j) == cost.minutes.0 as usize {
+        let depart = lookup::depart_at(v, l, x, j);
+        let trip = lookup::number_at(v, l, j);
+        let ride = Found {
+            depart,
+            trip,
+            board: x + 1,
+            alight: p + 1,
+        };
+        return better(found, ride);
+    }
+    found
+}
+
+// The best of the rides from place x to place p of a line that arrive at the minute of the cost, on its trips from
+// place first on.
+fn pick_trips(v: &[u16], l: Line, x: usize, p: usize, first: usize, cost: Cost, found: Found) -> Found
+    requires { ⌜ (l .at < 65536)
+        × (l .positions < 65536)
+        × (l .trips < 65536)
+        × (x < 65536)
+        × (p < 65536)
+        × (first ≤ l .trips)
+        × Fitting found ⌝ }
+    ensures { λ r. ⌜ (r
+        ≡ picked (costOf cost) found
+        (tripsFrom (now (v .entry)) l x first (record { place = p; points = cost .points .0 })))
+        × Fitting r ⌝ }
+{
+    let mut best = found;
+    let mut j = first;
+    while j < l.trips {
+        best = pick_trip(v, l, x, p, j, cost, best);
+        j += 1;
+    }
+    best
+}
+
+// The best of the rides of the cost to place p of a line, if the station there is the one asked for; points is the
+// penalty of those rides.
+fn pick_at(
+    v: &[u16],
+    l: Line,
+    x: usize,
+    p: usize,
+    first: usize,
+    to: usize,
+    points: u32,
+    cost: Cost,
+    found: Found,
+) -> Found
+    requires { ⌜ (l .at < 65536)
+        × (l .positions < 65536)
+        × (l .trips < 65536)
+        × (x < 65536)
+        × (p < 65536)
+        × (first ≤ l .trips)
+        × Fitting found ⌝ }
+    ensures { λ r. ⌜ (r ≡ pickedAt (now (v .entry)) l x p first to points (costOf cost) found) × Fitting r ⌝ }
+{
+    if lookup::station_at(v, l, p) != to {
+        return found;
+    }
+    if points != cost.points.0 {
+        return found;
+    }
+    pick_trips(v, l, x, p, first, cost, found)
+}
+
+// The best of the rides of the cost from place x of a line to the station, on its trips from place first on.
+fn pick_reach(v: &[u16], l: Line, x: usize, first: usize, to: usize, cost: Cost, found: Found) -> Found
+    requires { ⌜ (l .at < 65536)
+        × (l .positions < 65536)
+        × (l .trips < 65536)
+        × (x < 65536)
+        × (first ≤ l .trips)
+        × Fitting found ⌝ }
+    ensures { λ r. ⌜ (r
+        ≡ picked (costOf cost) found
+        (concatMap (tripsFrom (now (v .entry)) l x first) (reach (now (v .entry)) l x to)))
+        × Fitting r ⌝ }
+{
+    let mut best = found;
+    let mut points: u32 = 0;
+    let mut p = x;
+    while p + 1 < l.positions {
+        points += lookup::points_at(v, l, p) as u32;
+        p += 1;
+        best = pick_at(v, l, x, p, first, to, points, cost, best);
+    }
+    best
+}
+
+// The ride that is shown for a cost, its minutes being those of the arrival.
+fn pick_ride(v: &[u16], from: usize, to: usize, minute: usize, cost: Cost) -> Found
+    requires { ⌜ (1 ≤ from) × (from ≤ 64) × (callsPlace (now v) from ≤ length (now v)) ⌝ }
+    ensures { λ r. ⌜ (r ≡ pickFor (allRead (now (v .entry)) from minute to) (costOf cost)) × Fitting r ⌝ }
+{
+    let mut found = Found {
+        depart: 0,
+        trip: 65536,
+        board: 0,
+        alight: 0,
+    };
+    let end = lookup::calls_place(v, from);
+    let mut k = lookup::calls_place(v, from - 1);
+    while k + 1 < end {
+        let l = call_line(v, k);
+        let x = call_place(v, k);
+        let first = lookup::first_trip(v, l, x, minute);
+        found = pick_reach(v, l, x, first, to, cost, found);
+        k += 2;
+    }
+    found
 }
