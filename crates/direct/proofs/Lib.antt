@@ -4,3 +4,4 @@ pub mod LeadLaws
 pub mod ReachLaws
 pub mod CallLaws
 pub mod PickLaws
+pub mod PickedLaws
