@@ -5,3 +5,4 @@ pub mod ReachLaws
 pub mod CallLaws
 pub mod PickLaws
 pub mod PickedLaws
+pub mod RowLaws

@@ -3,7 +3,7 @@
 use mathlib.Core.Bool.{cond}
 use mathlib.Core.List.{List, [], _∷_, map}
 use Prim.Native.Nat.{ℕ, _+_, _-_, _≤_, min}
-use lib.Dec.{eqb}
+use lib.Dec.{ltb, eqb}
 use lib.ListN.{getD, set}
 use Rattle.lists.specs.Lists.{filter, concatMap, range}
 use Rattle.results.specs.Results.{Cost}
@@ -11,7 +11,7 @@ use Rattle.results.specs.declared.Cost.{Cost as CostStruct}
 use Rattle.connections.specs.Rides.{Ride}
 use Rattle.lookup.specs.Lookup.{Line, lineAt, numberAt, stationAt, arriveAt, departAt}
 use Rattle.direct.specs.Candidates.{Call, Reach, rideOn, firstOn, allOn}
-use Rattle.direct.specs.Choosing.{Found, better, pickFrom, costs}
+use Rattle.direct.specs.Choosing.{Found, better, pickFrom, costs, pickFor, rowFor}
 
 -- the cost of the struct of src/
 abbrev pub costOf : CostStruct → Cost
@@ -60,3 +60,7 @@ pub record Fitting (f : Found) : Type 0 where
   pub trip : f .trip ≤ 65536
   pub board : f .board ≤ 65536
   pub alight : f .alight ≤ 65536
+
+-- the row for minute and penalty c, if that is below the least penalty so far
+unfoldable pub leadWords : (u : ℕ) → List Ride → Cost → (least : ℕ) → List ℕ
+leadWords u l c least = cond (ltb (c .points) least) (rowFor u c (pickFor l c)) []

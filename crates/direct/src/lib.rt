@@ -6,15 +6,28 @@ ghost use Prim.Native.Nat.{_+_, _-_, _*_, _≤_, _<_, min};
 ghost use lib.Dec.{ltb};
 ghost use lib.ListN.{length, getD, set};
 ghost use Rattle.direct.specs.Choosing.{noPoints, blank, leads, goesBefore, better};
-ghost use Rattle.direct.specs.Choosing.{noteAll, pickFor};
+ghost use Rattle.direct.specs.Choosing.{noteAll, pickFor, rowFor, rowsFrom};
 ghost use Rattle.direct.specs.Candidates.{rideOn, reach, firstRead, allRead};
-ghost use Rattle.direct.specs.Turns.{costOf, lowered, notedAt, picked, triedOn, tripsFrom, pickedAt, Fitting};
+ghost use Rattle.direct.specs.Turns.{costOf, lowered, notedAt, picked, triedOn, tripsFrom, pickedAt, leadWords, Fitting};
+ghost use Rattle.words.specs.Put.{put};
 ghost use Rattle.lists.specs.Lists.{concatMap};
 ghost use Rattle.lookup.specs.Lookup.{lineAt, callsPlace};
 use lookup::Line;
 use results::Cost;
 use results::Minutes;
 use results::Points;
+
+// The minutes in which a trip may arrive: 0 to 2,879.
+const MINUTES: usize = 2880;
+
+// The penalty of a minute in which no ride arrives; every ride has less.
+const NO_POINTS: u32 = u32::MAX;
+
+// The trip of no ride: every trip has a lower number.
+const NO_TRIP: usize = 65536;
+
+// The words of a row of the answer.
+const ROW_WORDS: usize = 6;
 
 // A ride that may be shown.
 pub struct Found {
@@ -59,7 +72,8 @@ fn better(f: Found, g: Found) -> Found
     f
 }
 
-// Notes that a ride arrives at a minute for a penalty: best holds the least penalty for each arrival minute.
+// Notes that a ride arrives at a minute with a penalty; best holds the least penalty for each arrival minute. A minute
+// past its end is not noted: no trip of a timetable arrives then.
 fn note(best: &mut [u32], cost: Cost)
     ensures { λ _. ⌜ now (best .exit)
         ≡ lowered (now (best .entry)) (cost .minutes .0) (cost .points .0) ⌝ }
@@ -81,15 +95,15 @@ fn lesser(a: u32, b: u32) -> u32
     a
 }
 
-// No ride has been noted yet.
+// Before a query no ride has been noted for any minute.
 fn fill_blank(best: &mut [u32])
     requires { ⌜ length (now best) ≡ 2880 ⌝ }
     ensures { λ _. ⌜ now (best .exit) ≡ blank ⌝ }
     ensures { λ _. ⌜ length (now (best .exit)) ≡ length (now (best .entry)) ⌝ }
 {
     let mut i = 0;
-    while i < 2880 {
-        best[i] = u32::MAX;
+    while i < MINUTES {
+        best[i] = NO_POINTS;
         i += 1;
     }
 }
@@ -110,9 +124,9 @@ fn count_rows(best: &[u32]) -> usize
     ensures { λ r. ⌜ r ≡ length (leads noPoints 0 (now (best .entry))) ⌝ }
 {
     let mut rows = 0;
-    let mut least = u32::MAX;
+    let mut least = NO_POINTS;
     let mut a = 0;
-    while a < 2880 {
+    while a < MINUTES {
         rows += below(best[a], least);
         least = lesser(least, best[a]);
         a += 1;
@@ -229,7 +243,15 @@ fn pick_trip(v: &[u16], l: Line, x: usize, p: usize, j: usize, cost: Cost, found
 
 // The best of the rides from place x to place p of a line that arrive at the minute of the cost, on its trips from
 // place first on.
-fn pick_trips(v: &[u16], l: Line, x: usize, p: usize, first: usize, cost: Cost, found: Found) -> Found
+fn pick_trips(
+    v: &[u16],
+    l: Line,
+    x: usize,
+    p: usize,
+    first: usize,
+    cost: Cost,
+    found: Found,
+) -> Found
     requires { ⌜ (l .at < 65536)
         × (l .positions < 65536)
         × (l .trips < 65536)
@@ -283,7 +305,15 @@ fn pick_at(
 }
 
 // The best of the rides of the cost from place x of a line to the station, on its trips from place first on.
-fn pick_reach(v: &[u16], l: Line, x: usize, first: usize, to: usize, cost: Cost, found: Found) -> Found
+fn pick_reach(
+    v: &[u16],
+    l: Line,
+    x: usize,
+    first: usize,
+    to: usize,
+    cost: Cost,
+    found: Found,
+) -> Found
     requires { ⌜ (l .at < 65536)
         × (l .positions < 65536)
         × (l .trips < 65536)
@@ -313,7 +343,7 @@ fn pick_ride(v: &[u16], from: usize, to: usize, minute: usize, cost: Cost) -> Fo
 {
     let mut found = Found {
         depart: 0,
-        trip: 65536,
+        trip: NO_TRIP,
         board: 0,
         alight: 0,
     };
@@ -327,4 +357,99 @@ fn pick_ride(v: &[u16], from: usize, to: usize, minute: usize, cost: Cost) -> Fo
         k += 2;
     }
     found
+}
+
+// The minutes from one minute to a later one; none if it is not later.
+fn minutes_between(minute: usize, arrive: u32) -> u32
+    ensures { λ r. ⌜ r ≡ arrive - minute ⌝ }
+{
+    if arrive as usize <= minute {
+        return 0;
+    }
+    arrive - minute as u32
+}
+
+// The row for a cost, its minutes being those of the arrival, from index at on.
+fn write_row(
+    v: &[u16],
+    from: usize,
+    to: usize,
+    minute: usize,
+    cost: Cost,
+    answer: &mut [u32],
+    at: usize,
+)
+    requires { ⌜ (1 ≤ from)
+        × (from ≤ 64)
+        × (callsPlace (now v) from ≤ length (now v))
+        × (at + 6 ≤ length (now answer)) ⌝ }
+    ensures { λ _. ⌜ now (answer .exit)
+        ≡ put at (rowFor minute (costOf cost) (pickFor (allRead (now (v .entry)) from minute to) (costOf cost)))
+        (now (answer .entry)) ⌝ }
+    ensures { λ _. ⌜ length (now (answer .exit)) ≡ length (now (answer .entry)) ⌝ }
+{
+    let ride = pick_ride(v, from, to, minute, cost);
+    let duration = minutes_between(minute, cost.minutes.0);
+    words::put_pair(answer, at, duration, cost.points.0);
+    words::put_pair(answer, at + 2, 1, ride.trip as u32);
+    words::put_pair(answer, at + 4, ride.board as u32, ride.alight as u32);
+}
+
+// The row for a cost, if its penalty is below the least of all earlier minutes. Answers the index behind what it wrote.
+fn write_lead(
+    v: &[u16],
+    from: usize,
+    to: usize,
+    minute: usize,
+    cost: Cost,
+    least: u32,
+    answer: &mut [u32],
+    at: usize,
+) -> usize
+    requires { ⌜ (1 ≤ from)
+        × (from ≤ 64)
+        × (callsPlace (now v) from ≤ length (now v))
+        × (at + length (leadWords minute (allRead (now v) from minute to) (costOf cost) least)
+        ≤ length (now answer)) ⌝ }
+    ensures { λ _. ⌜ now (answer .exit)
+        ≡ put at (leadWords minute (allRead (now (v .entry)) from minute to) (costOf cost) least)
+        (now (answer .entry)) ⌝ }
+    ensures { λ _. ⌜ length (now (answer .exit)) ≡ length (now (answer .entry)) ⌝ }
+    ensures { λ r. ⌜ r
+        ≡ at + length (leadWords minute (allRead (now (v .entry)) from minute to) (costOf cost) least) ⌝ }
+{
+    if cost.points.0 < least {
+        write_row(v, from, to, minute, cost, answer, at);
+        return at + ROW_WORDS;
+    }
+    at
+}
+
+// All rows of the answer, in rising duration: one for each arrival minute whose penalty is below those of all earlier
+// minutes.
+fn write_rows(v: &[u16], best: &[u32], from: usize, to: usize, minute: usize, answer: &mut [u32])
+    requires { ⌜ (1 ≤ from)
+        × (from ≤ 64)
+        × (callsPlace (now v) from ≤ length (now v))
+        × (length (now best) ≡ 2880)
+        × (6 * length (leads noPoints 0 (now best)) ≤ length (now answer)) ⌝ }
+    ensures { λ _. ⌜ now (answer .exit)
+        ≡ put 0
+        (concatMap (λ r. r)
+        (rowsFrom minute (allRead (now (v .entry)) from minute to) (leads noPoints 0 (now (best .entry)))))
+        (now (answer .entry)) ⌝ }
+    ensures { λ _. ⌜ length (now (answer .exit)) ≡ length (now (answer .entry)) ⌝ }
+{
+    let mut here = 0;
+    let mut least = NO_POINTS;
+    let mut a = 0;
+    while a < MINUTES {
+        let cost = Cost {
+            minutes: Minutes(a as u32),
+            points: Points(best[a]),
+        };
+        here = write_lead(v, from, to, minute, cost, least, answer, here);
+        least = lesser(least, best[a]);
+        a += 1;
+    }
 }
