@@ -1,13 +1,13 @@
 -- The calls of a station are read two words at a time; at each, the rides on the first trip are noted.
 use mathlib.Core.Path.{_≡_, refl, sym, ap, _∙_}
-use mathlib.Core.Bool.{true, false, cond}
-use mathlib.Core.List.{List, [], _∷_, _++_, map}
+use mathlib.Core.Bool.{cond}
+use mathlib.Core.List.{List, [], _∷_, map}
 use Prim.Native.Nat.{ℕ, suc, _+_, _-_, _≤_, _<_}
 use native.Mathlib.Numerals.{add-one}
 use native.Mathlib.Omega.{arith}
 use borrow.Author.Tests.{lt-ltb, le-ltb}
 use lib.Dec.{ltb}
-use lib.ListN.{length, getD, take, length-take, length-drop}
+use lib.ListN.{length, getD, length-take, length-drop}
 use lib.Seq.{slice, slice-cons}
 use Rattle.lookup.specs.Lookup.{Line, lineAt, callsPlace}
 use Rattle.lookup.specs.First.{firstTrip}
@@ -46,12 +46,13 @@ module _ (v : List ℕ) (k end : ℕ) where
       short (a ∷ []) h = refl
       short (a ∷ b ∷ l) h = absurd (omega arith)
 
-module _ (v : List ℕ) (a k end : ℕ) (from-k : k ≡ callsPlace v (a - 1)) (to-end : end ≡ callsPlace v a) (h : 1 ≤ a) where
-  pub calls-are : pairsOf (slice k end v) ≡ callsOf v (a - 1)
-  unfolding callsOf
-  calls-are =
-      let same : a - 1 + 1 ≡ a = omega arith in
-      rw (from-k, to-end, same)
+-- the words between the places of two stations are the calls of the first
+pub calls-are : (v : List ℕ) (a k end : ℕ) → k ≡ callsPlace v (a - 1) → end ≡ callsPlace v a → 1 ≤ a
+    → pairsOf (slice k end v) ≡ callsOf v (a - 1)
+unfolding callsOf
+calls-are v a k end from-k to-end h =
+    let same : a - 1 + 1 ≡ a = omega arith in
+    rw (from-k, to-end, same)
 
 -- ---- noting
 module _ (v : List ℕ) (a u b k end : ℕ) (old best : List ℕ) where

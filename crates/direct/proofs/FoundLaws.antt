@@ -1,10 +1,12 @@
 -- Which of two rides is shown, number by number: where all numbers before are the same, the next one decides.
 use mathlib.Core.Path.{_≡_, refl, sym, ap, _∙_}
+use mathlib.Core.List.{[], _∷_}
 use mathlib.Core.Bool.{Bool, true, false, cond, _&&_, _||_}
 use Prim.Native.Nat.{ℕ, _≤_, _<_}
 use native.Mathlib.Omega.{arith}
 use borrow.Author.Tests.{lt-ltb, le-ltb, eq-eqb, ne-eqb}
 use lib.Dec.{ltb, eqb}
+use Rattle.lists.specs.Lists.{before}
 use Rattle.direct.specs.Choosing.{Found, goesBefore, better}
 
 -- a comparison by one number, and by more where it is the same
@@ -18,6 +20,21 @@ module _ (a b : ℕ) (more : Bool) where
   first-same : b ≤ a → a ≤ b → (ltb a b || (eqb a b && more)) ≡ more
   first-same h g = simp (le-ltb a b h, eq-eqb a b (omega arith))
 
+-- what decides behind the departure, and behind the trip
+abbrev byNumbers : (g f : Found) → Bool
+byNumbers g f = before (g .trip ∷ g .board ∷ g .alight ∷ []) (f .trip ∷ f .board ∷ f .alight ∷ [])
+
+abbrev byPlaces : (g f : Found) → Bool
+byPlaces g f = before (g .board ∷ g .alight ∷ []) (f .board ∷ f .alight ∷ [])
+
+last-number : (a b : ℕ) → before (a ∷ []) (b ∷ []) ≡ ltb a b
+last-number a b = either (ltb a b) (eqb a b)
+  where
+    either : (x y : Bool) → (x || (y && false)) ≡ x
+    either true y = refl
+    either false true = refl
+    either false false = refl
+
 module _ (g f : Found) where
   pub departs-later : f .depart < g .depart → true ≡ goesBefore g f
   unfolding goesBefore
@@ -29,7 +46,7 @@ module _ (g f : Found) where
       simp (le-ltb (f .depart) (g .depart) (omega arith), ne-eqb (g .depart) (f .depart) (omega arith))
 
   module _ (d : g .depart ≤ f .depart) (e : f .depart ≤ g .depart) where
-    same-depart : goesBefore g f ≡ (ltb (g .trip) (f .trip) || (eqb (g .trip) (f .trip) && (ltb (g .board) (f .board) || (eqb (g .board) (f .board) && (ltb (g .alight) (f .alight) || (eqb (g .alight) (f .alight) && false))))))
+    same-depart : goesBefore g f ≡ byNumbers g f
     unfolding goesBefore
     same-depart = simp (le-ltb (f .depart) (g .depart) d, eq-eqb (g .depart) (f .depart) (omega arith))
 
@@ -40,7 +57,7 @@ module _ (g f : Found) where
     trip-later h = sym (same-depart ∙ first-more (g .trip) (f .trip) _ h)
 
     module _ (t : f .trip ≤ g .trip) (u : g .trip ≤ f .trip) where
-      same-trip : goesBefore g f ≡ (ltb (g .board) (f .board) || (eqb (g .board) (f .board) && (ltb (g .alight) (f .alight) || (eqb (g .alight) (f .alight) && false))))
+      same-trip : goesBefore g f ≡ byPlaces g f
       same-trip = same-depart ∙ first-same (g .trip) (f .trip) _ t u
 
       pub board-first : g .board < f .board → true ≡ goesBefore g f
@@ -49,13 +66,10 @@ module _ (g f : Found) where
       pub board-later : f .board < g .board → false ≡ goesBefore g f
       board-later h = sym (same-trip ∙ first-more (g .board) (f .board) _ h)
 
-      pub alight-decides : f .board ≤ g .board → g .board ≤ f .board → ltb (g .alight) (f .alight) ≡ goesBefore g f
-      alight-decides k h = sym (same-trip ∙ first-same (g .board) (f .board) _ k h ∙ last (ltb (g .alight) (f .alight)) (eqb (g .alight) (f .alight)))
-        where
-          last : (x y : Bool) → (x || (y && false)) ≡ x
-          last true y = refl
-          last false true = refl
-          last false false = refl
+      pub alight-decides : f .board ≤ g .board → g .board ≤ f .board
+          → ltb (g .alight) (f .alight) ≡ goesBefore g f
+      alight-decides k h =
+          sym (same-trip ∙ first-same (g .board) (f .board) _ k h ∙ last-number (g .alight) (f .alight))
 
   pub takes-new : (r : Bool) → r ≡ goesBefore g f → r ≡ true → g ≡ better f g
   takes-new r e h = ap (λ b. cond b g f) (sym h ∙ e)

@@ -1,9 +1,9 @@
 -- Rides are noted one after the other.
 use mathlib.Core.Path.{_≡_, refl, sym, ap, _∙_}
 use mathlib.Core.List.{List, [], _∷_, _++_, append-nil}
-use Prim.Native.Nat.{ℕ, _+_, _-_, _≤_, _<_, min}
+use Prim.Native.Nat.{ℕ, _+_, _≤_, _<_, min}
 use native.Mathlib.Omega.{arith}
-use lib.ListN.{length, getD, set, drop, replicate, length-append}
+use lib.ListN.{length, getD, set, drop, replicate}
 use lib.Seq.{set-out, drop-length}
 use borrow.Author.Fill.{fill-more}
 use Rattle.connections.specs.Rides.{Ride}

@@ -2,19 +2,19 @@
 use mathlib.Core.Path.{_≡_, refl, sym, ap, subst, _∙_}
 use mathlib.Core.Bool.{Bool, true, false, cond, _&&_}
 use mathlib.Core.List.{List, [], _∷_, _++_, map}
-use Prim.Native.Nat.{ℕ, _+_, _-_, _≤_, _<_}
+use Prim.Native.Nat.{ℕ, _+_, _≤_, _<_}
 use native.Mathlib.Omega.{arith}
 use borrow.Author.Tests.{eq-eqb, ne-eqb}
 use lib.Dec.{eqb}
-use Rattle.lists.specs.Lists.{keep, filter, concatMap, range}
+use Rattle.lists.specs.Lists.{keep, filter}
 use Rattle.results.specs.Results.{Cost}
 use Rattle.results.specs.declared.Cost.{Cost as CostStruct}
 use Rattle.connections.specs.Rides.{Ride}
 use Rattle.tables.proofs.TimesLaws.{range-more, range-none}
-use Rattle.lookup.specs.Lookup.{Line, stationAt, numberAt, arriveAt, departAt}
+use Rattle.lookup.specs.Lookup.{Line, numberAt, arriveAt, departAt}
 use Rattle.direct.specs.Candidates.{Reach, rideOn}
 use Rattle.direct.specs.Choosing.{Found, foundOf, goesBefore, better, pickFrom, costs}
-use Rattle.direct.specs.Turns.{costOf, picked, foundAt, triedOn, tripsFrom, pickedAt, Fitting}
+use Rattle.direct.specs.Turns.{costOf, picked, foundAt, triedOn, tripsFrom, Fitting}
 
 -- some rides, then some more
 pub picked-append : (c : Cost) (f : Found) (a b : List Ride) → picked c f (a ++ b) ≡ picked c (picked c f a) b
@@ -89,12 +89,13 @@ module _ (v : List ℕ) (l : Line) (x p j : ℕ) (cost : CostStruct) (f : Found)
       pub trips-more : j < l .trips → (r : Found) → r ≡ triedOn v l x p j (cost .minutes .0) f
           → picked (costOf cost) old (tripsFrom v l x first (record { place = p; points = cost .points .0 }))
           ≡ picked (costOf cost) r (tripsFrom v l x (j + 1) (record { place = p; points = cost .points .0 }))
-      trips-more h r e = so-far ∙ turn h ∙ ap (λ y. picked (costOf cost) y (tripsFrom v l x (j + 1) (record { place = p; points = cost .points .0 }))) (sym e)
+      trips-more h r e = rw e (so-far ∙ turn h)
 
       pub trips-done : l .trips ≤ j
           → f ≡ picked (costOf cost) old (tripsFrom v l x first (record { place = p; points = cost .points .0 }))
       unfolding picked pickFrom
       trips-done h =
           sym (so-far
-          ∙ ap (λ js. picked (costOf cost) f (map (λ i. rideOn v l x i (record { place = p; points = cost .points .0 })) js))
+          ∙ ap
+          (λ js. picked (costOf cost) f (map (λ i. rideOn v l x i (record { place = p; points = cost .points .0 })) js))
           (range-none j (l .trips) h))

@@ -1,7 +1,7 @@
 -- From place to place of a line, and from call to call, the ride that is shown for a cost is picked.
 use mathlib.Core.Path.{_≡_, refl, sym, ap, _∙_}
 use mathlib.Core.Bool.{Bool, true, false, cond, _&&_}
-use mathlib.Core.List.{List, [], _∷_, _++_, map}
+use mathlib.Core.List.{List, [], _∷_, map}
 use Prim.Native.Nat.{ℕ, _+_, _-_, _≤_, _<_}
 use native.Mathlib.Omega.{arith}
 use borrow.Author.Tests.{eq-eqb, ne-eqb}
@@ -14,7 +14,7 @@ use Rattle.results.specs.declared.Cost.{Cost as CostStruct}
 use Rattle.connections.specs.Rides.{Ride}
 use Rattle.lookup.specs.Lookup.{Line, lineAt, stationAt, pointsAt, arriveAt, callsPlace}
 use Rattle.lookup.specs.First.{firstTrip}
-use Rattle.direct.specs.Candidates.{Reach, pairsOf, rideOn, reach, allOn, allRead}
+use Rattle.direct.specs.Candidates.{Reach, pairsOf, rideOn, reach, allRead}
 use Rattle.direct.specs.Choosing.{Found, noFound, pickFrom, costs, pickFor}
 use Rattle.direct.specs.Turns.{costOf, picked, tripsFrom, pickedAt, allCalls}
 use Rattle.direct.proofs.ReachLaws.{rest, rest-next, rest-none}

@@ -1,14 +1,12 @@
 -- From place to place of a line, with the penalty so far: the places of the station asked for are noted.
 use mathlib.Core.Path.{_≡_, refl, sym, ap, _∙_}
 use mathlib.Core.Bool.{Bool, true, false, cond}
-use mathlib.Core.List.{List, [], _∷_, _++_, map}
+use mathlib.Core.List.{List, [], map}
 use Prim.Native.Nat.{ℕ, suc, _+_, _-_, _≤_, _<_}
 use native.Mathlib.Omega.{arith}
 use borrow.Author.Tests.{eq-eqb, ne-eqb}
 use lib.Dec.{eqb}
-use lib.ListN.{length}
 use Rattle.lists.specs.Lists.{keep}
-use Rattle.connections.specs.Rides.{Ride}
 use Rattle.lookup.specs.Lookup.{Line, stationAt, pointsAt, arriveAt}
 use Rattle.direct.specs.Candidates.{Reach, reachFrom, reach, rideOn}
 use Rattle.direct.specs.Choosing.{noteAll}
@@ -66,13 +64,17 @@ module _ (v : List ℕ) (l : Line) (x j b p points : ℕ) (best : List ℕ) wher
       go true = refl
       go false = refl
 
-  module _ (old : List ℕ) (so-far : noteAll old (map (rideOn v l x j) (reach v l x b)) ≡ noteAll best (map (rideOn v l x j) (rest v l b p points))) where
-    pub reach-more : p + 1 < l .positions → (r : ℕ) → r ≡ pointsAt v l p → (end : List ℕ)
-        → end ≡ notedAt v l (p + 1) j b (points + r) best
-        → noteAll old (map (rideOn v l x j) (reach v l x b))
-        ≡ noteAll end (map (rideOn v l x j) (rest v l b (p + 1) (points + r)))
-    reach-more h r is-r end e = rw (e, is-r) (so-far ∙ turn h)
+  module _
+      (old : List ℕ)
+      (so-far : noteAll old (map (rideOn v l x j) (reach v l x b))
+      ≡ noteAll best (map (rideOn v l x j) (rest v l b p points)))
+    where
+      pub reach-more : p + 1 < l .positions → (r : ℕ) → r ≡ pointsAt v l p → (end : List ℕ)
+          → end ≡ notedAt v l (p + 1) j b (points + r) best
+          → noteAll old (map (rideOn v l x j) (reach v l x b))
+          ≡ noteAll end (map (rideOn v l x j) (rest v l b (p + 1) (points + r)))
+      reach-more h r is-r end e = rw (e, is-r) (so-far ∙ turn h)
 
-    pub reach-done : l .positions ≤ p + 1 → best ≡ noteAll old (map (rideOn v l x j) (reach v l x b))
-    unfolding noteAll
-    reach-done h = sym (so-far ∙ ap (λ r. noteAll best (map (rideOn v l x j) r)) (rest-none v l b p points h))
+      pub reach-done : l .positions ≤ p + 1 → best ≡ noteAll old (map (rideOn v l x j) (reach v l x b))
+      unfolding noteAll
+      reach-done h = sym (so-far ∙ ap (λ r. noteAll best (map (rideOn v l x j) r)) (rest-none v l b p points h))

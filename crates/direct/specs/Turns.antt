@@ -1,7 +1,7 @@
 -- One turn of each loop of the code, and what a loop over the calls of a station has before it. No reader of the
 -- promise needs this file.
 use mathlib.Core.Bool.{cond}
-use mathlib.Core.List.{List, [], _∷_, map}
+use mathlib.Core.List.{List, [], map}
 use Prim.Native.Nat.{ℕ, _+_, _-_, _≤_, min}
 use lib.Dec.{ltb, eqb}
 use lib.ListN.{getD, set}

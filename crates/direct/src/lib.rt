@@ -1,17 +1,18 @@
 // Direct rides: the costs of the query from the first trips of the lines, and for each cost the ride that is shown.
 ghost use mathlib.Core.Path.{_≡_};
 ghost use mathlib.Core.Bool.{cond};
-ghost use mathlib.Core.List.{[], _∷_, map};
+ghost use mathlib.Core.List.{map};
 ghost use Prim.Native.Nat.{_+_, _-_, _*_, _≤_, _<_, min};
 ghost use lib.Dec.{ltb};
-ghost use lib.ListN.{length, getD, set};
-ghost use Rattle.direct.specs.Choosing.{noPoints, blank, leads, goesBefore, better};
-ghost use Rattle.direct.specs.Choosing.{noteAll, pickFor, rowFor, rowsFrom};
-ghost use Rattle.direct.specs.Candidates.{rideOn, reach, firstRead, allRead};
-ghost use Rattle.direct.specs.Turns.{costOf, lowered, notedAt, picked, triedOn, tripsFrom, pickedAt, leadWords, Fitting};
+ghost use lib.ListN.{length, getD};
 ghost use Rattle.words.specs.Put.{put};
 ghost use Rattle.lists.specs.Lists.{concatMap};
 ghost use Rattle.lookup.specs.Lookup.{lineAt, callsPlace};
+ghost use Rattle.direct.specs.Candidates.{rideOn, reach, firstRead, allRead};
+ghost use Rattle.direct.specs.Choosing.{noPoints, blank, noteAll, leads, goesBefore, better, pickFor};
+ghost use Rattle.direct.specs.Choosing.{rowFor, rowsFrom};
+ghost use Rattle.direct.specs.Turns.{costOf, lowered, notedAt, picked, triedOn, tripsFrom, pickedAt};
+ghost use Rattle.direct.specs.Turns.{leadWords, Fitting};
 use lookup::Line;
 use results::Cost;
 use results::Minutes;

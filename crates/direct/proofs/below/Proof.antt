@@ -1,16 +1,13 @@
+-- One test.
 use mathlib.Core.Path.{refl}
 use borrow.Author.Tests.{lt-ltb, le-ltb}
 use borrow.Author.Needs.{needs}
 use Rattle.direct.proofs.below.Statement.{statement}
 use Rattle.direct.proofs.below.Tie as tie
-use Rattle.direct.proofs.below.Reads as reads
-use Rattle.direct.proofs.below.Lts as lts
 
--- src/lib.rt:95:9
 returns : tie.Need-returns
 returns c = simp (lt-ltb _ _ (c .if1 .taken)) (refl, search needs)
 
--- src/lib.rt:91:1
 returns-2 : tie.Need-returns-2
 returns-2 c = simp (le-ltb _ _ (c .if1 .left)) (refl, search needs)
 
