@@ -73,6 +73,16 @@ fn better(f: Found, g: Found) -> Found
     f
 }
 
+// The lesser of two numbers of points.
+fn lesser(a: u32, b: u32) -> u32
+    ensures { λ r. ⌜ r ≡ min a b ⌝ }
+{
+    if b < a {
+        return b;
+    }
+    a
+}
+
 // Notes that a ride arrives at a minute with a penalty; best holds the least penalty for each arrival minute. A minute
 // past its end is not noted: no trip of a timetable arrives then.
 fn note(best: &mut [u32], cost: Cost)
@@ -84,16 +94,6 @@ fn note(best: &mut [u32], cost: Cost)
     if minute < best.len() {
         best[minute] = lesser(best[minute], cost.points.0);
     }
-}
-
-// The lesser of two numbers of points.
-fn lesser(a: u32, b: u32) -> u32
-    ensures { λ r. ⌜ r ≡ min a b ⌝ }
-{
-    if b < a {
-        return b;
-    }
-    a
 }
 
 // Before a query no ride has been noted for any minute.
@@ -122,7 +122,7 @@ fn below(a: u32, b: u32) -> usize
 // How many arrival minutes have a penalty below those of all earlier minutes: the rows of the answer.
 fn count_rows(best: &[u32]) -> usize
     requires { ⌜ length (now best) ≡ 2880 ⌝ }
-    ensures { λ r. ⌜ r ≡ length (leads noPoints 0 (now (best .entry))) ⌝ }
+    ensures { λ r. ⌜ (r ≡ length (leads noPoints 0 (now (best .entry)))) × (r ≤ 2880) ⌝ }
 {
     let mut rows = 0;
     let mut least = NO_POINTS;

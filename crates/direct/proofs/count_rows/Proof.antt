@@ -21,7 +21,7 @@ loop-again : tie.Need-loop-again Inv-loop μ-loop
 loop-again c = (search needs, search needs, search count-more)
 
 returns : tie.Need-returns Inv-loop μ-loop
-returns c = search count-done
+returns c = (search count-done, search needs)
 
 pub count-rows-spec : {M : Type 1} → statement M
 count-rows-spec =
