@@ -1,0 +1,3 @@
+pub mod Candidates
+pub mod Choosing
+pub mod Turns
