@@ -1,2 +1,5 @@
 pub mod Candidates
 pub mod Choosing
+pub mod Met
+pub mod Foremost
+pub mod Reached
