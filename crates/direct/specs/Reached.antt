@@ -14,7 +14,7 @@ use Rattle.lists.specs.Lists.{_∈_, firstOf}
 use Rattle.lists.specs.Tests.{eq→eqb}
 use Rattle.lists.specs.Members.{none, kept-cases, keep-here, keep-there}
 use Rattle.connections.specs.Rides.{Ride, noStop, ridePoints, rideAt}
-use Rattle.connections.specs.RideLaws.{points-more}
+use Rattle.connections.specs.RideLaws.{points-more, points-split}
 use Rattle.lines.specs.Lines.{course, stationOn}
 use Rattle.lines.specs.DirectRides.{inTime}
 use Rattle.lines.specs.Behind.{behind-points}
@@ -95,3 +95,109 @@ module _ (v : List ℕ) (t : List Trip) (i : ℕ) (l : List ℕ) (told : LineTol
             (from-in n (p + 1) (so-far + pointsAt v line p) (omega arith) (omega arith) more y (omega arith)
             (omega arith) s)
         ]
+
+    module _ (h : x < length (course t l)) where
+      none-yet : 0 ≡ points x x
+      none-yet = omega (arith, points-split (course t l) x x x (omega arith) (omega arith))
+
+      all-places : x + (line .positions - (x + 1)) < length (course t l)
+      all-places = omega (arith, told .positions)
+
+      pub reach-out : (r : Reach) → r ∈ reach v line x b → Reached t l x b r
+      reach-out = from-out (line .positions - (x + 1)) x 0 (omega arith) all-places none-yet
+
+      pub reach-in : (y : ℕ) → x < y → y < length (course t l) → stationOn t l y ≡ b
+          → record { place = y; points = points x y } ∈ reach v line x b
+      reach-in y g k s =
+          from-in
+          (line .positions - (x + 1))
+          x
+          0
+          (omega arith)
+          all-places
+          none-yet
+          y
+          g
+          (omega (arith, told .positions))
+          s
+
+  -- ---- the first trip that leaves in time
+  module _ (x u : ℕ) (h : x < length (course t l)) where
+    abbrev f : ℕ
+    f = firstTrip v line x u
+
+    foremost-trip : Foremost (λ j. leb u (departAt v line x j)) 0 (line .trips) f
+    foremost-trip = foremost (λ j. leb u (departAt v line x j)) 0 (line .trips)
+
+    in-time : (j : ℕ) → j < length l → departAt v line x j ≡ (stopOf t (getD l j 0) x) .depart
+    in-time j g = told .depart x j h g
+
+    -- a trip in front of it leaves too early
+    pub early : (j : ℕ) → j < length l → j < f → ¬ T (inTime t u x (getD l j 0))
+    early j g k s = foremost-trip .before j (omega arith) k (rw (in-time j g) s)
+
+    pub leaves-in-time : f < length l → T (inTime t u x (getD l f 0))
+    leaves-in-time g = rw (in-time f g) at (foremost-trip .passes (omega (arith, told .trips)))
+
+    -- it is the first of the line
+    pub first-trip-in : f < length l → getD l f 0 ∈ firstOf (inTime t u x) l
+    first-trip-in g =
+        first-at-in (inTime t u x) l f
+        (record { inside = g; passes = leaves-in-time g; before = λ k j. early k (omega arith) j })
+
+    pub first-trip-out : (z : ℕ) → z ∈ firstOf (inTime t u x) l → (f < length l) × (getD l f 0 ≡ z)
+    first-trip-out z m =
+        let r = first-at-out (inTime t u x) l z m in
+        let j = r .0 in
+        let k = r .1 in
+        let not-behind : ¬ (j < f) = (λ g. early j (k .inside) g (k .passes)) in
+        let not-before : ¬ (f < j) = (λ g. k .before f g (leaves-in-time (omega (arith, k .inside)))) in
+        let same : f ≡ j = omega (arith, not-behind, not-before) in
+        (omega (arith, same, k .inside), ap (λ j. getD l j 0) same ∙ r .2)
+
+    -- the trips that leave in time are that one and all behind it
+    pub timely-out : GoodLine t l → (j : ℕ) → j < length l → f ≤ j → T (inTime t u x (getD l j 0))
+    timely-out good j g k =
+        elim (ℕ-discrete f j) [
+          | yes e ↦ subst (λ j. T (inTime t u x (getD l j 0))) e (leaves-in-time (omega arith))
+          | no e ↦ le→leb u ((stopOf t (getD l j 0) x) .depart) (behind (omega arith))
+        ]
+      where
+        behind : f < j → u ≤ (stopOf t (getD l j 0) x) .depart
+        behind d =
+            let first = leb→le u ((stopOf t (getD l f 0) x) .depart) (leaves-in-time (omega arith)) in
+            omega (arith, first, no-overtaking t l good f j d g x .depart)
+
+    pub timely-in : (j : ℕ) → j < length l → T (inTime t u x (getD l j 0)) → f ≤ j
+    timely-in j g s =
+        let not-behind : ¬ (j < f) = (λ k. early j g k s) in
+        omega (arith, not-behind)
+
+  -- ---- the rides
+  module _ (good : GoodLine t l) where
+    -- the ride that the code reads is that of the trip
+    pub ride-same : (x b j : ℕ) → x < length (course t l) → j < length l → (r : Reach) → Reached t l x b r
+        → rideOn v line x j r ≡ rideAt (getD t (getD l j 0) []) (getD l j 0) x (r .place)
+    ride-same x b j h g r k =
+        let y = r .place in
+        let z = getD l j 0 in
+        let member = within l j 0 g in
+        let trip = told .number j g in
+        let board = add-one x in
+        let alight = add-one y in
+        let from = told .station x h ∙ line-stop t l z x good member .station in
+        let to = told .station y (k .inside) ∙ line-stop t l z y good member .station in
+        let depart = told .depart x j h g in
+        let arrive = told .arrive y j (k .inside) g in
+        let cost = k .costs ∙ behind-points (course t l) (getD t z []) (head-behind t l z good member) x y in
+        λ e.
+        record {
+          trip = trip e;
+          board = board e;
+          alight = alight e;
+          from = from e;
+          to = to e;
+          depart = depart e;
+          arrive = arrive e;
+          points = cost e;
+        }
