@@ -3,3 +3,4 @@ pub mod Choosing
 pub mod Met
 pub mod Foremost
 pub mod Reached
+pub mod Gathered
