@@ -149,7 +149,7 @@ module _ (timetable : Timetable) (a u b : ℕ) where
       into (onward r w c) f = absurd (omega (arith, f .1, some-rides c))
 
   -- a first ride is a direct ride
-  first-direct : (c : Connection) → c ∈ firstRides t a u b → c ∈ directs n a u b
+  pub first-direct : (c : Connection) → c ∈ firstRides t a u b → c ∈ directs n a u b
   first-direct c m =
       let f = first-ride t a u b c m in
       let z = f .z in
