@@ -1,5 +1,5 @@
 -- The first that passes a test, by its place: among numbers, where the code looks, and in a list, where it is said.
-use mathlib.Core.Path.{_≡_, refl, sym, ap, subst}
+use mathlib.Core.Path.{_≡_, refl, sym}
 use mathlib.Core.Bool.{Bool, true, false, cond}
 use mathlib.Core.List.{List, [], _∷_, List·Memᴰ·head as here, List·Memᴰ·eq-of-singleton}
 use Prim.Native.Nat.{ℕ, zero, suc, _+_, _≤_, _<_}
@@ -69,7 +69,7 @@ foremost test j (suc n) = go (test j) refl (foremost test (suc j) n)
               | no q ↦ f .before k (omega arith) g t
             ]
 
--- z stands at place j of the list and passes, and none before it does
+-- what stands at place j of the list passes, and nothing before it does
 pub record FirstAt (test : ℕ → Bool) (l : List ℕ) (j : ℕ) : Type 0 where
   pub inside : j < length l
   pub passes : T (test (getD l j 0))
@@ -104,12 +104,11 @@ module _ (test : ℕ → Bool) where
       go : (b : Bool) → test x ≡ b → z ∈ endWith b x (firstOf test l)
           → (z ∈ firstOf test l → (j : ℕ) × FirstAt test l j × (getD l j 0 ≡ z))
           → (j : ℕ) × FirstAt test (x ∷ l) j × (getD (x ∷ l) j 0 ≡ z)
-      go true e i ih =
-          (
-            0,
-            record { inside = omega arith; passes = rw e tt; before = λ k h t. omega arith },
-            sym (List·Memᴰ·eq-of-singleton i),
-          )
+      go true e i ih = (
+        0,
+        record { inside = omega arith; passes = rw e tt; before = λ k h t. omega arith },
+        sym (List·Memᴰ·eq-of-singleton i),
+      )
       go false e i ih =
           let r = ih i in
           (suc (r .0), later (r .0) (r .1), r .2)

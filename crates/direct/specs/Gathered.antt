@@ -19,9 +19,9 @@ use Rattle.connections.specs.Connections.{net, Connection, direct}
 use Rattle.connections.specs.Planner.{measure}
 use Rattle.connections.specs.RideLaws.{Taken, rides-in, rides-out}
 use Rattle.connections.specs.Sound.{sound, ride-cheap}
-use Rattle.lines.specs.Lines.{lines, course, stationOn}
+use Rattle.lines.specs.Lines.{lines, course}
 use Rattle.lines.specs.DirectRides.{directs, inTime, firstRides}
-use Rattle.lines.specs.DirectLaws.{Pair, FirstRide, first-ride, first-in, direct-in, direct-out}
+use Rattle.lines.specs.DirectLaws.{Pair, first-ride, first-in, direct-in, direct-out}
 use Rattle.lines.specs.DirectLaws.{directs-exactly, first-direct, direct-costs}
 use Rattle.lines.specs.Ordered.{Line as GoodLine, lines-good, line-length, line-stop}
 use Rattle.lines.specs.Once.{OnLine, line-of, trip-listed}
@@ -29,11 +29,21 @@ use Rattle.tables.specs.Spelled.{within}
 use Rattle.lookup.specs.Lookup.{Line, lineAt}
 use Rattle.lookup.specs.First.{firstTrip}
 use Rattle.lookup.specs.Told.{LineTold, Told}
-use Rattle.direct.specs.Candidates.{Call, callsOf, Reach, reach, rideOn, firstOn, tripsTo, allOn, firstRead, allRead}
+use Rattle.direct.specs.Candidates.{
+  Call,
+  callsOf,
+  Reach,
+  reach,
+  rideOn,
+  firstOn,
+  tripsTo,
+  allOn,
+  firstRead,
+  allRead,
+}
 use Rattle.direct.specs.Met.{Met, calls-in, calls-out}
-use Rattle.direct.specs.Foremost.{Placed, placed}
+use Rattle.direct.specs.Foremost.{placed}
 use Rattle.direct.specs.Reached.{
-  Reached,
   reach-in,
   reach-out,
   first-trip-in,
@@ -43,7 +53,8 @@ use Rattle.direct.specs.Reached.{
   ride-same,
 }
 
--- what the code's numbers must hold: minutes of the two days, penalties within 32 bits, trip numbers within 16
+-- a ride that leaves at minute u or later, with minutes of the two days, a penalty below 32 bits and a trip number of
+-- 16 bits
 pub record Bounds (u : ℕ) (r : Ride) : Type 0 where
   pub leaves : u ≤ r .depart
   pub later : r .depart < r .arrive
@@ -197,7 +208,9 @@ module _ (v : List ℕ) (timetable : Timetable) (told : Told v (length (timetabl
       there = record { place = y; points = ridePoints (course t (lineOf i)) x y }
 
       there-reached : there ∈ reach v l x b
-      there-reached = reach-in v t i (lineOf i) words b x x-inside y (k .pair .later) (k .pair .inside) (k .pair .alight)
+      there-reached =
+          let p = k .pair in
+          reach-in v t i (lineOf i) words b x x-inside y (p .later) (p .inside) (p .alight)
 
       ride-is : rideOn v l x j there ≡ ride i x y j
       ride-is =

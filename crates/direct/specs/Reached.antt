@@ -1,19 +1,18 @@
 -- What the code reads of one line: the later positions of a station with the penalties of the rides there, the first
 -- trip that leaves in time, and the rides themselves. They are those that the timetable says.
-use mathlib.Core.Path.{_≡_, refl, sym, ap, subst, _∙_}
-use mathlib.Core.Bool.{Bool}
-use mathlib.Core.List.{List, [], _∷_}
+use mathlib.Core.Path.{_≡_, sym, ap, subst, _∙_}
+use mathlib.Core.List.{List, []}
 use Prim.Native.Nat.{ℕ, zero, suc, _+_, _-_, _≤_, _<_}
 use native.Mathlib.Numerals.{add-one}
 use native.Mathlib.Omega.{arith}
 use native.Mathlib.Decide.{ℕ-discrete}
 use lib.Dec.{T, leb, eqb, eqb→eq, leb→le, le→leb}
 use lib.ListN.{length, getD}
-use Rattle.timetable.specs.Timetable.{Stop, Trip}
+use Rattle.timetable.specs.Timetable.{Trip}
 use Rattle.lists.specs.Lists.{_∈_, firstOf}
 use Rattle.lists.specs.Tests.{eq→eqb}
 use Rattle.lists.specs.Members.{none, kept-cases, keep-here, keep-there}
-use Rattle.connections.specs.Rides.{Ride, noStop, ridePoints, rideAt}
+use Rattle.connections.specs.Rides.{ridePoints, rideAt}
 use Rattle.connections.specs.RideLaws.{points-more, points-split}
 use Rattle.lines.specs.Lines.{course, stationOn}
 use Rattle.lines.specs.DirectRides.{inTime}
@@ -22,10 +21,10 @@ use Rattle.lines.specs.Ordered.{Line as GoodLine, line-stop, head-behind, no-ov
 use Rattle.tables.specs.Tables.{stopOf}
 use Rattle.tables.specs.Spelled.{within}
 use Rattle.lookup.specs.Lookup.{Line, lineAt, stationAt, pointsAt, departAt}
-use Rattle.lookup.specs.First.{firstFrom, firstTrip}
+use Rattle.lookup.specs.First.{firstTrip}
 use Rattle.lookup.specs.Told.{LineTold}
 use Rattle.direct.specs.Candidates.{Reach, reachFrom, reach, rideOn}
-use Rattle.direct.specs.Foremost.{Foremost, foremost, FirstAt, first-at-in, first-at-out}
+use Rattle.direct.specs.Foremost.{Foremost, foremost, first-at-in, first-at-out}
 
 -- a later place of station b on line l, and the penalty of the ride from place x
 pub record Reached (t : List Trip) (l : List ℕ) (x b : ℕ) (r : Reach) : Type 0 where
@@ -82,18 +81,18 @@ module _ (v : List ℕ) (t : List Trip) (i : ℕ) (l : List ℕ) (told : LineTol
         let rest = reachFrom v line b (p + 1) n (so-far + pointsAt v line p) in
         elim (ℕ-discrete y (p + 1)) [
           | yes q ↦
-            keep-here
-            rest
-            test
-            (λ k. record { place = q k; points = (ap (points x) q ∙ sym more) k })
-            (eq→eqb (stationAt v line (p + 1)) b
-            (told .station (p + 1) (omega arith) ∙ ap (stationOn t l) (sym q) ∙ s))
+              keep-here
+              rest
+              test
+              (λ k. record { place = q k; points = (ap (points x) q ∙ sym more) k })
+              (eq→eqb (stationAt v line (p + 1)) b
+              (told .station (p + 1) (omega arith) ∙ ap (stationOn t l) (sym q) ∙ s))
           | no q ↦
-            keep-there
-            one
-            test
-            (from-in n (p + 1) (so-far + pointsAt v line p) (omega arith) (omega arith) more y (omega arith)
-            (omega arith) s)
+              keep-there
+              one
+              test
+              (from-in n (p + 1) (so-far + pointsAt v line p) (omega arith) (omega arith) more y (omega arith)
+              (omega arith) s)
         ]
 
     module _ (h : x < length (course t l)) where
