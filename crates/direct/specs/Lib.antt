@@ -3,4 +3,5 @@ pub mod Choosing
 pub mod Met
 pub mod Foremost
 pub mod Reached
+pub mod ByLine
 pub mod Gathered
