@@ -1,2 +1,4 @@
 pub mod Candidates
 pub mod Choosing
+pub mod Bounds
+pub mod Noted
