@@ -96,8 +96,11 @@ module _ (inf : ℕ) where
   unfolding noteAll
   all-noted [] best h = record { low = λ r i. none i; kept = λ m. omega arith; stems = λ m. inl refl }
   all-noted (r ∷ l) best h =
-      go (all-noted l (noted best r) (λ e i. rw (length-set best (r .arrive) (min (getD best (r .arrive) 0) (r .points))) (h e (there i))))
+      go (all-noted l (noted best r) (λ e i. rw long (h e (there i))))
     where
+      long : length (noted best r) ≡ length best
+      long = length-set best (r .arrive) (min (getD best (r .arrive) 0) (r .points))
+
       at : r .arrive < length best
       at = h r (here refl)
 
