@@ -3,3 +3,4 @@ pub mod Choosing
 pub mod Bounds
 pub mod Noted
 pub mod Picking
+pub mod Chosen
