@@ -240,4 +240,20 @@ module _ (u : ℕ) (firsts all : List Ride) (d : List Connection)
       cs = leads noPoints 0 (noteAll blank firsts)
 
   pub none-chosen : (leads noPoints 0 (noteAll blank firsts) ≡ []) ↔ (d ≡ [])
-  none-chosen = ?
+  unfolding rowsFrom rowsOf
+  none-chosen =
+      (λ e. result-none (measure u) d .0 (sym rows-chosen ∙ ap (rowsFrom u all) e),
+      λ e. empty cs (rows-count ∙ ap length (result-none (measure u) d .1 e)))
+    where
+      cs : List Cost
+      cs = leads noPoints 0 (noteAll blank firsts)
+
+      empty : (l : List Cost) → length l ≡ 0 → l ≡ []
+      empty [] e = refl
+      empty (c ∷ l) e = absurd (omega arith)
+
+-- each row has six words
+pub rows-long : (u : ℕ) (l : List Ride) (cs : List Cost) → length (concatMap (λ r. r) (rowsFrom u l cs)) ≡ 6 * length cs
+unfolding rowsFrom
+rows-long u l [] = omega arith
+rows-long u l (c ∷ cs) = omega (arith, rows-long u l cs)
