@@ -3,28 +3,24 @@
 use mathlib.Core.Path.{_≡_, refl, sym, ap, subst, _∙_}
 use mathlib.Core.Logic.{_↔_}
 use mathlib.Core.List.{List, [], _∷_, map, List·Memᴰ·head as here, List·Memᴰ·tail as there, Memᴰ·map, Memᴰ·of-map}
-use mathlib.Core.List.{Memᴰ·cast}
 use Prim.Native.Nat.{ℕ, suc, _+_, _*_, _-_, _≤_, _<_}
 use native.Mathlib.Omega.{arith, by-contra}
 use lib.Dec.{T}
-use lib.ListN.{length, getD, replicate, length-map, List·getD-eq-default}
+use lib.ListN.{length, getD, length-map, List·getD-eq-default}
 use Rattle.lists.specs.Lists.{_∈_, before, concatMap, tail}
-use Rattle.lists.specs.Members.{none}
 use Rattle.results.specs.Results.{Cost, Measure, pair, row, costs, Undominated, Picked, Climbs}
 use Rattle.results.specs.Best.{Has, LeastPoints, Leads, leads-exactly}
 use Rattle.results.specs.Picks.{lead, costs-in, costs-out, undominated-cost}
 use Rattle.results.specs.Answered.{result-is, result-none}
 use Rattle.connections.specs.Rides.{Ride}
-use Rattle.connections.specs.Connections.{Connection, direct}
+use Rattle.connections.specs.Connections.{Connection, direct, duration, penalty, cost}
 use Rattle.connections.specs.Planner.{tieKey, measure, rowsOf}
 use Rattle.direct.specs.Bounds.{Bounds}
-use Rattle.direct.specs.Choosing.{noPoints, noteAll, blank, leads, foundOf, pickFor, rowFor, rowsFrom}
+use Rattle.direct.specs.Choosing.{noPoints, noteAll, blank, leads, pickFor, rowFor, rowsFrom}
 use Rattle.direct.specs.Noted.{LeastNoted, least-noted, Led, led-exactly, Rises, leads-rise}
 use Rattle.direct.specs.Picking.{rideFor, found-for, Shown, ride-for}
 
--- ---- lists with the same costs
-
--- an undominated cost of the one is an undominated cost of the other
+-- an undominated cost of a list is one of each list with the same costs
 undominated-there : {X : Type 0} (m : Measure X) (l k : List X) → costs m l ≡ costs m k → (c : X) → Undominated m l c
     → (e : X) × Undominated m k e × (pair m e ≡ pair m c)
 undominated-there m l k same c h = costs-out m k (pair m c) (subst (λ z. pair m c ∈ z) same (costs-in m l c h))
@@ -42,7 +38,12 @@ module _ (u : ℕ) (firsts : List Ride) (bounds : (r : Ride) → r ∈ firsts �
   best e = getD w (u + e) noPoints
 
   least-points : LeastPoints (measure u) (map direct firsts) best noPoints
-  least-points = record { attained = attained; below = of-directs (λ c. best ((measure u .cost c) .minutes) ≤ (measure u .cost c) .points) firsts below; small = of-directs (λ c. (measure u .cost c) .points < noPoints) firsts (λ r i. bounds r i .few) }
+  least-points =
+      record {
+        attained = attained;
+        below = of-directs (λ c. best (duration u c) ≤ penalty c) firsts below;
+        small = of-directs (λ c. penalty c < noPoints) firsts (λ r i. bounds r i .few);
+      }
     where
       attained : (e : ℕ) → best e < noPoints → Has (measure u) (map direct firsts) best noPoints e (best e)
       attained e h =
@@ -64,22 +65,25 @@ module _ (u : ℕ) (firsts : List Ride) (bounds : (r : Ride) → r ∈ firsts �
   led-leads : (c : Cost) → c ∈ leads noPoints 0 w
       → (u ≤ c .minutes) × Leads (measure u) (map direct firsts) best noPoints (c .minutes - u) (c .points)
   led-leads c i =
-      (from, record { is = rw back (ap (λ z. getD w z noPoints) (omega (arith, k .at)) ∙ k .is); found = k .less; first = first })
+      (from, record { is = rw back (ap (λ z. getD w z noPoints) place ∙ k .is); found = k .less; first = first })
     where
       k : Led noPoints noPoints 0 w c
       k = led-exactly noPoints w noPoints 0 c .0 i
+
+      place : c .minutes ≡ k .place
+      place = omega (arith, k .at)
 
       from : u ≤ c .minutes
       from =
           let a = noted .arrives (k .place) (omega (arith, k .is, k .less)) in
           let b = bounds (a .ride) (a .listed) in
-          omega (arith, a .at, k .at, b .leaves, b .later)
+          omega (arith, a .at, place, b .leaves, b .later)
 
       back : u + (c .minutes - u) ≡ c .minutes
       back = omega (arith, from)
 
       first : (e : ℕ) → e < c .minutes - u → c .points < best e
-      first e h = k .first (u + e) (omega (arith, k .at))
+      first e h = k .first (u + e) (omega (arith, place))
 
   leads-led : (c : Cost) → u ≤ c .minutes
       → Leads (measure u) (map direct firsts) best noPoints (c .minutes - u) (c .points) → c ∈ leads noPoints 0 w
@@ -94,7 +98,12 @@ module _ (u : ℕ) (firsts : List Ride) (bounds : (r : Ride) → r ∈ firsts �
       is = rw back at (k .is)
 
       there : c .minutes < length w
-      there = by-contra (suc (c .minutes)) (length w) (λ h. omega (arith, is, k .found, List·getD-eq-default w noPoints {n = c .minutes} (omega arith)))
+      there = by-contra (suc (c .minutes)) (length w) past
+        where
+          past : length w < suc (c .minutes) → ⊥
+          past h =
+              let nothing = List·getD-eq-default w noPoints {n = c .minutes} (omega arith) in
+              omega (arith, is, k .found, nothing)
 
       first : (e : ℕ) → e < c .minutes → c .points < getD w e noPoints
       first e h = by-contra (suc (c .points)) (getD w e noPoints) earlier
@@ -108,11 +117,13 @@ module _ (u : ℕ) (firsts : List Ride) (bounds : (r : Ride) → r ∈ firsts �
               omega (arith, k .first (e - u) (omega arith), ap (λ z. getD w z noPoints) same)
 
   -- the costs that lead are the undominated ones
-  abbrev led-cost : (e p : ℕ) → Leads (measure u) (map direct firsts) best noPoints e p
+  led-cost : (e p : ℕ) → Leads (measure u) (map direct firsts) best noPoints e p
       ↔ ((c : Connection) × Undominated (measure u) (map direct firsts) c × (pair (measure u) c ≡ e ∷ p ∷ []))
   led-cost = leads-exactly (measure u) (map direct firsts) best noPoints least-points
 
 -- ---- the rides that are shown
+
+-- The list d is that of all rides, and the first rides have its costs.
 module _ (u : ℕ) (firsts all : List Ride) (d : List Connection)
     (members : (c : Connection) → c ∈ map direct all ↔ c ∈ d)
     (same-costs : costs (measure u) (map direct firsts) ≡ costs (measure u) d)
@@ -132,11 +143,12 @@ module _ (u : ℕ) (firsts all : List Ride) (d : List Connection)
   of-list : (P : Connection → Type 0) → ((r : Ride) → r ∈ all → P (direct r)) → (c : Connection) → c ∈ d → P c
   of-list P f c i = of-directs P all f c (members c .1 i)
 
+  -- it is the one that the rule for equal cost picks
   picked : (c : Cost) → Stands c → Picked (measure u) d (shownFor c)
-  picked c s = record { best = s .best; first = of-list (λ e. First e) first }
+  picked c s = record { best = s .best; first = of-list First first }
     where
       First : Connection → Type 0
-      First e = measure u .cost e ≡ measure u .cost (shownFor c) → ¬ T (before (tieKey e) (tieKey (shownFor c)))
+      First e = cost u e ≡ cost u (shownFor c) → ¬ T (before (tieKey e) (tieKey (shownFor c)))
 
       first : (r : Ride) → r ∈ all → First (direct r)
       first r i q =
@@ -149,17 +161,15 @@ module _ (u : ℕ) (firsts all : List Ride) (d : List Connection)
   climbs [] s r = tt
   climbs (c ∷ cs) s r = (above, climbs cs (λ e i. s e (there i)) (r .1))
     where
-      above : (e : Connection) → e ∈ map shownFor cs
-          → (measure u .cost (shownFor c)) .minutes < (measure u .cost e) .minutes
+      above : (e : Connection) → e ∈ map shownFor cs → duration u (shownFor c) < duration u e
       above e i =
           let x = Memᴰ·of-map shownFor cs i in
           let a = s c (here refl) in
           let b = s (x .0) (there (x .1)) in
           let h = r .0 (x .0) (x .1) in
-          subst
-          (λ z. (measure u .cost (shownFor c)) .minutes < (measure u .cost z) .minutes)
-          (x .2)
-          (omega (arith, a .shown .arrives, b .shown .arrives, a .from))
+          let less : duration u (shownFor c) < duration u (shownFor (x .0))
+          = omega (arith, a .shown .arrives, b .shown .arrives, a .from)
+          in subst (λ z. duration u (shownFor c) < duration u z) (x .2) less
 
   row-is : (c : Cost) → Stands c → rowFor u c (pickFor all c) ≡ row (measure u) (shownFor c)
   unfolding tieKey
@@ -181,10 +191,12 @@ module _ (u : ℕ) (firsts all : List Ride) (d : List Connection)
         let k = led-leads u firsts first-bounds w noted c i in
         let x = led-cost u firsts first-bounds w noted (c .minutes - u) (c .points) .0 (k .1) in
         let y = undominated-there (measure u) (map direct firsts) d same-costs (x .0) (x .1) in
-        of-list (λ e. Undominated (measure u) d e → pair (measure u) e ≡ (c .minutes - u) ∷ c .points ∷ [] → Stands c) (by-ride (k .0)) (y .0) (y .1 .listed) (y .1) (y .2 ∙ x .2)
+        of-list Shows (by-ride (k .0)) (y .0) (y .1 .listed) (y .1) (y .2 ∙ x .2)
       where
-        by-ride : u ≤ c .minutes → (r : Ride) → r ∈ all → Undominated (measure u) d (direct r)
-            → pair (measure u) (direct r) ≡ (c .minutes - u) ∷ c .points ∷ [] → Stands c
+        Shows : Connection → Type 0
+        Shows e = Undominated (measure u) d e → pair (measure u) e ≡ (c .minutes - u) ∷ c .points ∷ [] → Stands c
+
+        by-ride : u ≤ c .minutes → (r : Ride) → r ∈ all → Shows (direct r)
         by-ride from r j h e =
             let b = all-bounds r j in
             let m : r .arrive - u ≡ c .minutes - u = ap lead e in
@@ -193,12 +205,14 @@ module _ (u : ℕ) (firsts all : List Ride) (d : List Connection)
             let s = ride-for u all all-bounds c r j at points in
             let a : rideFor all c .arrive ≡ r .arrive = s .arrives ∙ sym at in
             let p : rideFor all c .points ≡ r .points = s .costs ∙ sym points in
+            let same : cost u (shownFor c) ≡ cost u (direct r) = (λ i. record { minutes = a i - u; points = p i }) in
             let listed = members (shownFor c) .0 (Memᴰ·map direct (s .listed)) in
-            let same : measure u .cost (shownFor c) ≡ measure u .cost (direct r) = (λ i. record { minutes = a i - u; points = p i }) in
-            record { from = from; shown = s; best = undominated-cost (measure u) d (direct r) (shownFor c) h listed same }
+            let best = undominated-cost (measure u) d (direct r) (shownFor c) h listed same in
+            record { from = from; shown = s; best = best }
 
+    -- each picked cost is among those that lead
     every : (c : Connection) → Picked (measure u) d c
-        → (e : Connection) × (e ∈ map shownFor (leads noPoints 0 w)) × (measure u .cost e ≡ measure u .cost c)
+        → (e : Connection) × (e ∈ map shownFor (leads noPoints 0 w)) × (cost u e ≡ cost u c)
     every c p =
         let x = undominated-there (measure u) d (map direct firsts) (sym same-costs) c (p .best) in
         let k = led-cost u firsts first-bounds w noted minutes points .1 x in
@@ -209,10 +223,10 @@ module _ (u : ℕ) (firsts all : List Ride) (d : List Connection)
         (shownFor sought, Memᴰ·map shownFor i, λ j. record { minutes = m j; points = s .shown .costs j })
       where
         minutes : ℕ
-        minutes = (measure u .cost c) .minutes
+        minutes = duration u c
 
         points : ℕ
-        points = (measure u .cost c) .points
+        points = penalty c
 
         sought : Cost
         sought = record { minutes = u + minutes; points = points }
@@ -227,7 +241,9 @@ module _ (u : ℕ) (firsts all : List Ride) (d : List Connection)
         cs = leads noPoints 0 w
 
         each : (c : Connection) → c ∈ map shownFor cs → Picked (measure u) d c
-        each c i = let x = Memᴰ·of-map shownFor cs i in subst (Picked (measure u) d) (x .2) (picked (x .0) (stands (x .0) (x .1)))
+        each c i =
+            let x = Memᴰ·of-map shownFor cs i in
+            subst (Picked (measure u) d) (x .2) (picked (x .0) (stands (x .0) (x .1)))
 
   pub rows-chosen : rowsFrom u all (leads noPoints 0 (noteAll blank firsts)) ≡ rowsOf u d
   rows-chosen = chosen (noteAll blank firsts) (least-noted noPoints 2880 firsts (λ r i. first-bounds r i .minute))
@@ -241,16 +257,20 @@ module _ (u : ℕ) (firsts all : List Ride) (d : List Connection)
 
   pub none-chosen : (leads noPoints 0 (noteAll blank firsts) ≡ []) ↔ (d ≡ [])
   unfolding rowsFrom rowsOf
-  none-chosen =
-      (λ e. result-none (measure u) d .0 (sym rows-chosen ∙ ap (rowsFrom u all) e),
-      λ e. empty cs (rows-count ∙ ap length (result-none (measure u) d .1 e)))
+  none-chosen = (to, from)
     where
       cs : List Cost
       cs = leads noPoints 0 (noteAll blank firsts)
 
+      to : cs ≡ [] → d ≡ []
+      to e = result-none (measure u) d .0 (sym rows-chosen ∙ ap (rowsFrom u all) e)
+
       empty : (l : List Cost) → length l ≡ 0 → l ≡ []
       empty [] e = refl
       empty (c ∷ l) e = absurd (omega arith)
+
+      from : d ≡ [] → cs ≡ []
+      from e = empty cs (rows-count ∙ ap length (result-none (measure u) d .1 e))
 
 -- each row has six words
 pub rows-long : (u : ℕ) (l : List Ride) (cs : List Cost) → length (concatMap (λ r. r) (rowsFrom u l cs)) ≡ 6 * length cs

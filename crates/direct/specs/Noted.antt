@@ -31,6 +31,7 @@ getD-blank (suc n) a (suc i) = getD-blank n a i
 same-cost : (x y : Cost) → x .minutes ≡ y .minutes → x .points ≡ y .points → x ≡ y
 same-cost x y h g = λ i. record { minutes = h i; points = g i }
 
+-- one minute more
 module _ (least a x : ℕ) (l : List ℕ) where
   leads-more : T (ltb x least) → leads least a (x ∷ l) ≡ record { minutes = a; points = x } ∷ leads x (suc a) l
   unfolding leads
@@ -86,6 +87,8 @@ module _ (inf : ℕ) where
             (λ p q. inr (sym e, sym (noted-here m e ∙ q)))
 
   -- ---- all rides of a list noted
+
+  -- each minute has the penalty that it had, or a lower one of a ride
   record Noted (best after : List ℕ) (l : List Ride) : Type 0 where
     low : (r : Ride) → r ∈ l → getD after (r .arrive) inf ≤ r .points
     kept : (m : ℕ) → getD after m inf ≤ getD best m inf

@@ -1,9 +1,9 @@
 -- The ride that the code picks from those of one cost goes before all others of them, by the rule for equal cost.
-use mathlib.Core.Path.{_≡_, refl, sym, ap, _∙_}
+use mathlib.Core.Path.{_≡_, refl, ap, _∙_}
 use mathlib.Core.Bool.{Bool, true, false, not, cond, _&&_}
 use mathlib.Core.Logic.{_⊎_, inl, inr}
-use mathlib.Core.List.{List, [], _∷_, List·Memᴰ·head as here, List·Memᴰ·tail as there, Memᴰ·cast}
-use Prim.Native.Nat.{ℕ, _-_, _≤_, _<_}
+use mathlib.Core.List.{List, [], _∷_, List·Memᴰ·head as here, List·Memᴰ·tail as there}
+use Prim.Native.Nat.{ℕ, _-_, _≤_}
 use native.Mathlib.Omega.{arith}
 use lib.Dec.{T, ltb, eqb, ltb→lt, lt→ltb, nltb→le, T-not, not-T}
 use Rattle.timetable.specs.Timetable.{lastMinute}
@@ -14,9 +14,9 @@ use Rattle.lists.specs.Order.{before-head, before-tail, before-cases, before-ir
 use Rattle.results.specs.Results.{Cost}
 use Rattle.connections.specs.Rides.{Ride}
 use Rattle.connections.specs.Connections.{direct}
-use Rattle.connections.specs.Planner.{tieKey, numbers}
+use Rattle.connections.specs.Planner.{tieKey}
 use Rattle.direct.specs.Bounds.{Bounds}
-use Rattle.direct.specs.Choosing.{foundOf, noFound, goesBefore, better, pickFrom, ofCost, pickFor}
+use Rattle.direct.specs.Choosing.{foundOf, goesBefore, pickFrom, ofCost, pickFor}
 
 -- if x does not come before y, nor y before z, then x does not come before z
 not-before-trans : (x y z : List ℕ) → ¬ T (before x y) → ¬ T (before y z) → ¬ T (before x z)
@@ -30,10 +30,11 @@ not-before-trans x y z p q t =
 abbrev pub key : Ride → List ℕ
 key r = tieKey (direct r)
 
--- the words of a key: the minutes left, and behind the one ride its numbers
+-- the words of a key: first the minutes that are left
 abbrev late : Ride → ℕ
 late r = lastMinute - r .depart
 
+-- and last, behind the number of rides, the numbers of the ride
 abbrev told : Ride → List ℕ
 told r = r .trip ∷ r .board ∷ r .alight ∷ []
 
@@ -99,6 +100,8 @@ module _ (f g : Ride) (h : f .depart ≤ lastMinute) (k : g .depart ≤ lastMinu
       either (goes g f) (λ t. inr (rw (T-true (goes g f) t))) (λ t. inl (rw (T-false (goes g f) t)))
 
 -- ---- one ride and those of a list
+
+-- the ride that pickFrom picks
 unfoldable pub rideFrom : Ride → List Ride → Ride
 rideFrom f [] = f
 rideFrom f (r ∷ l) = rideFrom (former f r) l
@@ -112,6 +115,7 @@ found-from (r ∷ l) f = ap (λ z. pickFrom z l) (found (goes r f)) ∙ found-fr
     found true = refl
     found false = refl
 
+-- none of them goes before one
 record First (f : Ride) (l : List Ride) (one : Ride) : Type 0 where
   member : (one ≡ f) ⊎ one ∈ l
   unbeaten : ¬ T (before (key f) (key one))
