@@ -59,12 +59,13 @@ unfoldable pub pickFrom : Found → List Ride → Found
 pickFrom f [] = f
 pickFrom f (r ∷ l) = pickFrom (better f (foundOf r)) l
 
-abbrev pub costs : Cost → Ride → Bool
-costs c r = eqb (r .arrive) (c .minutes) && eqb (r .points) (c .points)
+-- the ride has arrival minute and penalty c
+abbrev pub ofCost : Cost → Ride → Bool
+ofCost c r = eqb (r .arrive) (c .minutes) && eqb (r .points) (c .points)
 
 -- the ride shown for arrival minute and penalty c
 abbrev pub pickFor : List Ride → Cost → Found
-pickFor l c = pickFrom noFound (filter (costs c) l)
+pickFor l c = pickFrom noFound (filter (ofCost c) l)
 
 -- the row for arrival minute and penalty c, for a query at minute u
 abbrev pub rowFor : (u : ℕ) → Cost → Found → List ℕ

@@ -6,3 +6,7 @@ pub mod Foremost
 pub mod Reached
 pub mod ByLine
 pub mod Gathered
+pub mod Bounds
+pub mod Noted
+pub mod Picking
+pub mod Chosen
