@@ -1,4 +1,6 @@
 pub mod Question10
+pub mod Asked
+pub mod Yes
 pub mod Built
 pub mod Drawn
 pub mod Redrawn

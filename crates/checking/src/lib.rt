@@ -7,7 +7,12 @@ ghost use lib.ListN.{length, take};
 ghost use Rattle.lists.specs.Lists.{same};
 ghost use Rattle.timetable.specs.Words.{isTimetable};
 ghost use Rattle.checking.specs.Question10.{areTables, tablesNumber};
+ghost use Rattle.checking.specs.Asked.{listed, named, queryNumber};
+ghost use Rattle.timetable.specs.Words.{timetableOf};
 use lookup::Line;
+
+// The last minute of the two days that a timetable has.
+const LAST_MINUTE: u32 = 2879;
 
 // Where a trip stands in line tables: its line, and its place among the line's trips.
 pub struct Home {
@@ -64,4 +69,54 @@ pub fn tables_number(words: &[u16], lines: &[u16], work: &mut [u32]) -> u32
         return 0;
     }
     10
+}
+
+// Whether the timetable lists this station.
+pub fn is_listed(words: &[u16], station: u32) -> bool
+    requires { ⌜ 16384 ≤ length (now words) ⌝ }
+    ensures { λ r. ⌜ r ≡ listed (timetableOf (now (words .entry))) station ⌝ }
+{
+    if station < 1 {
+        return false;
+    }
+    station <= words::word(words, 0)
+}
+
+// Whether the timetable lists both stations, and they differ.
+fn are_named(words: &[u16], from: u32, to: u32) -> bool
+    requires { ⌜ 16384 ≤ length (now words) ⌝ }
+    ensures { λ r. ⌜ r ≡ named (timetableOf (now (words .entry))) from to ⌝ }
+{
+    if !is_listed(words, from) {
+        return false;
+    }
+    if !is_listed(words, to) {
+        return false;
+    }
+    from != to
+}
+
+// Questions 8 to 12 to a query: 0, or the number of the first no. Working space may hold any words afterwards.
+pub fn query_number(
+    words: &[u16],
+    lines: &[u16],
+    work: &mut [u32],
+    from: u32,
+    to: u32,
+    minute: u32,
+) -> u32
+    ensures { λ r. ⌜ r
+        ≡ queryNumber (now (words .entry)) (now (lines .entry)) (length (now (work .entry))) from to minute ⌝ }
+{
+    let number = tables_number(words, lines, work);
+    if number != 0 {
+        return number;
+    }
+    if !are_named(words, from, to) {
+        return 11;
+    }
+    if LAST_MINUTE < minute {
+        return 12;
+    }
+    0
 }

@@ -6,3 +6,4 @@ pub mod CallLaws
 pub mod PickLaws
 pub mod PickedLaws
 pub mod RowLaws
+pub mod ShownLaws

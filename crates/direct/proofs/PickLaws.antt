@@ -13,7 +13,7 @@ use Rattle.connections.specs.Rides.{Ride}
 use Rattle.tables.proofs.TimesLaws.{range-more, range-none}
 use Rattle.lookup.specs.Lookup.{Line, numberAt, arriveAt, departAt}
 use Rattle.direct.specs.Candidates.{Reach, rideOn}
-use Rattle.direct.specs.Choosing.{Found, foundOf, goesBefore, better, pickFrom, costs}
+use Rattle.direct.specs.Choosing.{Found, foundOf, goesBefore, better, pickFrom, ofCost}
 use Rattle.direct.specs.Turns.{costOf, picked, foundAt, triedOn, tripsFrom, Fitting}
 
 -- some rides, then some more
@@ -21,14 +21,14 @@ pub picked-append : (c : Cost) (f : Found) (a b : List Ride) → picked c f (a +
 unfolding picked pickFrom
 picked-append c f [] b = refl
 picked-append c f (r ∷ a) b =
-    go (costs c r) (picked-append c f a b) (picked-append c (better f (foundOf r)) a b)
+    go (ofCost c r) (picked-append c f a b) (picked-append c (better f (foundOf r)) a b)
   where
     go : (t : Bool)
-        → pickFrom f (filter (costs c) (a ++ b)) ≡ pickFrom (pickFrom f (filter (costs c) a)) (filter (costs c) b)
-        → pickFrom (better f (foundOf r)) (filter (costs c) (a ++ b))
-        ≡ pickFrom (pickFrom (better f (foundOf r)) (filter (costs c) a)) (filter (costs c) b)
-        → pickFrom f (keep t r (filter (costs c) (a ++ b)))
-        ≡ pickFrom (pickFrom f (keep t r (filter (costs c) a))) (filter (costs c) b)
+        → pickFrom f (filter (ofCost c) (a ++ b)) ≡ pickFrom (pickFrom f (filter (ofCost c) a)) (filter (ofCost c) b)
+        → pickFrom (better f (foundOf r)) (filter (ofCost c) (a ++ b))
+        ≡ pickFrom (pickFrom (better f (foundOf r)) (filter (ofCost c) a)) (filter (ofCost c) b)
+        → pickFrom f (keep t r (filter (ofCost c) (a ++ b)))
+        ≡ pickFrom (pickFrom f (keep t r (filter (ofCost c) a))) (filter (ofCost c) b)
     go true without with-it = with-it
     go false without with-it = without
 
@@ -73,7 +73,7 @@ module _ (v : List ℕ) (l : Line) (x p j : ℕ) (cost : CostStruct) (f : Found)
       r = record { place = p; points = cost .points .0 }
 
       left : List Ride
-      left = filter (costs (costOf cost)) (tripsFrom v l x (j + 1) r)
+      left = filter (ofCost (costOf cost)) (tripsFrom v l x (j + 1) r)
 
       go : (t : Bool) → pickFrom f (keep (t && true) (rideOn v l x j r) left)
           ≡ pickFrom (cond t (better f (foundAt v l x p j)) f) left

@@ -15,7 +15,7 @@ use Rattle.connections.specs.Rides.{Ride}
 use Rattle.lookup.specs.Lookup.{Line, lineAt, stationAt, pointsAt, arriveAt, callsPlace}
 use Rattle.lookup.specs.First.{firstTrip}
 use Rattle.direct.specs.Candidates.{Reach, pairsOf, rideOn, reach, allRead}
-use Rattle.direct.specs.Choosing.{Found, noFound, pickFrom, costs, pickFor}
+use Rattle.direct.specs.Choosing.{Found, noFound, pickFrom, ofCost, pickFor}
 use Rattle.direct.specs.Turns.{costOf, picked, tripsFrom, pickedAt, allCalls}
 use Rattle.direct.proofs.ReachLaws.{rest, rest-next, rest-none}
 use Rattle.direct.proofs.CallLaws.{pairs-more, pairs-none, calls-are}
@@ -35,7 +35,7 @@ other-points v l x p points c f (j ∷ js) differ =
     r = record { place = p; points = points }
 
     left : List Ride
-    left = filter (costs c) (map (λ i. rideOn v l x i r) js)
+    left = filter (ofCost c) (map (λ i. rideOn v l x i r) js)
 
     go : (t : Bool) → pickFrom f left ≡ f → pickFrom f (keep (t && false) (rideOn v l x j r) left) ≡ f
     go true e = e

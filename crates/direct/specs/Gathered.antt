@@ -28,6 +28,7 @@ use Rattle.tables.specs.Spelled.{within}
 use Rattle.lookup.specs.Lookup.{lineAt}
 use Rattle.lookup.specs.First.{firstTrip}
 use Rattle.lookup.specs.Told.{Told}
+use Rattle.direct.specs.Bounds.{Bounds}
 use Rattle.direct.specs.Candidates.{firstRead, allRead}
 use Rattle.direct.specs.Foremost.{placed}
 use Rattle.direct.specs.Reached.{first-trip-in, first-trip-out}
@@ -46,16 +47,6 @@ use Rattle.direct.specs.ByLine.{
   timely-by,
   by-timely,
 }
-
--- a ride that leaves at minute u or later, with minutes of the two days, a penalty below 32 bits and a trip number of
--- 16 bits
-pub record Bounds (u : ℕ) (r : Ride) : Type 0 where
-  pub leaves : u ≤ r .depart
-  pub later : r .depart < r .arrive
-  pub minute : r .arrive < 2880
-  pub depart-minute : r .depart ≤ 2879
-  pub few : r .points < 4294967295
-  pub trip-few : r .trip < 65536
 
 module _
     (v : List ℕ)

@@ -11,7 +11,7 @@ use Rattle.results.specs.declared.Cost.{Cost as CostStruct}
 use Rattle.connections.specs.Rides.{Ride}
 use Rattle.lookup.specs.Lookup.{Line, lineAt, numberAt, stationAt, arriveAt, departAt}
 use Rattle.direct.specs.Candidates.{Call, Reach, rideOn, firstOn, allOn}
-use Rattle.direct.specs.Choosing.{Found, better, pickFrom, costs, pickFor, rowFor}
+use Rattle.direct.specs.Choosing.{Found, better, pickFrom, ofCost, pickFor, rowFor}
 
 -- the cost of the struct of src/
 abbrev pub costOf : CostStruct → Cost
@@ -31,7 +31,7 @@ firstCalls v u b = concatMap (λ c. firstOn v u b (lineAt v (c .line)) (c .place
 
 -- the ride shown for cost c, after some rides more
 unfoldable pub picked : Cost → Found → List Ride → Found
-picked c f l = pickFrom f (filter (costs c) l)
+picked c f l = pickFrom f (filter (ofCost c) l)
 
 -- the ride to place p of a line on the trip at place j, as it may be shown
 abbrev pub foundAt : List ℕ → Line → (x p j : ℕ) → Found

@@ -13,7 +13,10 @@ ghost use Rattle.direct.specs.Choosing.{noPoints, blank, noteAll, leads,
 ghost use Rattle.direct.specs.Choosing.{rowFor, rowsFrom};
 ghost use Rattle.direct.specs.Turns.{costOf, lowered, notedAt, picked, triedOn, tripsFrom, pickedAt};
 ghost use Rattle.direct.specs.Turns.{leadWords, Fitting};
+ghost use Rattle.direct.specs.Direct.{directReply, directWords};
+ghost use Rattle.direct.specs.Shown.{bestOf, leadsOf, foundReply, foundAnswer};
 use lookup::Line;
+use replies::Reply;
 use results::Cost;
 use results::Minutes;
 use results::Points;
@@ -453,4 +456,87 @@ fn write_rows(v: &[u16], best: &[u32], from: usize, to: usize, minute: usize, an
         least = lesser(least, best[a]);
         a += 1;
     }
+}
+
+// Notes what the first rides cost, for each minute of arrival. Answers how many rows there will be.
+fn find_costs(v: &[u16], from: usize, to: usize, minute: usize, best: &mut [u32]) -> usize
+    requires { ⌜ (1 ≤ from) × (from ≤ 64) × (callsPlace (now v) from ≤ length (now v)) × (length (now best) ≡ 2880) ⌝ }
+    ensures { λ r. ⌜ (now (best .exit) ≡ bestOf (now (v .entry)) from to minute)
+        × (r ≡ length (leadsOf (now (v .entry)) from to minute))
+        × (r ≤ 2880)
+        × (length (now (best .exit)) ≡ 2880) ⌝ }
+{
+    fill_blank(best);
+    note_first(v, from, to, minute, best);
+    count_rows(best)
+}
+
+// Answers a query from line tables that belong to the timetable. The answer is measured before a word is written.
+fn show(
+    v: &[u16],
+    best: &mut [u32],
+    from: usize,
+    to: usize,
+    minute: usize,
+    answer: &mut [u32],
+) -> Reply
+    requires { ⌜ (1 ≤ from) × (from ≤ 64) × (callsPlace (now v) from ≤ length (now v)) × (length (now best) ≡ 2880) ⌝ }
+    ensures { λ r. ⌜ r ≡ foundReply (now (v .entry)) from to minute (length (now (answer .entry))) ⌝ }
+    ensures { λ _. ⌜ now (answer .exit) ≡ foundAnswer (now (v .entry)) from to minute (now (answer .entry)) ⌝ }
+{
+    let count = find_costs(v, from, to, minute, best);
+    if count < 1 {
+        return Reply::Refused { number: 14 };
+    }
+    if answer.len() < ROW_WORDS * count {
+        return Reply::Refused { number: 15 };
+    }
+    write_rows(v, best, from, to, minute, answer);
+    Reply::Done {
+        count: count as u32,
+    }
+}
+
+// The direct rides from one station to another at a minute. Working space may hold any words afterwards.
+pub fn direct(
+    words: &[u16],
+    lines: &[u16],
+    work: &mut [u32],
+    from: u32,
+    to: u32,
+    minute: u32,
+    answer: &mut [u32],
+) -> Reply
+    ensures reply { λ r. ⌜ r
+        ≡ directReply
+        (now (words .entry))
+        (now (lines .entry))
+        (length (now (work .entry)))
+        from
+        to
+        minute
+        (length (now (answer .entry))) ⌝ }
+    ensures words { λ _. ⌜ now (answer .exit)
+        ≡ directWords
+        (now (words .entry))
+        (now (lines .entry))
+        (length (now (work .entry)))
+        from
+        to
+        minute
+        (now (answer .entry)) ⌝ }
+{
+    let number = checking::query_number(words, lines, work, from, to, minute);
+    if number != 0 {
+        return Reply::Refused { number };
+    }
+    let best = &mut work[0..MINUTES];
+    show(
+        lines,
+        best,
+        from as usize,
+        to as usize,
+        minute as usize,
+        answer,
+    )
 }
