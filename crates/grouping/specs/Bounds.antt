@@ -36,6 +36,16 @@ module _ (t : List Trip) where
       let i = lineFor z ls in
       omega (arith, lines-added zs (addTrip t z ls), ap length (add-joins t z ls), length-join i z ls)
 
+module _ (t : List Trip) where
+  -- of any trips: all of them stand on the lines, and there are no more lines than trips
+  pub all-on-lines : length (onLines (lines t)) ≡ length t
+  unfolding lines
+  all-on-lines = omega (arith, trips-added t (inOrder t) [], length-order t)
+
+  pub no-more-lines : length (lines t) ≤ length t
+  unfolding lines
+  no-more-lines = omega (arith, lines-added t (inOrder t) [], length-order t)
+
 some-lines : (ls : List (List ℕ)) → 1 ≤ length (onLines ls) → 1 ≤ length ls
 some-lines [] h = h
 some-lines (x ∷ ls) h = omega arith
@@ -49,12 +59,10 @@ module _ (w : List ℕ) where
   t = (timetableOf w) .trips
 
   pub trips-on-lines : length (onLines (lines t)) ≡ tripCount w
-  unfolding lines
-  trips-on-lines = omega (arith, trips-added t (inOrder t) [], length-order t, length-trips w)
+  trips-on-lines = all-on-lines t ∙ length-trips w
 
   pub lines-most : length (lines t) ≤ tripCount w
-  unfolding lines
-  lines-most = omega (arith, lines-added t (inOrder t) [], length-order t, length-trips w)
+  lines-most = omega (arith, no-more-lines t, length-trips w)
 
   pub line-some : (l : List ℕ) → l ∈ lines t → 1 ≤ length l
   line-some l m = some-member l (headOf l) (lines-good t l m .led)

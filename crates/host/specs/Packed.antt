@@ -6,9 +6,9 @@ use native.Mathlib.Nat.{add-zero, zero-add}
 use Rattle.reading.specs.declared.Reply.{Reply}
 use Rattle.reading.specs.declared.Reply.the-variants.{Done, Refused}
 use Rattle.reading.specs.Reading.{numberOf, lineOf, countOf}
-use Rattle.tables.specs.declared.Reply.{Reply as Built}
-use Rattle.tables.specs.declared.Reply.the-variants.{Done as BuiltDone, Refused as BuiltRefused}
-use Rattle.tables.specs.Building.{numberOf as builtNumber, countOf as builtCount}
+use Rattle.replies.specs.declared.Reply.{Reply as Counted}
+use Rattle.replies.specs.declared.Reply.the-variants.{Done as CountDone, Refused as CountRefused}
+use Rattle.replies.specs.Replies.{numberOf as countedNumber, countOf as countedCount}
 
 abbrev pub packed : (number low : ℕ) → ℕ
 packed number low = number * 4294967296 + low
@@ -17,9 +17,9 @@ packed number low = number * 4294967296 + low
 unfoldable pub packedReply : Reply → ℕ
 packedReply r = packed (numberOf r) (countOf r + lineOf r)
 
--- a reply of building: it has no line
-unfoldable pub packedBuilt : Built → ℕ
-packedBuilt r = packed (builtNumber r) (builtCount r)
+-- the reply of a call that counts: it has no line
+unfoldable pub packedCount : Counted → ℕ
+packedCount r = packed (countedNumber r) (countedCount r)
 
 -- ---- the two cases
 module _ (reply : Reply) (r : ℕ) where
@@ -35,14 +35,14 @@ module _ (reply : Reply) (r : ℕ) where
   pub packed-same : (other : Reply) → r ≡ packedReply reply → reply ≡ other → r ≡ packedReply other
   packed-same other e f = e ∙ ap packedReply f
 
-module _ (reply : Built) (r : ℕ) where
-  pub built-done : (lines : ℕ) → r ≡ packed 0 lines → reply ≡ BuiltDone lines → r ≡ packedBuilt reply
-  unfolding packedBuilt
-  built-done lines e f = e ∙ rw f
+module _ (reply : Counted) (r : ℕ) where
+  pub count-done : (count : ℕ) → r ≡ packed 0 count → reply ≡ CountDone count → r ≡ packedCount reply
+  unfolding packedCount
+  count-done count e f = e ∙ rw f
 
-  pub built-refused : (number : ℕ) → r ≡ packed number 0 → reply ≡ BuiltRefused number → r ≡ packedBuilt reply
-  unfolding packedBuilt
-  built-refused number e f = e ∙ rw f
+  pub count-refused : (number : ℕ) → r ≡ packed number 0 → reply ≡ CountRefused number → r ≡ packedCount reply
+  unfolding packedCount
+  count-refused number e f = e ∙ rw f
 
-  pub built-same : (other : Built) → r ≡ packedBuilt reply → reply ≡ other → r ≡ packedBuilt other
-  built-same other e f = e ∙ ap packedBuilt f
+  pub count-same : (other : Counted) → r ≡ packedCount reply → reply ≡ other → r ≡ packedCount other
+  count-same other e f = e ∙ ap packedCount f

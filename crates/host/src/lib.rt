@@ -5,7 +5,7 @@ ghost use lib.ListN.{length};
 ghost use Rattle.timetable.specs.Words.{timetableNumber};
 ghost use Rattle.reading.specs.Reading.{readReply, readWords};
 ghost use Rattle.tables.specs.Building.{buildReply, buildWords};
-ghost use Rattle.host.specs.Packed.{packed, packedReply, packedBuilt};
+ghost use Rattle.host.specs.Packed.{packed, packedReply, packedCount};
 use reading::Reply;
 
 // What 1 in the upper half of a reply counts.
@@ -48,14 +48,14 @@ pub extern "C" fn dairyepoch_check_timetable(timetable: &[u16]) -> u64
     pack(timetable::timetable_number(timetable), 0)
 }
 
-fn pack_built(reply: tables::Reply) -> u64
-    ensures { λ r. ⌜ r ≡ packedBuilt reply ⌝ }
+fn pack_count(reply: replies::Reply) -> u64
+    ensures { λ r. ⌜ r ≡ packedCount reply ⌝ }
 {
     match reply {
-        tables::Reply::Done { count } => {
+        replies::Reply::Done { count } => {
             return pack(0, count);
         }
-        tables::Reply::Refused { number } => {
+        replies::Reply::Refused { number } => {
             return pack(number, 0);
         }
     }
@@ -69,10 +69,10 @@ pub extern "C" fn dairyepoch_build_lines(
     work: &mut [u32],
 ) -> u64
     ensures reply { λ r. ⌜ r
-        ≡ packedBuilt
+        ≡ packedCount
         (buildReply (now (timetable .entry)) (length (now (lines .entry))) (length (now (work .entry)))) ⌝ }
     ensures words { λ _. ⌜ now (lines .exit)
         ≡ buildWords (now (timetable .entry)) (now (lines .entry)) (length (now (work .entry))) ⌝ }
 {
-    pack_built(tables::build(timetable, lines, work))
+    pack_count(tables::build(timetable, lines, work))
 }

@@ -34,21 +34,21 @@ module _ (t : List Trip) where
       (behind-at (getD t z []) (getD t w []) h y .arrive, behind-points (getD t z []) (getD t w []) h x y)
 
   -- where a line takes one from a to b: a place to board, and a later one to alight
-  record Pair (a b : ℕ) (l : List ℕ) (x y : ℕ) : Type 0 where
-    later : x < y
-    inside : y < length (course t l)
-    board : stationOn t l x ≡ a
-    alight : stationOn t l y ≡ b
+  pub record Pair (a b : ℕ) (l : List ℕ) (x y : ℕ) : Type 0 where
+    pub later : x < y
+    pub inside : y < length (course t l)
+    pub board : stationOn t l x ≡ a
+    pub alight : stationOn t l y ≡ b
 
-  record FirstRide (a u b : ℕ) (c : Connection) : Type 0 where
-    line : List ℕ
-    x : ℕ
-    y : ℕ
-    z : ℕ
-    listed : line ∈ lines t
-    pair : Pair a b line x y
-    first : z ∈ firstOf (inTime t u x) line
-    is : direct (rideAt (getD t z []) z x y) ≡ c
+  pub record FirstRide (a u b : ℕ) (c : Connection) : Type 0 where
+    pub line : List ℕ
+    pub x : ℕ
+    pub y : ℕ
+    pub z : ℕ
+    pub listed : line ∈ lines t
+    pub pair : Pair a b line x y
+    pub first : z ∈ firstOf (inTime t u x) line
+    pub is : direct (rideAt (getD t z []) z x y) ≡ c
 
   abbrev boardsAt : (a : ℕ) (l : List ℕ) (x : ℕ) → Bool
   boardsAt a l x = eqb (stationOn t l x) a
@@ -56,7 +56,7 @@ module _ (t : List Trip) where
   abbrev alightsAt : (b : ℕ) (l : List ℕ) (x y : ℕ) → Bool
   alightsAt b l x y = mayRide (course t l) x y && eqb (stationOn t l y) b
 
-  first-ride : (a u b : ℕ) (c : Connection) → c ∈ firstRides t a u b → FirstRide a u b c
+  pub first-ride : (a u b : ℕ) (c : Connection) → c ∈ firstRides t a u b → FirstRide a u b c
   unfolding firstRides
   first-ride a u b c m =
       let i = concatMap-out (firstOn t a u b) (lines t) m in
@@ -86,7 +86,7 @@ module _ (t : List Trip) where
         is = w .2;
       }
 
-  first-in : (a u b : ℕ) (l : List ℕ) (x y z : ℕ) → l ∈ lines t → Pair a b l x y → z ∈ firstOf (inTime t u x) l
+  pub first-in : (a u b : ℕ) (l : List ℕ) (x y z : ℕ) → l ∈ lines t → Pair a b l x y → z ∈ firstOf (inTime t u x) l
       → direct (rideAt (getD t z []) z x y) ∈ firstRides t a u b
   unfolding firstRides
   first-in a u b l x y z m p f =
@@ -116,11 +116,11 @@ module _ (timetable : Timetable) (a u b : ℕ) where
   abbrev wanted : Ride → Bool
   wanted r = boardable a u r && eqb (r .to) b
 
-  direct-in : (r : Ride) → r ∈ n .rides → T (wanted r) → direct r ∈ directs n a u b
+  pub direct-in : (r : Ride) → r ∈ n .rides → T (wanted r) → direct r ∈ directs n a u b
   unfolding directs
   direct-in r m w = Memᴰ·map direct (filter-in wanted m w)
 
-  direct-out : (c : Connection) → c ∈ directs n a u b → (r : Ride) × (r ∈ n .rides) × T (wanted r) × (direct r ≡ c)
+  pub direct-out : (c : Connection) → c ∈ directs n a u b → (r : Ride) × (r ∈ n .rides) × T (wanted r) × (direct r ≡ c)
   unfolding directs
   direct-out c m =
       let x = Memᴰ·of-map direct (filter wanted (n .rides)) m in
@@ -149,7 +149,7 @@ module _ (timetable : Timetable) (a u b : ℕ) where
       into (onward r w c) f = absurd (omega (arith, f .1, some-rides c))
 
   -- a first ride is a direct ride
-  first-direct : (c : Connection) → c ∈ firstRides t a u b → c ∈ directs n a u b
+  pub first-direct : (c : Connection) → c ∈ firstRides t a u b → c ∈ directs n a u b
   first-direct c m =
       let f = first-ride t a u b c m in
       let z = f .z in

@@ -17,7 +17,7 @@ use Rattle.lines.specs.Ordered.{lines-good, line-length}
 use Rattle.lines.specs.Once.{trip-listed}
 use Rattle.tables.specs.Model.{callsOf, LineOf, linesAt, AllLines}
 
-within : {A : Type 0} (l : List A) (j : ℕ) (d : A) → j < length l → getD l j d ∈ l
+pub within : {A : Type 0} (l : List A) (j : ℕ) (d : A) → j < length l → getD l j d ∈ l
 within [] j d h = absurd (omega arith)
 within (x ∷ l) zero d h = here refl
 within (x ∷ l) (suc j) d h = there (within l j d (omega arith))

@@ -1,10 +1,10 @@
-use Rattle.host.specs.Packed.{built-same}
+use Rattle.host.specs.Packed.{count-same}
 use borrow.Author.Needs.{needs}
 use Rattle.host.proofs.dairyepoch_build_lines.Statement.{statement}
 use Rattle.host.proofs.dairyepoch_build_lines.Tie as tie
 use Rattle.host.proofs.dairyepoch_build_lines.Reads as reads
 use Rattle.host.proofs.dairyepoch_build_lines.Lts as lts
-use Rattle.host.proofs.pack_built.Reads as pack-built-reads
+use Rattle.host.proofs.pack_count.Reads as pack-count-reads
 use Rattle.tables.proofs.build.Reads as build-reads
 
 -- src/lib.rt:77:16
@@ -12,8 +12,8 @@ build-requires : tie.Need-build-requires
 build-requires c κs = search needs
 
 -- src/lib.rt:77:5
-pack-built-requires : tie.Need-pack-built-requires
-pack-built-requires c κs = search needs
+pack-count-requires : tie.Need-pack-count-requires
+pack-count-requires c κs = search needs
 
 -- src/lib.rt:65:1
 same-length : tie.Need-same-length
@@ -25,8 +25,8 @@ same-length-2 c = search needs
 
 -- src/lib.rt:65:1
 returns : tie.Need-returns
-returns c = (search built-same, search needs)
+returns c = (search count-same, search needs)
 
 pub dairyepoch-build-lines-spec : {M : Type 1} → statement M
 dairyepoch-build-lines-spec =
-    tie.close (tie.spec build-requires pack-built-requires same-length same-length-2 returns)
+    tie.close (tie.spec build-requires pack-count-requires same-length same-length-2 returns)

@@ -1,9 +1,9 @@
-use Rattle.host.specs.Packed.{built-done, built-refused}
+use Rattle.host.specs.Packed.{count-done, count-refused}
 use borrow.Author.Needs.{needs}
-use Rattle.host.proofs.pack_built.Statement.{statement}
-use Rattle.host.proofs.pack_built.Tie as tie
-use Rattle.host.proofs.pack_built.Reads as reads
-use Rattle.host.proofs.pack_built.Lts as lts
+use Rattle.host.proofs.pack_count.Statement.{statement}
+use Rattle.host.proofs.pack_count.Tie as tie
+use Rattle.host.proofs.pack_count.Reads as reads
+use Rattle.host.proofs.pack_count.Lts as lts
 use Rattle.host.proofs.pack.Reads as pack-reads
 
 -- src/lib.rt:55:31
@@ -16,7 +16,7 @@ pack-requires c κs = search needs
 
 -- src/lib.rt:56:13
 returns : tie.Need-returns
-returns c = search built-done
+returns c = search count-done
 
 -- src/lib.rt:58:34
 enum-known-reply-2 : tie.Need-enum-known-reply-2
@@ -28,9 +28,9 @@ pack-requires-2 c κs = search needs
 
 -- src/lib.rt:59:13
 returns-2 : tie.Need-returns-2
-returns-2 c = search built-refused
+returns-2 c = search count-refused
 
-pub pack-built-spec : {M : Type 1} → statement M
-pack-built-spec =
+pub pack-count-spec : {M : Type 1} → statement M
+pack-count-spec =
     tie.close
     (tie.spec enum-known-reply pack-requires returns enum-known-reply-2 pack-requires-2 returns-2)

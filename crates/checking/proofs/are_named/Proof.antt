@@ -1,0 +1,35 @@
+use Rattle.checking.proofs.AskedLaws.{first-unlisted, second-unlisted, both-listed}
+use borrow.Author.Needs.{needs}
+use Rattle.checking.proofs.are_named.Statement.{statement}
+use Rattle.checking.proofs.are_named.Tie as tie
+use Rattle.checking.proofs.are_named.Reads as reads
+use Rattle.checking.proofs.are_named.Lts as lts
+use Rattle.checking.proofs.is_listed.Reads as is-listed-reads
+
+-- src/lib.rt:90:9
+is-listed-requires : tie.Need-is-listed-requires
+is-listed-requires c κs = search needs
+
+-- src/lib.rt:91:9
+returns : tie.Need-returns
+returns c = search first-unlisted
+
+-- src/lib.rt:93:9
+is-listed-requires-2 : tie.Need-is-listed-requires-2
+is-listed-requires-2 c κs = search needs
+
+-- src/lib.rt:94:9
+returns-2 : tie.Need-returns-2
+returns-2 c = search second-unlisted
+
+-- src/lib.rt:86:1
+returns-3 : tie.Need-returns-3
+returns-3 c =
+    let first = c .before .before .before in
+    let a = first .before .before .args in
+    both-listed (a .words .now) (a .from) (a .to) (first .is-listed .result) (c .before .is-listed2 .result)
+    (first .is-listed .ensures) (c .before .before .if1 .left) (c .before .is-listed2 .ensures) (c .if2 .left)
+
+pub are-named-spec : {M : Type 1} → statement M
+are-named-spec =
+    tie.close (tie.spec is-listed-requires returns is-listed-requires-2 returns-2 returns-3)

@@ -1,0 +1,14 @@
+pub mod Direct
+pub mod Candidates
+pub mod Choosing
+pub mod Turns
+pub mod Bounds
+pub mod Noted
+pub mod Picking
+pub mod Chosen
+pub mod Met
+pub mod Foremost
+pub mod Reached
+pub mod ByLine
+pub mod Gathered
+pub mod Shown

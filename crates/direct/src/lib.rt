@@ -1,0 +1,542 @@
+// Direct rides: the costs of the query from the first trips of the lines, and for each cost the ride that is shown.
+ghost use mathlib.Core.Path.{_≡_};
+ghost use mathlib.Core.Bool.{cond};
+ghost use mathlib.Core.List.{map};
+ghost use Prim.Native.Nat.{_+_, _-_, _*_, _≤_, _<_, min};
+ghost use lib.Dec.{ltb};
+ghost use lib.ListN.{length, getD};
+ghost use Rattle.words.specs.Put.{put};
+ghost use Rattle.lists.specs.Lists.{concatMap};
+ghost use Rattle.lookup.specs.Lookup.{lineAt, callsPlace};
+ghost use Rattle.direct.specs.Candidates.{rideOn, reach, firstRead, allRead};
+ghost use Rattle.direct.specs.Choosing.{noPoints, blank, noteAll, leads, goesBefore, better, pickFor};
+ghost use Rattle.direct.specs.Choosing.{rowFor, rowsFrom};
+ghost use Rattle.direct.specs.Turns.{costOf, lowered, notedAt, picked, triedOn, tripsFrom, pickedAt};
+ghost use Rattle.direct.specs.Turns.{leadWords, Fitting};
+ghost use Rattle.direct.specs.Direct.{directReply, directWords};
+ghost use Rattle.direct.specs.Shown.{bestOf, leadsOf, foundReply, foundAnswer};
+use lookup::Line;
+use replies::Reply;
+use results::Cost;
+use results::Minutes;
+use results::Points;
+
+// The minutes in which a trip may arrive: 0 to 2,879.
+const MINUTES: usize = 2880;
+
+// The penalty of a minute in which no ride arrives; every ride has less.
+const NO_POINTS: u32 = u32::MAX;
+
+// The trip of no ride: every trip has a lower number.
+const NO_TRIP: usize = 65536;
+
+// The words of a row of the answer.
+const ROW_WORDS: usize = 6;
+
+// A ride that may be shown.
+pub struct Found {
+    pub depart: usize,
+    pub trip: usize,
+    pub board: usize,
+    pub alight: usize,
+}
+
+// Whether g goes before f, both of one cost: it departs later, or its numbers come first.
+fn goes_before(g: Found, f: Found) -> bool
+    ensures { λ r. ⌜ r ≡ goesBefore g f ⌝ }
+{
+    if f.depart < g.depart {
+        return true;
+    }
+    if g.depart < f.depart {
+        return false;
+    }
+    if g.trip < f.trip {
+        return true;
+    }
+    if f.trip < g.trip {
+        return false;
+    }
+    if g.board < f.board {
+        return true;
+    }
+    if f.board < g.board {
+        return false;
+    }
+    g.alight < f.alight
+}
+
+// The one of two rides that is shown.
+fn better(f: Found, g: Found) -> Found
+    ensures { λ r. ⌜ r ≡ better f g ⌝ }
+{
+    if goes_before(g, f) {
+        return g;
+    }
+    f
+}
+
+// The lesser of two numbers of points.
+fn lesser(a: u32, b: u32) -> u32
+    ensures { λ r. ⌜ r ≡ min a b ⌝ }
+{
+    if b < a {
+        return b;
+    }
+    a
+}
+
+// Notes that a ride arrives at a minute with a penalty; best holds the least penalty for each arrival minute. A minute
+// past its end is not noted: no trip of a timetable arrives then.
+fn note(best: &mut [u32], cost: Cost)
+    ensures { λ _. ⌜ now (best .exit)
+        ≡ lowered (now (best .entry)) (cost .minutes .0) (cost .points .0) ⌝ }
+    ensures { λ _. ⌜ length (now (best .exit)) ≡ length (now (best .entry)) ⌝ }
+{
+    let minute = cost.minutes.0 as usize;
+    if minute < best.len() {
+        best[minute] = lesser(best[minute], cost.points.0);
+    }
+}
+
+// Before a query no ride has been noted for any minute.
+fn fill_blank(best: &mut [u32])
+    requires { ⌜ length (now best) ≡ 2880 ⌝ }
+    ensures { λ _. ⌜ now (best .exit) ≡ blank ⌝ }
+    ensures { λ _. ⌜ length (now (best .exit)) ≡ length (now (best .entry)) ⌝ }
+{
+    let mut i = 0;
+    while i < MINUTES {
+        best[i] = NO_POINTS;
+        i += 1;
+    }
+}
+
+// 1 if a is below b, else 0.
+fn below(a: u32, b: u32) -> usize
+    ensures { λ r. ⌜ (r ≡ cond (ltb a b) 1 0) × (r ≤ 1) ⌝ }
+{
+    if a < b {
+        return 1;
+    }
+    0
+}
+
+// How many arrival minutes have a penalty below those of all earlier minutes: the rows of the answer.
+fn count_rows(best: &[u32]) -> usize
+    requires { ⌜ length (now best) ≡ 2880 ⌝ }
+    ensures { λ r. ⌜ (r ≡ length (leads noPoints 0 (now (best .entry)))) × (r ≤ 2880) ⌝ }
+{
+    let mut rows = 0;
+    let mut least = NO_POINTS;
+    let mut a = 0;
+    while a < MINUTES {
+        rows += below(best[a], least);
+        least = lesser(least, best[a]);
+        a += 1;
+    }
+    rows
+}
+
+// Notes the ride on the trip at place j of a line to place p, if the station there is the one asked for; points is the
+// penalty of that ride.
+fn note_at(v: &[u16], l: Line, p: usize, j: usize, to: usize, points: u32, best: &mut [u32])
+    requires { ⌜ (l .at < 65536) × (l .positions < 65536) × (l .trips < 65536) × (p < 65536) × (j < 65536) ⌝ }
+    ensures { λ _. ⌜ now (best .exit) ≡ notedAt (now (v .entry)) l p j to points (now (best .entry)) ⌝ }
+    ensures { λ _. ⌜ length (now (best .exit)) ≡ length (now (best .entry)) ⌝ }
+{
+    if lookup::station_at(v, l, p) == to {
+        let minutes = Minutes(lookup::arrive_at(v, l, p, j) as u32);
+        note(
+            best,
+            Cost {
+                minutes,
+                points: Points(points),
+            },
+        );
+    }
+}
+
+// Notes all rides on the trip at place j of a line from place x to the station.
+fn note_reach(v: &[u16], l: Line, x: usize, j: usize, to: usize, best: &mut [u32])
+    requires { ⌜ (l .at < 65536) × (l .positions < 65536) × (l .trips < 65536) × (x < 65536) × (j < 65536) ⌝ }
+    ensures { λ _. ⌜ now (best .exit)
+        ≡ noteAll (now (best .entry)) (map (rideOn (now (v .entry)) l x j) (reach (now (v .entry)) l x to)) ⌝ }
+    ensures { λ _. ⌜ length (now (best .exit)) ≡ length (now (best .entry)) ⌝ }
+{
+    let mut points: u32 = 0;
+    let mut p = x;
+    while p + 1 < l.positions {
+        points += lookup::points_at(v, l, p) as u32;
+        p += 1;
+        note_at(v, l, p, j, to, points, best);
+    }
+}
+
+// A number from 1 as a place from 0. A word that is 0 where none should be counts as 1.
+fn less_one(n: usize) -> usize
+    ensures { λ r. ⌜ r ≡ n - 1 ⌝ }
+{
+    if n == 0 {
+        return 0;
+    }
+    n - 1
+}
+
+// The line of the call at index k.
+fn call_line(v: &[u16], k: usize) -> Line
+    ensures { λ r. ⌜ r ≡ lineAt (now (v .entry)) (getD (now (v .entry)) k 0 - 1) ⌝ }
+    ensures { λ r. ⌜ (r .at < 65536) × (r .positions < 65536) × (r .trips < 65536) ⌝ }
+{
+    lookup::line_at(v, less_one(lookup::peek(v, k)))
+}
+
+// The place on its line of the call at index k.
+fn call_place(v: &[u16], k: usize) -> usize
+    requires { ⌜ k < 65536 ⌝ }
+    ensures { λ r. ⌜ (r ≡ getD (now (v .entry)) (k + 1) 0 - 1) × (r < 65536) ⌝ }
+{
+    less_one(lookup::peek(v, k + 1))
+}
+
+// Notes, at each call of station from, the rides to station to on the first trip that leaves at the minute or later.
+fn note_first(v: &[u16], from: usize, to: usize, minute: usize, best: &mut [u32])
+    requires { ⌜ (1 ≤ from) × (from ≤ 64) × (callsPlace (now v) from ≤ length (now v)) ⌝ }
+    ensures { λ _. ⌜ now (best .exit) ≡ noteAll (now (best .entry)) (firstRead (now (v .entry)) from minute to) ⌝ }
+    ensures { λ _. ⌜ length (now (best .exit)) ≡ length (now (best .entry)) ⌝ }
+{
+    let end = lookup::calls_place(v, from);
+    let mut k = lookup::calls_place(v, from - 1);
+    'calls: while k + 1 < end {
+        let l = call_line(v, k);
+        let x = call_place(v, k);
+        k += 2;
+        let first = lookup::first_trip(v, l, x, minute);
+        if l.trips <= first {
+            continue 'calls;
+        }
+        note_reach(v, l, x, first, to, best);
+    }
+}
+
+// The ride on the trip at place j of a line from place x to place p, if it arrives at the minute of the cost and goes
+// before the one found so far.
+fn pick_trip(v: &[u16], l: Line, x: usize, p: usize, j: usize, cost: Cost, found: Found) -> Found
+    requires { ⌜ (l .at < 65536)
+        × (l .positions < 65536)
+        × (l .trips < 65536)
+        × (x < 65536)
+        × (p < 65536)
+        × (j < 65536)
+        × Fitting found ⌝ }
+    ensures { λ r. ⌜ (r ≡ triedOn (now (v .entry)) l x p j (cost .minutes .0) found) × Fitting r ⌝ }
+{
+    if lookup::arrive_at(v, l, p, j) == cost.minutes.0 as usize {
+        let depart = lookup::depart_at(v, l, x, j);
+        let trip = lookup::number_at(v, l, j);
+        let ride = Found {
+            depart,
+            trip,
+            board: x + 1,
+            alight: p + 1,
+        };
+        return better(found, ride);
+    }
+    found
+}
+
+// The best of the rides from place x to place p of a line that arrive at the minute of the cost, on its trips from
+// place first on.
+fn pick_trips(
+    v: &[u16],
+    l: Line,
+    x: usize,
+    p: usize,
+    first: usize,
+    cost: Cost,
+    found: Found,
+) -> Found
+    requires { ⌜ (l .at < 65536)
+        × (l .positions < 65536)
+        × (l .trips < 65536)
+        × (x < 65536)
+        × (p < 65536)
+        × (first ≤ l .trips)
+        × Fitting found ⌝ }
+    ensures { λ r. ⌜ (r
+        ≡ picked (costOf cost) found
+        (tripsFrom (now (v .entry)) l x first (record { place = p; points = cost .points .0 })))
+        × Fitting r ⌝ }
+{
+    let mut best = found;
+    let mut j = first;
+    while j < l.trips {
+        best = pick_trip(v, l, x, p, j, cost, best);
+        j += 1;
+    }
+    best
+}
+
+// The best of the rides of the cost to place p of a line, if the station there is the one asked for; points is the
+// penalty of those rides.
+fn pick_at(
+    v: &[u16],
+    l: Line,
+    x: usize,
+    p: usize,
+    first: usize,
+    to: usize,
+    points: u32,
+    cost: Cost,
+    found: Found,
+) -> Found
+    requires { ⌜ (l .at < 65536)
+        × (l .positions < 65536)
+        × (l .trips < 65536)
+        × (x < 65536)
+        × (p < 65536)
+        × (first ≤ l .trips)
+        × Fitting found ⌝ }
+    ensures { λ r. ⌜ (r ≡ pickedAt (now (v .entry)) l x p first to points (costOf cost) found) × Fitting r ⌝ }
+{
+    if lookup::station_at(v, l, p) != to {
+        return found;
+    }
+    if points != cost.points.0 {
+        return found;
+    }
+    pick_trips(v, l, x, p, first, cost, found)
+}
+
+// The best of the rides of the cost from place x of a line to the station, on its trips from place first on.
+fn pick_reach(
+    v: &[u16],
+    l: Line,
+    x: usize,
+    first: usize,
+    to: usize,
+    cost: Cost,
+    found: Found,
+) -> Found
+    requires { ⌜ (l .at < 65536)
+        × (l .positions < 65536)
+        × (l .trips < 65536)
+        × (x < 65536)
+        × (first ≤ l .trips)
+        × Fitting found ⌝ }
+    ensures { λ r. ⌜ (r
+        ≡ picked (costOf cost) found
+        (concatMap (tripsFrom (now (v .entry)) l x first) (reach (now (v .entry)) l x to)))
+        × Fitting r ⌝ }
+{
+    let mut best = found;
+    let mut points: u32 = 0;
+    let mut p = x;
+    while p + 1 < l.positions {
+        points += lookup::points_at(v, l, p) as u32;
+        p += 1;
+        best = pick_at(v, l, x, p, first, to, points, cost, best);
+    }
+    best
+}
+
+// The ride that is shown for a cost, its minutes being those of the arrival.
+fn pick_ride(v: &[u16], from: usize, to: usize, minute: usize, cost: Cost) -> Found
+    requires { ⌜ (1 ≤ from) × (from ≤ 64) × (callsPlace (now v) from ≤ length (now v)) ⌝ }
+    ensures { λ r. ⌜ (r ≡ pickFor (allRead (now (v .entry)) from minute to) (costOf cost)) × Fitting r ⌝ }
+{
+    let mut found = Found {
+        depart: 0,
+        trip: NO_TRIP,
+        board: 0,
+        alight: 0,
+    };
+    let end = lookup::calls_place(v, from);
+    let mut k = lookup::calls_place(v, from - 1);
+    while k + 1 < end {
+        let l = call_line(v, k);
+        let x = call_place(v, k);
+        let first = lookup::first_trip(v, l, x, minute);
+        found = pick_reach(v, l, x, first, to, cost, found);
+        k += 2;
+    }
+    found
+}
+
+// The minutes from one minute to a later one; none if it is not later.
+fn minutes_between(minute: usize, arrive: u32) -> u32
+    ensures { λ r. ⌜ r ≡ arrive - minute ⌝ }
+{
+    if arrive as usize <= minute {
+        return 0;
+    }
+    arrive - minute as u32
+}
+
+// The row for a cost, its minutes being those of the arrival, from index at on.
+fn write_row(
+    v: &[u16],
+    from: usize,
+    to: usize,
+    minute: usize,
+    cost: Cost,
+    answer: &mut [u32],
+    at: usize,
+)
+    requires { ⌜ (1 ≤ from)
+        × (from ≤ 64)
+        × (callsPlace (now v) from ≤ length (now v))
+        × (at + 6 ≤ length (now answer)) ⌝ }
+    ensures { λ _. ⌜ now (answer .exit)
+        ≡ put at (rowFor minute (costOf cost) (pickFor (allRead (now (v .entry)) from minute to) (costOf cost)))
+        (now (answer .entry)) ⌝ }
+    ensures { λ _. ⌜ length (now (answer .exit)) ≡ length (now (answer .entry)) ⌝ }
+{
+    let ride = pick_ride(v, from, to, minute, cost);
+    let duration = minutes_between(minute, cost.minutes.0);
+    words::put_pair(answer, at, duration, cost.points.0);
+    words::put_pair(answer, at + 2, 1, ride.trip as u32);
+    words::put_pair(answer, at + 4, ride.board as u32, ride.alight as u32);
+}
+
+// The row for a cost, if its penalty is below the least of all earlier minutes. Answers the index behind what it wrote.
+fn write_lead(
+    v: &[u16],
+    from: usize,
+    to: usize,
+    minute: usize,
+    cost: Cost,
+    least: u32,
+    answer: &mut [u32],
+    at: usize,
+) -> usize
+    requires { ⌜ (1 ≤ from)
+        × (from ≤ 64)
+        × (callsPlace (now v) from ≤ length (now v))
+        × (at + length (leadWords minute (allRead (now v) from minute to) (costOf cost) least)
+        ≤ length (now answer)) ⌝ }
+    ensures { λ _. ⌜ now (answer .exit)
+        ≡ put at (leadWords minute (allRead (now (v .entry)) from minute to) (costOf cost) least)
+        (now (answer .entry)) ⌝ }
+    ensures { λ _. ⌜ length (now (answer .exit)) ≡ length (now (answer .entry)) ⌝ }
+    ensures { λ r. ⌜ r
+        ≡ at + length (leadWords minute (allRead (now (v .entry)) from minute to) (costOf cost) least) ⌝ }
+{
+    if cost.points.0 < least {
+        write_row(v, from, to, minute, cost, answer, at);
+        return at + ROW_WORDS;
+    }
+    at
+}
+
+// All rows of the answer, in rising duration: one for each arrival minute whose penalty is below those of all earlier
+// minutes.
+fn write_rows(v: &[u16], best: &[u32], from: usize, to: usize, minute: usize, answer: &mut [u32])
+    requires { ⌜ (1 ≤ from)
+        × (from ≤ 64)
+        × (callsPlace (now v) from ≤ length (now v))
+        × (length (now best) ≡ 2880)
+        × (6 * length (leads noPoints 0 (now best)) ≤ length (now answer)) ⌝ }
+    ensures { λ _. ⌜ now (answer .exit)
+        ≡ put 0
+        (concatMap (λ r. r)
+        (rowsFrom minute (allRead (now (v .entry)) from minute to) (leads noPoints 0 (now (best .entry)))))
+        (now (answer .entry)) ⌝ }
+    ensures { λ _. ⌜ length (now (answer .exit)) ≡ length (now (answer .entry)) ⌝ }
+{
+    let mut here = 0;
+    let mut least = NO_POINTS;
+    let mut a = 0;
+    while a < MINUTES {
+        let cost = Cost {
+            minutes: Minutes(a as u32),
+            points: Points(best[a]),
+        };
+        here = write_lead(v, from, to, minute, cost, least, answer, here);
+        least = lesser(least, best[a]);
+        a += 1;
+    }
+}
+
+// Notes what the first rides cost, for each minute of arrival. Answers how many rows there will be.
+fn find_costs(v: &[u16], from: usize, to: usize, minute: usize, best: &mut [u32]) -> usize
+    requires { ⌜ (1 ≤ from) × (from ≤ 64) × (callsPlace (now v) from ≤ length (now v)) × (length (now best) ≡ 2880) ⌝ }
+    ensures { λ r. ⌜ (now (best .exit) ≡ bestOf (now (v .entry)) from to minute)
+        × (r ≡ length (leadsOf (now (v .entry)) from to minute))
+        × (r ≤ 2880)
+        × (length (now (best .exit)) ≡ 2880) ⌝ }
+{
+    fill_blank(best);
+    note_first(v, from, to, minute, best);
+    count_rows(best)
+}
+
+// Answers a query from line tables that belong to the timetable. The answer is measured before a word is written.
+fn show(
+    v: &[u16],
+    best: &mut [u32],
+    from: usize,
+    to: usize,
+    minute: usize,
+    answer: &mut [u32],
+) -> Reply
+    requires { ⌜ (1 ≤ from) × (from ≤ 64) × (callsPlace (now v) from ≤ length (now v)) × (length (now best) ≡ 2880) ⌝ }
+    ensures { λ r. ⌜ r ≡ foundReply (now (v .entry)) from to minute (length (now (answer .entry))) ⌝ }
+    ensures { λ _. ⌜ now (answer .exit) ≡ foundAnswer (now (v .entry)) from to minute (now (answer .entry)) ⌝ }
+{
+    let count = find_costs(v, from, to, minute, best);
+    if count < 1 {
+        return Reply::Refused { number: 14 };
+    }
+    if answer.len() < ROW_WORDS * count {
+        return Reply::Refused { number: 15 };
+    }
+    write_rows(v, best, from, to, minute, answer);
+    Reply::Done {
+        count: count as u32,
+    }
+}
+
+// The direct rides from one station to another at a minute. Working space may hold any words afterwards.
+pub fn direct(
+    words: &[u16],
+    lines: &[u16],
+    work: &mut [u32],
+    from: u32,
+    to: u32,
+    minute: u32,
+    answer: &mut [u32],
+) -> Reply
+    ensures reply { λ r. ⌜ r
+        ≡ directReply
+        (now (words .entry))
+        (now (lines .entry))
+        (length (now (work .entry)))
+        from
+        to
+        minute
+        (length (now (answer .entry))) ⌝ }
+    ensures words { λ _. ⌜ now (answer .exit)
+        ≡ directWords
+        (now (words .entry))
+        (now (lines .entry))
+        (length (now (work .entry)))
+        from
+        to
+        minute
+        (now (answer .entry)) ⌝ }
+{
+    let number = checking::query_number(words, lines, work, from, to, minute);
+    if number != 0 {
+        return Reply::Refused { number };
+    }
+    let best = &mut work[0..MINUTES];
+    show(
+        lines,
+        best,
+        from as usize,
+        to as usize,
+        minute as usize,
+        answer,
+    )
+}

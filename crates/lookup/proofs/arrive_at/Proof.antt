@@ -1,0 +1,27 @@
+use borrow.Author.Needs.{needs}
+use Rattle.lookup.proofs.LookupLaws.{arrives}
+use Rattle.lookup.proofs.arrive_at.Statement.{statement}
+use Rattle.lookup.proofs.arrive_at.Tie as tie
+use Rattle.lookup.proofs.arrive_at.Reads as reads
+use Rattle.lookup.proofs.arrive_at.Lts as lts
+use Rattle.lookup.proofs.peek.Reads as peek-reads
+use Rattle.lookup.proofs.times_place.Reads as times-place-reads
+
+-- src/lib.rt:86:13
+times-place-requires : tie.Need-times-place-requires
+times-place-requires c κs = search needs
+
+-- src/lib.rt:86:13
+add-peek : tie.Need-add-peek
+add-peek c = search needs
+
+-- src/lib.rt:86:5
+peek-requires : tie.Need-peek-requires
+peek-requires c κs = search needs
+
+-- src/lib.rt:82:1
+returns : tie.Need-returns
+returns c = (search arrives, search needs)
+
+pub arrive-at-spec : {M : Type 1} → statement M
+arrive-at-spec = tie.close (tie.spec times-place-requires add-peek peek-requires returns)

@@ -1,0 +1,122 @@
+// Line tables by their words: the lines, their courses, trips and times, and the lists of stations.
+ghost use mathlib.Core.Path.{_≡_};
+ghost use Prim.Native.Nat.{_+_, _*_, _≤_, _<_};
+ghost use lib.ListN.{length, getD};
+ghost use Rattle.lookup.specs.First.{firstTrip};
+ghost use Rattle.lookup.specs.Lookup.{
+  lineAt,
+  numberAt,
+  stationAt,
+  pointsAt,
+  timesPlace,
+  arriveAt,
+  departAt,
+  callsPlace,
+};
+
+// A line: where its words begin, its positions and its trips.
+pub struct Line {
+    pub at: usize,
+    pub positions: usize,
+    pub trips: usize,
+}
+
+// The word at index i, or 0 past the end.
+pub fn peek(v: &[u16], i: usize) -> usize
+    ensures { λ r. ⌜ (r ≡ getD (now (v .entry)) i 0) × (r < 65536) ⌝ }
+{
+    if i < v.len() {
+        return words::word(v, i) as usize;
+    }
+    0
+}
+
+// The line at place i.
+pub fn line_at(v: &[u16], i: usize) -> Line
+    requires { ⌜ i < 65536 ⌝ }
+    ensures { λ r. ⌜ r ≡ lineAt (now (v .entry)) i ⌝ }
+    ensures { λ r. ⌜ (r .at < 65536) × (r .positions < 65536) × (r .trips < 65536) ⌝ }
+{
+    let at = peek(v, 4 + i);
+    let positions = peek(v, at);
+    let trips = peek(v, at + 1);
+    Line {
+        at,
+        positions,
+        trips,
+    }
+}
+
+// The number of the trip at place j of a line.
+pub fn number_at(v: &[u16], l: Line, j: usize) -> usize
+    requires { ⌜ (l .at < 65536) × (j < 65536) ⌝ }
+    ensures { λ r. ⌜ (r ≡ numberAt (now (v .entry)) l j) × (r < 65536) ⌝ }
+{
+    peek(v, l.at + 2 + j)
+}
+
+// The station at place p of a line.
+pub fn station_at(v: &[u16], l: Line, p: usize) -> usize
+    requires { ⌜ (l .at < 65536) × (l .trips < 65536) × (p < 65536) ⌝ }
+    ensures { λ r. ⌜ (r ≡ stationAt (now (v .entry)) l p) × (r < 65536) ⌝ }
+{
+    peek(v, l.at + 2 + l.trips + 2 * p)
+}
+
+// The penalty of the ride from place p of a line to the next.
+pub fn points_at(v: &[u16], l: Line, p: usize) -> usize
+    requires { ⌜ (l .at < 65536) × (l .trips < 65536) × (p < 65536) ⌝ }
+    ensures { λ r. ⌜ (r ≡ pointsAt (now (v .entry)) l p) × (r < 65536) ⌝ }
+{
+    peek(v, l.at + 2 + l.trips + 2 * p + 1)
+}
+
+// The index where the arrivals at place p of a line begin.
+fn times_place(l: Line, p: usize) -> usize
+    requires { ⌜ (l .at < 65536) × (l .positions < 65536) × (l .trips < 65536) × (p < 65536) ⌝ }
+    ensures { λ r. ⌜ (r ≡ timesPlace l p) × (r < 9000000000) ⌝ }
+{
+    l.at + 2 + l.trips + 2 * l.positions + 2 * (p * l.trips)
+}
+
+// When the trip at place j of a line arrives at place p.
+pub fn arrive_at(v: &[u16], l: Line, p: usize, j: usize) -> usize
+    requires { ⌜ (l .at < 65536) × (l .positions < 65536) × (l .trips < 65536) × (p < 65536) × (j < 65536) ⌝ }
+    ensures { λ r. ⌜ (r ≡ arriveAt (now (v .entry)) l p j) × (r < 65536) ⌝ }
+{
+    peek(v, times_place(l, p) + j)
+}
+
+// When the trip at place j of a line departs from place p.
+pub fn depart_at(v: &[u16], l: Line, p: usize, j: usize) -> usize
+    requires { ⌜ (l .at < 65536) × (l .positions < 65536) × (l .trips < 65536) × (p < 65536) × (j < 65536) ⌝ }
+    ensures { λ r. ⌜ (r ≡ departAt (now (v .entry)) l p j) × (r < 65536) ⌝ }
+{
+    peek(v, times_place(l, p) + l.trips + j)
+}
+
+// Where the list of station s + 1 begins.
+pub fn calls_place(v: &[u16], s: usize) -> usize
+    requires { ⌜ s < 65536 ⌝ }
+    ensures { λ r. ⌜ (r ≡ callsPlace (now (v .entry)) s) × (r < 65536) ⌝ }
+{
+    peek(v, peek(v, 3) + s)
+}
+
+// The first trip of a line that leaves place x at the minute or later; the number of its trips if none does.
+pub fn first_trip(v: &[u16], l: Line, x: usize, minute: usize) -> usize
+    requires { ⌜ (l .at < 65536) × (l .positions < 65536) × (l .trips < 65536) × (x < 65536) ⌝ }
+    ensures { λ r. ⌜ (r ≡ firstTrip (now (v .entry)) l x minute) × (r ≤ l .trips) ⌝ }
+{
+    let mut j = 0;
+    let first = loop {
+        if l.trips <= j {
+            break j;
+        }
+        if minute <= depart_at(v, l, x, j) {
+            break j;
+        }
+        j += 1;
+    };
+    first
+}

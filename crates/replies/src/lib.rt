@@ -1,0 +1,7 @@
+// What a call answers: a count, or the number of the first question that it had to answer with no.
+
+// The answer of a call that writes a result.
+pub enum Reply {
+    Done { count: u32 },
+    Refused { number: u32 },
+}
