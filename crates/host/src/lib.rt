@@ -5,6 +5,8 @@ ghost use lib.ListN.{length};
 ghost use Rattle.timetable.specs.Words.{timetableNumber};
 ghost use Rattle.reading.specs.Reading.{readReply, readWords};
 ghost use Rattle.tables.specs.Building.{buildReply, buildWords};
+ghost use Rattle.checking.specs.Question10.{tablesNumber};
+ghost use Rattle.direct.specs.Direct.{directReply, directWords};
 ghost use Rattle.host.specs.Packed.{packed, packedReply, packedCount};
 use reading::Reply;
 
@@ -75,4 +77,49 @@ pub extern "C" fn dairyepoch_build_lines(
         ≡ buildWords (now (timetable .entry)) (now (lines .entry)) (length (now (work .entry))) ⌝ }
 {
     pack_count(tables::build(timetable, lines, work))
+}
+
+// Questions 8, 9 and 10 to a timetable and line tables lent with it.
+#[no_mangle]
+pub extern "C" fn dairyepoch_check_lines(timetable: &[u16], lines: &[u16], work: &mut [u32]) -> u64
+    ensures { λ r. ⌜ r
+        ≡ packed
+        (tablesNumber (now (timetable .entry)) (now (lines .entry)) (length (now (work .entry))))
+        0 ⌝ }
+{
+    pack(checking::tables_number(timetable, lines, work), 0)
+}
+
+// The direct rides from one station to another at a minute, row by row in the lent answer.
+#[no_mangle]
+pub extern "C" fn dairyepoch_direct(
+    timetable: &[u16],
+    lines: &[u16],
+    work: &mut [u32],
+    from: u32,
+    to: u32,
+    minute: u32,
+    answer: &mut [u32],
+) -> u64
+    ensures reply { λ r. ⌜ r
+        ≡ packedCount
+        (directReply
+        (now (timetable .entry))
+        (now (lines .entry))
+        (length (now (work .entry)))
+        from
+        to
+        minute
+        (length (now (answer .entry)))) ⌝ }
+    ensures words { λ _. ⌜ now (answer .exit)
+        ≡ directWords
+        (now (timetable .entry))
+        (now (lines .entry))
+        (length (now (work .entry)))
+        from
+        to
+        minute
+        (now (answer .entry)) ⌝ }
+{
+    pack_count(direct::direct(timetable, lines, work, from, to, minute, answer))
 }
