@@ -14,14 +14,17 @@ use dairyepoch_tests::tables;
 use dairyepoch_tests::timetable::Timetable;
 use dairyepoch_tests::words::{text_of, to_words, TIMETABLE_WORDS};
 
-const ROUNDS: usize = 1_001;
+const ROUNDS_MOST: usize = 1_001;
+const ROUNDS_LEAST: usize = 5;
+/// After this time there are no further rounds, but for the least number.
+const ENOUGH: Duration = Duration::from_secs(5);
 
 fn main() {
     let text = long_lines().to_text();
     let mut words = vec![0; TIMETABLE_WORDS];
     let lines = 64 + 2_048;
     assert_eq!(read(&text, &mut words), Reply { number: 0, beside: lines }, "the largest text is accepted");
-    println!("the largest timetable: {lines} lines, {} bytes; medians of {ROUNDS} rounds", text.len());
+    println!("the largest timetable: {lines} lines, {} bytes; medians of up to {ROUNDS_MOST} rounds", text.len());
 
     let table = words.clone();
     let [reading, reference, question, reference_question] = medians([
@@ -144,7 +147,11 @@ fn querying(what: &str, timetable: &Timetable, query: Query, rows: u32) {
 /// Runs the works in turn, so that what else the machine does falls on all of them, and takes each one's median.
 fn medians<const N: usize>(mut works: [&mut dyn FnMut(); N]) -> [Duration; N] {
     let mut times = [const { Vec::new() }; N];
-    for _ in 0..ROUNDS {
+    let began = Instant::now();
+    for round in 0..ROUNDS_MOST {
+        if round >= ROUNDS_LEAST && began.elapsed() > ENOUGH {
+            break;
+        }
         for (work, times) in works.iter_mut().zip(&mut times) {
             let began = Instant::now();
             work();
@@ -153,7 +160,7 @@ fn medians<const N: usize>(mut works: [&mut dyn FnMut(); N]) -> [Duration; N] {
     }
     times.map(|mut times| {
         times.sort_unstable();
-        times[ROUNDS / 2]
+        times[times.len() / 2]
     })
 }
 
