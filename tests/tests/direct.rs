@@ -305,7 +305,7 @@ fn all_queries_of_crowded_timetables() {
     let mut host = Host::new(2);
     let mut random = Random::new(3);
     let mut met = Met::default();
-    for _ in 0..400 {
+    for _ in 0..800 {
         all_queries(&mut host, &crowded(&mut random, &CROWDED), &mut met, &mut random);
     }
     assert!(met.all(), "{met:?}");
