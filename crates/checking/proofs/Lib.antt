@@ -1,2 +1,4 @@
 pub mod SameLaws
 pub mod TableLaws
+pub mod FindLaws
+pub mod CountLaws

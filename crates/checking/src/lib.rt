@@ -2,12 +2,19 @@
 // that holds the trips of one line.
 ghost use mathlib.Core.Path.{_≡_};
 ghost use mathlib.Core.Bool.{true};
-ghost use Prim.Native.Nat.{_≤_};
+ghost use Prim.Native.Nat.{_+_, _≤_, _<_};
 ghost use lib.ListN.{length, take};
 ghost use Rattle.lists.specs.Lists.{same};
+ghost use Rattle.timetable.specs.Timetable.{stopsOf};
 ghost use Rattle.timetable.specs.Words.{isTimetable};
+ghost use Rattle.lookup.specs.Lookup.{lineCount};
 ghost use Rattle.checking.specs.Question10.{areTables, tablesNumber};
+ghost use Rattle.checking.specs.Drawn.{placeOn, homeOf, drawnTrips, tripsFrom, countsFit};
 use lookup::Line;
+
+const STATIONS_MOST: usize = 64;
+
+const TRIPS_MOST: usize = 256;
 
 // Where a trip stands in line tables: its line, and its place among the line's trips.
 pub struct Home {
@@ -64,4 +71,101 @@ pub fn tables_number(words: &[u16], lines: &[u16], work: &mut [u32]) -> u32
         return 0;
     }
     10
+}
+
+// ---- the timetable that line tables tell
+
+// The place of the trip of this number among those of a line; the number of its trips if the line has it not.
+fn place_on(v: &[u16], l: Line, number: usize) -> usize
+    requires { ⌜ (l .at < 65536) × (l .trips < 65536) ⌝ }
+    ensures { λ r. ⌜ (r ≡ placeOn (now (v .entry)) l number) × (r ≤ l .trips) ⌝ }
+{
+    let mut j = 0;
+    let place = loop {
+        if l.trips <= j {
+            break j;
+        }
+        if lookup::number_at(v, l, j) == number {
+            break j;
+        }
+        j += 1;
+    };
+    place
+}
+
+// Where the trip of this number stands: on the first line that has it.
+fn home_of(v: &[u16], lines: usize, number: usize) -> Home
+    requires { ⌜ (lines ≡ lineCount (now v)) × (lines < 65536) ⌝ }
+    ensures { λ r. ⌜ r ≡ homeOf (now (v .entry)) number ⌝ }
+    ensures { λ r. ⌜ (r .line .at < 65536)
+        × (r .line .positions < 65536)
+        × (r .line .trips < 65536)
+        × (r .place < 65536) ⌝ }
+{
+    let mut i = 0;
+    loop {
+        if lines <= i {
+            return Home {
+                line: Line {
+                    at: 0,
+                    positions: 0,
+                    trips: 0,
+                },
+                place: 0,
+            };
+        }
+        let line = lookup::line_at(v, i);
+        let place = place_on(v, line, number);
+        if place < line.trips {
+            return Home { line, place };
+        }
+        i += 1;
+    }
+}
+
+// The stops of so many trips in all.
+fn count_stops(v: &[u16], lines: usize, trips: usize) -> usize
+    requires { ⌜ (lines ≡ lineCount (now v)) × (lines < 65536) × (trips ≤ 256) ⌝ }
+    ensures { λ r. ⌜ r ≡ length (stopsOf (drawnTrips (now (v .entry)) 0 trips)) ⌝ }
+{
+    let mut count = 0;
+    let mut z = 0;
+    while z < trips {
+        let home = home_of(v, lines, z + 1);
+        count = count + home.line.positions;
+        z += 1;
+    }
+    count
+}
+
+// The trips on so many lines in all.
+fn trips_on(v: &[u16], lines: usize) -> usize
+    requires { ⌜ lines ≤ 256 ⌝ }
+    ensures { λ r. ⌜ r ≡ tripsFrom (now (v .entry)) 0 lines ⌝ }
+{
+    let mut count = 0;
+    let mut i = 0;
+    while i < lines {
+        let line = lookup::line_at(v, i);
+        count = count + line.trips;
+        i += 1;
+    }
+    count
+}
+
+// Whether the counts are such as a timetable within the limits leads to.
+fn counts_fit(v: &[u16]) -> bool
+    ensures { λ r. ⌜ r ≡ countsFit (now (v .entry)) ⌝ }
+{
+    if STATIONS_MOST < lookup::peek(v, 0) {
+        return false;
+    }
+    if TRIPS_MOST < lookup::peek(v, 2) {
+        return false;
+    }
+    let lines = lookup::peek(v, 1);
+    if TRIPS_MOST < lines {
+        return false;
+    }
+    trips_on(v, lines) <= TRIPS_MOST
 }
