@@ -2,3 +2,4 @@ pub mod SameLaws
 pub mod TableLaws
 pub mod FindLaws
 pub mod CountLaws
+pub mod DrawLaws

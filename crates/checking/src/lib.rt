@@ -2,14 +2,23 @@
 // that holds the trips of one line.
 ghost use mathlib.Core.Path.{_≡_};
 ghost use mathlib.Core.Bool.{true};
-ghost use Prim.Native.Nat.{_+_, _≤_, _<_};
-ghost use lib.ListN.{length, take};
+ghost use Prim.Native.Nat.{_+_, _*_, _≤_, _<_};
+ghost use lib.ListN.{length, take, replicate};
 ghost use Rattle.lists.specs.Lists.{same};
+ghost use Rattle.words.specs.Put.{put};
 ghost use Rattle.timetable.specs.Timetable.{stopsOf};
-ghost use Rattle.timetable.specs.Words.{isTimetable};
+ghost use Rattle.timetable.specs.Words.{isTimetable, stationWords, stopWords, startWords};
 ghost use Rattle.lookup.specs.Lookup.{lineCount};
 ghost use Rattle.checking.specs.Question10.{areTables, tablesNumber};
-ghost use Rattle.checking.specs.Drawn.{placeOn, homeOf, drawnTrips, tripsFrom, countsFit};
+ghost use Rattle.checking.specs.Drawn.{
+  placeOn,
+  homeOf,
+  tripOn,
+  drawnTrips,
+  plainStation,
+  tripsFrom,
+  countsFit,
+};
 use lookup::Line;
 
 const STATIONS_MOST: usize = 64;
@@ -168,4 +177,77 @@ fn counts_fit(v: &[u16]) -> bool
         return false;
     }
     trips_on(v, lines) <= TRIPS_MOST
+}
+
+// Writes n stations, of which line tables tell no change values.
+fn draw_stations(body: &mut [u16], n: usize)
+    requires { ⌜ 2 * n ≤ length (now body) ⌝ }
+    ensures { λ _. ⌜ now (body .exit) ≡ put 0 (stationWords (replicate n plainStation)) (now (body .entry)) ⌝ }
+    ensures { λ _. ⌜ length (now (body .exit)) ≡ length (now (body .entry)) ⌝ }
+{
+    let mut i = 0;
+    while i < n {
+        words::put_two(body, 2 * i, 0, 1);
+        i += 1;
+    }
+}
+
+// Writes the stops of the trip that stands there, from index at on.
+fn draw_trip(v: &[u16], home: Home, body: &mut [u16], at: usize)
+    requires { ⌜ (home .line .at < 65536)
+        × (home .line .positions < 65536)
+        × (home .line .trips < 65536)
+        × (home .place < 65536)
+        × (at + 4 * home .line .positions ≤ length (now body)) ⌝ }
+    ensures { λ _. ⌜ now (body .exit) ≡ put at (stopWords (tripOn (now (v .entry)) home)) (now (body .entry)) ⌝ }
+    ensures { λ _. ⌜ length (now (body .exit)) ≡ length (now (body .entry)) ⌝ }
+{
+    let line = home.line;
+    let mut p = 0;
+    while p < line.positions {
+        words::put_four(
+            body,
+            at + 4 * p,
+            lookup::station_at(v, line, p) as u32,
+            lookup::arrive_at(v, line, p, home.place) as u32,
+            lookup::depart_at(v, line, p, home.place) as u32,
+            lookup::points_at(v, line, p) as u32,
+        );
+        p += 1;
+    }
+}
+
+// Writes the stops of so many trips, one trip behind the other, from index at of body on, and where among all stops
+// each trip begins. Answers the number of stops.
+fn draw_trips(
+    v: &[u16],
+    lines: usize,
+    trips: usize,
+    body: &mut [u16],
+    at: usize,
+    starts: &mut [u16],
+) -> usize
+    requires { ⌜ (lines ≡ lineCount (now v))
+        × (lines < 65536)
+        × (trips < length (now starts))
+        × (length (now starts) ≡ 257)
+        × (length (stopsOf (drawnTrips (now v) 0 trips)) ≤ 2048)
+        × (at + 4 * length (stopsOf (drawnTrips (now v) 0 trips)) ≤ length (now body)) ⌝ }
+    ensures { λ _. ⌜ now (body .exit)
+        ≡ put at (stopWords (stopsOf (drawnTrips (now (v .entry)) 0 trips))) (now (body .entry)) ⌝ }
+    ensures { λ _. ⌜ now (starts .exit)
+        ≡ put 0 (startWords 0 (drawnTrips (now (v .entry)) 0 trips)) (now (starts .entry)) ⌝ }
+    ensures { λ r. ⌜ r ≡ length (stopsOf (drawnTrips (now (v .entry)) 0 trips)) ⌝ }
+{
+    starts[0] = 0;
+    let mut count = 0;
+    let mut z = 0;
+    while z < trips {
+        let home = home_of(v, lines, z + 1);
+        draw_trip(v, home, body, at + 4 * count);
+        count = count + home.line.positions;
+        z += 1;
+        starts[z] = count as u16;
+    }
+    count
 }
