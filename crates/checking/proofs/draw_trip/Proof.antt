@@ -85,7 +85,24 @@ loop-less c = search needs
 
 -- src/lib.rt:207:5
 loop-again : tie.Need-loop-again Inv-loop μ-loop
-loop-again c = (search needs, search needs, search stop-more)
+loop-again c =
+    let four = c .before .before in
+    let points = four .before in
+    let depart = points .before in
+    let arrive = depart .before in
+    let station = arrive .before in
+    let test = station .before .before in
+    let turn = test .before .before in
+    let entry = turn .before .before .before .before in
+    let a = entry .args in (
+      search needs,
+      search needs,
+      stop-more (a .v .now) (a .home) (turn .loop .p) (a .at) (a .body .now) (turn .loop .body) (turn .loop .inv .2)
+          (test .if1 .taken) (entry .pre .4) (station .station-at .result) (arrive .arrive-at .result)
+          (depart .depart-at .result) (points .points-at .result) (station .station-at .ensures .0)
+          (arrive .arrive-at .ensures .0) (depart .depart-at .ensures .0) (points .points-at .ensures .0)
+          (four .put-four .last .0) (four .put-four .ensures .0),
+    )
 
 -- src/lib.rt:196:1
 same-length : tie.Need-same-length Inv-loop μ-loop
