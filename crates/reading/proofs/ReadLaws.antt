@@ -9,7 +9,7 @@ use lib.Dec.{leb}
 use lib.ListN.{length, take, length-append}
 use Rattle.words.specs.Put.{put, take-put}
 use Rattle.timetable.specs.Timetable.{Timetable, stopsOf}
-use Rattle.timetable.specs.Words.{startWords, words}
+use Rattle.timetable.specs.Words.{startWords, words, joined}
 use Rattle.timetable.specs.WordLaws.{length-stationWords, length-stopWords, length-startWords}
 use Rattle.reading.specs.Reading.{
   Outcome,
@@ -24,7 +24,7 @@ use Rattle.reading.specs.Reading.{
   outcomeValues,
   readValues,
 }
-use Rattle.reading.specs.Model.{Within, bodyWords, progressOf, LinesRead, tableWords}
+use Rattle.reading.specs.Model.{Within, bodyWords, progressOf, LinesRead}
 use Rattle.reading.specs.declared.Progress.{Progress}
 use Rattle.reading.specs.declared.Lines.{Lines}
 use Rattle.reading.specs.declared.Lines.the-variants.{Accepted as LinesAccepted, Refused as LinesRefused}
@@ -131,8 +131,17 @@ module _ (text old : List ℕ) where
         held : Held
         held = is-held (readLines text) refl lines
 
-        pub accepted-within : Within p
-        accepted-within = subst Within (sym (held .is-progress)) (held .within)
+        is-within : Within p
+        is-within = subst Within (sym (held .is-progress)) (held .within)
+
+        pub few-stations : p .stations ≤ 64
+        few-stations = is-within .stations
+
+        pub few-trips : p .trips ≤ 256
+        few-trips = is-within .trips
+
+        pub few-stops : p .stops ≤ 2048
+        few-stops = is-within .stops
 
         pub done-reply : ReplyDone n ≡ readReply text (length old)
         unfolding readReply
@@ -156,7 +165,7 @@ module _ (text old : List ℕ) where
             ∙ ap (take (length (startWords 0 (t .trips)))) (held .is-starts)
             ∙ take-put (startWords 0 (t .trips)) starts₀
 
-        table-is : tableWords p body starts ≡ words (held .timetable)
+        table-is : joined (p .stations) (p .trips) (p .stops) body starts ≡ words (held .timetable)
         unfolding words
         table-is =
             let t = held .timetable in
@@ -173,7 +182,7 @@ module _ (text old : List ℕ) where
         pub done-values : valuesOf (ReplyDone n) ≡ readValues text (length old)
         done-values = values-told (ReplyDone n) done-reply
 
-        pub done-words : (table : List ℕ) → table ≡ put 0 (tableWords p body starts) old → table ≡ readWords text old
+        pub done-words : (table : List ℕ) → table ≡ put 0 (joined (p .stations) (p .trips) (p .stops) body starts) old → table ≡ readWords text old
         unfolding readWords
         done-words table e =
             simp (le-leb 16384 (length old) room, reads-lines, held .accepted)
