@@ -3,11 +3,11 @@
 ghost use mathlib.Core.Path.{_≡_};
 ghost use mathlib.Core.Bool.{true};
 ghost use Prim.Native.Nat.{_+_, _*_, _≤_, _<_};
-ghost use lib.ListN.{length, take, replicate};
+ghost use lib.ListN.{length, getD, take, replicate};
 ghost use Rattle.lists.specs.Lists.{same};
 ghost use Rattle.words.specs.Put.{put};
 ghost use Rattle.timetable.specs.Timetable.{stopsOf};
-ghost use Rattle.timetable.specs.Words.{isTimetable, stationWords, stopWords, startWords};
+ghost use Rattle.timetable.specs.Words.{isTimetable, stationWords, stopWords, startWords, words};
 ghost use Rattle.lookup.specs.Lookup.{lineCount};
 ghost use Rattle.checking.specs.Question10.{areTables, tablesNumber};
 ghost use Rattle.checking.specs.Drawn.{
@@ -16,14 +16,19 @@ ghost use Rattle.checking.specs.Drawn.{
   tripOn,
   drawnTrips,
   plainStation,
+  drawn,
   tripsFrom,
   countsFit,
+  areSome,
+  aloneNumber,
 };
 use lookup::Line;
 
-const STATIONS_MOST: usize = 64;
+const STATIONS_MOST: usize = timetable::STATIONS_MOST as usize;
 
-const TRIPS_MOST: usize = 256;
+const TRIPS_MOST: usize = timetable::TRIPS_MOST as usize;
+
+const STOPS_MOST: usize = timetable::STOPS_MOST as usize;
 
 // Where a trip stands in line tables: its line, and its place among the line's trips.
 pub struct Home {
@@ -250,4 +255,59 @@ fn draw_trips(
         starts[z] = count as u16;
     }
     count
+}
+
+// Writes the words of the timetable that line tables tell.
+fn draw(v: &[u16], out: &mut [u16])
+    requires { ⌜ (countsFit (now v) ≡ true)
+        × (length (stopsOf (drawnTrips (now v) 0 (getD (now v) 2 0))) ≤ 2048)
+        × (length (now out) ≡ 16384) ⌝ }
+    ensures { λ _. ⌜ now (out .exit) ≡ put 0 (words (drawn (now (v .entry)))) (now (out .entry)) ⌝ }
+    ensures { λ _. ⌜ length (now (out .exit)) ≡ length (now (out .entry)) ⌝ }
+{
+    let stations = lookup::peek(v, 0);
+    let lines = lookup::peek(v, 1);
+    let trips = lookup::peek(v, 2);
+    let mut body = [0u16; timetable::BODY_WORDS];
+    let mut starts = [0u16; timetable::STARTS_WORDS];
+    draw_stations(&mut body, stations);
+    let stops = draw_trips(v, lines, trips, &mut body, 2 * stations, &mut starts);
+    timetable::write_words(out, stations, trips, stops, &body, &starts);
+}
+
+// Whether the line tables could come from an accepted timetable. Working space may hold any words afterwards.
+pub fn are_some(lines: &[u16], work: &mut [u32]) -> bool
+    requires { ⌜ (16384 ≤ length (now lines)) × (length (now work) ≡ 16384) ⌝ }
+    ensures { λ r. ⌜ r ≡ areSome (now (lines .entry)) ⌝ }
+{
+    if !counts_fit(lines) {
+        return false;
+    }
+    let stops = count_stops(lines, lookup::peek(lines, 1), lookup::peek(lines, 2));
+    if STOPS_MOST < stops {
+        return false;
+    }
+    let mut words = [0u16; timetable::WORDS_LEAST];
+    draw(lines, &mut words);
+    if !timetable::is_timetable(&words) {
+        return false;
+    }
+    are_tables(&words, lines, work)
+}
+
+// Questions 8 and 10 to line tables lent without a timetable: 0, or the number of the first no. Working space may hold
+// any words afterwards.
+pub fn alone_number(lines: &[u16], work: &mut [u32]) -> u32
+    ensures { λ r. ⌜ r ≡ aloneNumber (now (lines .entry)) (length (now (work .entry))) ⌝ }
+{
+    if lines.len() < tables::WORDS_LEAST {
+        return 8;
+    }
+    if work.len() < tables::WORDS_LEAST {
+        return 8;
+    }
+    if are_some(lines, &mut work[0..tables::WORDS_LEAST]) {
+        return 0;
+    }
+    10
 }

@@ -7,10 +7,10 @@ use native.Mathlib.Omega.{arith}
 use borrow.Author.Tests.{le-leb, lt-leb}
 use lib.Dec.{leb}
 use lib.ListN.{length, take, length-append}
-use Rattle.words.specs.Put.{put, take-put}
+use Rattle.words.specs.Put.{put}
 use Rattle.timetable.specs.Timetable.{Timetable, stopsOf}
 use Rattle.timetable.specs.Words.{startWords, words, joined}
-use Rattle.timetable.specs.WordLaws.{length-stationWords, length-stopWords, length-startWords}
+use Rattle.timetable.specs.WordLaws.{joined-words}
 use Rattle.reading.specs.Reading.{
   Outcome,
   Accepted,
@@ -147,37 +147,14 @@ module _ (text old : List ℕ) where
         unfolding readReply
         done-reply = simp (le-leb 16384 (length old) room, reads-lines, held .accepted)
 
-        body-taken : take (2 * p .stations + 4 * p .stops) body ≡ bodyWords (held .timetable)
-        body-taken =
-            let t = held .timetable in
-            let long : length (bodyWords t) ≡ 2 * (progressOf t) .stations + 4 * (progressOf t) .stops =
-            simp (length-append, length-stationWords, length-stopWords, append-nil) in
-            ap (λ (x : Progress). take (2 * x .stations + 4 * x .stops) body) (held .is-progress)
-            ∙ ap (λ k. take k body) (sym long)
-            ∙ ap (take (length (bodyWords t))) (held .is-body)
-            ∙ take-put (bodyWords t) body₀
-
-        starts-taken : take (p .trips + 1) starts ≡ startWords 0 ((held .timetable) .trips)
-        starts-taken =
-            let t = held .timetable in
-            ap (λ (x : Progress). take (x .trips + 1) starts) (held .is-progress)
-            ∙ ap (λ k. take k starts) (sym (length-startWords 0 (t .trips)))
-            ∙ ap (take (length (startWords 0 (t .trips)))) (held .is-starts)
-            ∙ take-put (startWords 0 (t .trips)) starts₀
-
         table-is : joined (p .stations) (p .trips) (p .stops) body starts ≡ words (held .timetable)
-        unfolding words
         table-is =
             let t = held .timetable in
+            let e = held .is-progress in
             let stops : (progressOf t) .stops ≡ length (stopsOf (t .trips)) = simp append-nil in
-            ap (λ (x : List ℕ). p .stations ∷ p .trips ∷ p .stops ∷ (x ++ take (p .trips + 1) starts)) body-taken
-            ∙ ap (λ (x : List ℕ). p .stations ∷ p .trips ∷ p .stops ∷ (bodyWords t ++ x)) starts-taken
-            ∙ ap
-            (λ (x : Progress). x .stations ∷ x .trips ∷ x .stops ∷ (bodyWords t ++ startWords 0 (t .trips)))
-            (held .is-progress)
-            ∙ ap
-            (λ k. length (t .stations) ∷ length (t .trips) ∷ k ∷ (bodyWords t ++ startWords 0 (t .trips)))
-            stops
+            joined-words t (p .stations) (p .trips) (p .stops) (ap (λ (x : Progress). x .stations) e)
+            (ap (λ (x : Progress). x .trips) e) (ap (λ (x : Progress). x .stops) e ∙ stops) body starts body₀ starts₀
+            (held .is-body) (held .is-starts)
 
         pub done-values : valuesOf (ReplyDone n) ≡ readValues text (length old)
         done-values = values-told (ReplyDone n) done-reply

@@ -30,11 +30,6 @@ const TRIPS_MOST: usize = timetable::TRIPS_MOST as usize;
 
 const STOPS_MOST: usize = timetable::STOPS_MOST as usize;
 
-// The words of all stations and stops, at the limits, and the places where trips begin.
-const BODY_WORDS: usize = 2 * STATIONS_MOST + 4 * STOPS_MOST;
-
-const STARTS_WORDS: usize = TRIPS_MOST + 1;
-
 // How far the lines of a text have come: stations, ended trips, stops in all, stops of the begun trip, and the station
 // and departure of the stop before, where a trip has begun.
 pub struct Progress {
@@ -313,8 +308,8 @@ pub fn read(text: &[u8], timetable: &mut [u16]) -> Reply
     if TEXT_MOST < text.len() {
         return Reply::Refused { number: 1, line: 0 };
     }
-    let mut body = [0u16; BODY_WORDS];
-    let mut starts = [0u16; STARTS_WORDS];
+    let mut body = [0u16; timetable::BODY_WORDS];
+    let mut starts = [0u16; timetable::STARTS_WORDS];
     match read_lines(text, &mut body, &mut starts) {
         Lines::Refused { number, line } => {
             return Reply::Refused { number, line };

@@ -34,6 +34,11 @@ pub const TRIPS_MOST: u32 = 256;
 
 pub const STOPS_MOST: u32 = 2048;
 
+// The words of all stations and stops, at the limits, and the places where trips begin.
+pub const BODY_WORDS: usize = 2 * STATIONS_MOST as usize + 4 * STOPS_MOST as usize;
+
+pub const STARTS_WORDS: usize = TRIPS_MOST as usize + 1;
+
 const CHANGE_MINUTES_MOST: u32 = 240;
 
 const CHANGE_PENALTY_MOST: u32 = 1000;
