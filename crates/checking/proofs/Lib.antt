@@ -3,3 +3,4 @@ pub mod TableLaws
 pub mod FindLaws
 pub mod CountLaws
 pub mod DrawLaws
+pub mod SomeLaws

@@ -242,6 +242,8 @@ fn draw_trips(
         ≡ put at (stopWords (stopsOf (drawnTrips (now (v .entry)) 0 trips))) (now (body .entry)) ⌝ }
     ensures { λ _. ⌜ now (starts .exit)
         ≡ put 0 (startWords 0 (drawnTrips (now (v .entry)) 0 trips)) (now (starts .entry)) ⌝ }
+    ensures { λ _. ⌜ (length (now (body .exit)) ≡ length (now (body .entry)))
+        × (length (now (starts .exit)) ≡ length (now (starts .entry))) ⌝ }
     ensures { λ r. ⌜ r ≡ length (stopsOf (drawnTrips (now (v .entry)) 0 trips)) ⌝ }
 {
     starts[0] = 0;

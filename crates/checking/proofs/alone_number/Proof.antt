@@ -1,3 +1,5 @@
+-- Two slices may be too short; then question 10 decides.
+use Rattle.checking.proofs.SomeLaws.{lines-short, work-short, some-yes, some-no}
 use borrow.Author.Needs.{needs}
 use Rattle.checking.proofs.alone_number.Statement.{statement}
 use Rattle.checking.proofs.alone_number.Tie as tie
@@ -7,11 +9,11 @@ use Rattle.checking.proofs.are_some.Reads as are-some-reads
 
 -- src/lib.rt:304:9
 returns : tie.Need-returns
-returns c = ?
+returns c = search lines-short
 
 -- src/lib.rt:307:9
 returns-2 : tie.Need-returns-2
-returns-2 c = ?
+returns-2 c = search work-short
 
 -- src/lib.rt:309:24
 sub-are-some : tie.Need-sub-are-some
@@ -35,7 +37,7 @@ same-length c = search needs
 
 -- src/lib.rt:310:9
 returns-3 : tie.Need-returns-3
-returns-3 c = ?
+returns-3 c = search some-yes
 
 -- src/lib.rt:300:1
 same-length-2 : tie.Need-same-length-2
@@ -43,7 +45,7 @@ same-length-2 c = search needs
 
 -- src/lib.rt:300:1
 returns-4 : tie.Need-returns-4
-returns-4 c = ?
+returns-4 c = search some-no
 
 pub alone-number-spec : {M : Type 1} → statement M
 alone-number-spec =

@@ -1,3 +1,14 @@
+-- Three tests come before the tables are compared: the counts, the stops in all, and the timetable drawn.
+use Rattle.tables.proofs.BuildLaws.{asked-yes}
+use Rattle.checking.proofs.SomeLaws.{
+  counts-no,
+  counts-yes,
+  trips-few,
+  stops-few,
+  stops-no,
+  drawn-no,
+  some-asked,
+}
 use borrow.Author.Needs.{needs}
 use Rattle.checking.proofs.are_some.Statement.{statement}
 use Rattle.checking.proofs.are_some.Tie as tie
@@ -16,7 +27,7 @@ counts-fit-requires c κs = search needs
 
 -- src/lib.rt:284:9
 returns : tie.Need-returns
-returns c = ?
+returns c = search counts-no
 
 -- src/lib.rt:286:36
 peek-requires : tie.Need-peek-requires
@@ -28,11 +39,11 @@ peek-requires-2 c κs = search needs
 
 -- src/lib.rt:286:9
 count-stops-requires : tie.Need-count-stops-requires
-count-stops-requires c κs = ?
+count-stops-requires c κs = (search needs, search needs, search trips-few)
 
 -- src/lib.rt:288:9
 returns-2 : tie.Need-returns-2
-returns-2 c = ?
+returns-2 c = search stops-no
 
 -- src/lib.rt:291:17
 slice-aggregate-draw : tie.Need-slice-aggregate-draw
@@ -40,7 +51,7 @@ slice-aggregate-draw c = search needs
 
 -- src/lib.rt:291:5
 draw-requires : tie.Need-draw-requires
-draw-requires c κs = ?
+draw-requires c κs = (search counts-yes, search stops-few, search needs)
 
 -- src/lib.rt:292:33
 slice-aggregate-is-timetable : tie.Need-slice-aggregate-is-timetable
@@ -52,7 +63,7 @@ is-timetable-requires c κs = search needs
 
 -- src/lib.rt:293:9
 returns-3 : tie.Need-returns-3
-returns-3 c = ?
+returns-3 c = search drawn-no
 
 -- src/lib.rt:295:16
 slice-aggregate-are-tables : tie.Need-slice-aggregate-are-tables
@@ -60,7 +71,7 @@ slice-aggregate-are-tables c = search needs
 
 -- src/lib.rt:295:5
 are-tables-requires : tie.Need-are-tables-requires
-are-tables-requires c κs = ?
+are-tables-requires c κs = (search needs, search asked-yes, search needs, search needs)
 
 -- src/lib.rt:279:1
 same-length : tie.Need-same-length
@@ -68,7 +79,7 @@ same-length c = search needs
 
 -- src/lib.rt:279:1
 returns-4 : tie.Need-returns-4
-returns-4 c = ?
+returns-4 c = search some-asked
 
 pub are-some-spec : {M : Type 1} → statement M
 are-some-spec =

@@ -122,7 +122,7 @@ same-length-2 c = search needs
 
 -- src/lib.rt:222:1
 returns : tie.Need-returns Inv-loop μ-loop
-returns c = (search trips-drawn, (search starts-drawn, search all-counted))
+returns c = (search trips-drawn, (search starts-drawn, ((search needs, search needs), search all-counted)))
 
 pub draw-trips-spec : {M : Type 1} → statement M
 draw-trips-spec =
