@@ -71,7 +71,17 @@ slice-aggregate-are-tables c = search needs
 
 -- src/lib.rt:295:5
 are-tables-requires : tie.Need-are-tables-requires
-are-tables-requires c κs = (search needs, search asked-yes, search needs, search needs)
+are-tables-requires c κs =
+    let test = c .before .before in
+    let asked = test .before in
+    let drawing = asked .before .before .before in
+    let entry = drawing .before .before .before .before .before .before .before .before .before .before in (
+      search needs,
+      asked-yes (drawing .draw .last .1 .0) (asked .is-timetable .result) (asked .is-timetable .ensures)
+          (test .if3 .left),
+      entry .pre .0,
+      entry .pre .1,
+    )
 
 -- src/lib.rt:279:1
 same-length : tie.Need-same-length
