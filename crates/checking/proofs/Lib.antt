@@ -4,3 +4,4 @@ pub mod FindLaws
 pub mod CountLaws
 pub mod DrawLaws
 pub mod SomeLaws
+pub mod PieceLaws

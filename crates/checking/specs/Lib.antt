@@ -1,2 +1,3 @@
 pub mod Question10
 pub mod Drawn
+pub mod Piece

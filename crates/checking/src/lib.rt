@@ -22,6 +22,7 @@ ghost use Rattle.checking.specs.Drawn.{
   areSome,
   aloneNumber,
 };
+ghost use Rattle.checking.specs.Piece.{pieceNumber, startTold, lengthTold, piece};
 use lookup::Line;
 
 const STATIONS_MOST: usize = timetable::STATIONS_MOST as usize;
@@ -34,6 +35,14 @@ const STOPS_MOST: usize = timetable::STOPS_MOST as usize;
 pub struct Home {
     pub line: Line,
     pub place: usize,
+}
+
+// Where in line tables the numbers of a line's trips stand: the index of the first, and their count, both 0 if the
+// question of this number has a no.
+pub struct Place {
+    pub number: u32,
+    pub start: u32,
+    pub count: u32,
 }
 
 // Whether the first count words of both are the same.
@@ -312,4 +321,57 @@ pub fn alone_number(lines: &[u16], work: &mut [u32]) -> u32
         return 0;
     }
     10
+}
+
+// ---- the trips of one line
+
+// Questions 8, 10 and 11 to line tables and the number of a line: 0, or the number of the first no. Working space may
+// hold any words afterwards.
+pub fn line_number(lines: &[u16], work: &mut [u32], line: u32) -> u32
+    ensures { λ r. ⌜ r ≡ pieceNumber (now (lines .entry)) (length (now (work .entry))) line ⌝ }
+{
+    let number = alone_number(lines, work);
+    if number != 0 {
+        return number;
+    }
+    if line < 1 {
+        return 11;
+    }
+    if lookup::peek(lines, 1) < line as usize {
+        return 11;
+    }
+    0
+}
+
+// Where the trips of a line stand in the line tables.
+pub fn line_place(lines: &[u16], work: &mut [u32], line: u32) -> Place
+    ensures { λ r. ⌜ (r .number ≡ pieceNumber (now (lines .entry)) (length (now (work .entry))) line)
+        × (r .start ≡ startTold (now (lines .entry)) (length (now (work .entry))) line)
+        × (r .count ≡ lengthTold (now (lines .entry)) (length (now (work .entry))) line) ⌝ }
+    ensures { λ r. ⌜ r .start + r .count ≤ length (now (lines .entry)) ⌝ }
+{
+    let number = line_number(lines, work, line);
+    if number != 0 {
+        return Place {
+            number,
+            start: 0,
+            count: 0,
+        };
+    }
+    let l = lookup::line_at(lines, line as usize - 1);
+    Place {
+        number,
+        start: (l.at + 2) as u32,
+        count: l.trips as u32,
+    }
+}
+
+// The trips of a line: the part of the line tables that holds their numbers, or an empty one.
+pub fn line_trips<'a>(lines: &'a [u16], work: &mut [u32], line: u32) -> &'a [u16]
+    ensures { λ r. ⌜ now r ≡ piece (now (lines .entry)) (length (now (work .entry))) line ⌝ }
+{
+    let place = line_place(lines, work, line);
+    let start = place.start as usize;
+    let end = start + place.count as usize;
+    &lines[start..end]
 }

@@ -117,7 +117,7 @@ module _ (v : List ℕ) (n : ℕ) (t : List Trip) (holds : Holds v n t) where
       subst (λ k. Stands (allLineWords t (lines t)) v (4 + k)) (length-linePlaces t firstLine (lines t))
       (right-stands placeWords (allLineWords t (lines t)) v 4 before-firsts)
 
-  line-stands : (i : ℕ) → i < length (lines t) → Stands (lineWords t (getD (lines t) i [])) v (linePlace v i)
+  pub line-stands : (i : ℕ) → i < length (lines t) → Stands (lineWords t (getD (lines t) i [])) v (linePlace v i)
   unfolding allLineWords
   line-stands i h =
       subst (Stands (lineWords t (getD (lines t) i [])) v) (sym (line-place-told i h))

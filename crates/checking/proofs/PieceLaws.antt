@@ -1,0 +1,192 @@
+-- The trips of one line: the numbers of the call, and why the piece that holds the trips lies within the slice.
+use mathlib.Core.Path.{_≡_, refl, sym, ap, subst, _∙_}
+use mathlib.Core.Bool.{Bool, true, false, cond, _&&_}
+use mathlib.Core.List.{List, [], _∷_, _++_, map}
+use Prim.Native.Nat.{ℕ, suc, _+_, _-_, _≤_, _<_}
+use native.Mathlib.Nat.{add-sub-cancel-left}
+use native.Mathlib.Omega.{arith}
+use borrow.Author.Tests.{leb-true, le-leb, lt-leb, eq-eqb, ne-eqb}
+use lib.Dec.{T, leb, eqb}
+use lib.ListN.{length, getD, take, drop, length-append, length-map}
+use Rattle.lists.specs.Lists.{same}
+use Rattle.lists.specs.Members.{same-eq}
+use Rattle.questions.specs.Question.{ask, firstNo, and-left, and-right}
+use Rattle.timetable.specs.Timetable.{Trip, Timetable, valid}
+use Rattle.lines.specs.Lines.{lines, course}
+use Rattle.tables.specs.Tables.{courseWords, lineTimes, lineWords}
+use Rattle.tables.specs.Building.{tablesOf}
+use Rattle.lookup.specs.Lookup.{Line, lineCount, linePlace, lineAt}
+use Rattle.lookup.specs.Told.{Told, Holds}
+use Rattle.lookup.specs.Places.{part-inside}
+use Rattle.lookup.specs.Holding.{holding, line-stands}
+use Rattle.checking.specs.Question10.{begins}
+use Rattle.checking.specs.Drawn.{drawn, tripsFrom, countsFit, areSome, aloneNumber}
+use Rattle.checking.specs.Piece.{pieceNumber, pieceStart, pieceLength, piece, startTold, lengthTold}
+
+-- ---- the number: question 11 comes behind those that are asked without a line
+abbrev withoutLine : (a b : Bool) → ℕ
+withoutLine a b = firstNo (ask 8 a ∷ ask 10 b ∷ [])
+
+abbrev withLine : (a b c : Bool) → ℕ
+withLine a b c = firstNo (ask 8 a ∷ ask 10 b ∷ ask 11 c ∷ [])
+
+earlier : (a b c : Bool) → (withoutLine a b ≡ 0 → ⊥) → withoutLine a b ≡ withLine a b c
+earlier true true c h = absurd (h refl)
+earlier true false c h = refl
+earlier false b c h = refl
+
+last-asked : (a b c : Bool) → withoutLine a b ≡ 0 → withLine a b c ≡ cond c 0 11
+last-asked true true c e = refl
+last-asked true false c e = absurd (omega arith)
+last-asked false b c e = absurd (omega arith)
+
+-- all three have their yes
+all-yes : (a b c : Bool) → withLine a b c ≡ 0 → (b ≡ true) × (c ≡ true)
+all-yes true true true e = (refl, refl)
+all-yes true true false e = absurd (omega arith)
+all-yes true false c e = absurd (omega arith)
+all-yes false b c e = absurd (omega arith)
+
+-- the tests of questions 8 and 11
+abbrev longTest : (v : List ℕ) (n : ℕ) → Bool
+longTest v n = leb 16384 (length v) && leb 16384 n
+
+abbrev nameTest : (v : List ℕ) (line : ℕ) → Bool
+nameTest v line = leb 1 line && leb line (lineCount v)
+
+module _ (v : List ℕ) (n line number : ℕ) (asked : number ≡ aloneNumber v n) where
+  pub number-before : (number ≡ 0 → ⊥) → number ≡ pieceNumber v n line
+  unfolding aloneNumber pieceNumber
+  number-before h = asked ∙ earlier (longTest v n) (areSome v) (nameTest v line) (λ e. h (asked ∙ e))
+
+  module _ (zero-so-far : number ≡ 0) where
+    last : pieceNumber v n line ≡ cond (nameTest v line) 0 11
+    unfolding aloneNumber pieceNumber
+    last = last-asked (longTest v n) (areSome v) (nameTest v line) (sym asked ∙ zero-so-far)
+
+    pub no-line : line < 1 → 11 ≡ pieceNumber v n line
+    no-line h = sym (last ∙ rw (lt-leb 1 line h))
+
+    module _ (least : 1 ≤ line) (k : ℕ) (is : k ≡ getD v 1 0) where
+      pub line-past : k < line → 11 ≡ pieceNumber v n line
+      line-past h =
+          let past : leb line (getD v 1 0) ≡ false = omega (arith, lt-leb) in
+          sym (last ∙ rw (le-leb 1 line least, past))
+
+      pub line-named : line ≤ k → 0 ≡ pieceNumber v n line
+      line-named h =
+          let inside : leb line (getD v 1 0) ≡ true = omega (arith, le-leb) in
+          sym (last ∙ rw (le-leb 1 line least, inside))
+
+-- ---- the words of a line lie within the slice
+begins-holds : (v : List ℕ) (t : Timetable) → begins v t ≡ true → Holds v (length (t .stations)) (t .trips)
+unfolding begins
+begins-holds v t e = record { is = sym (same-eq (tablesOf t) (take (length (tablesOf t)) v) (subst T (sym e) tt)) }
+
+numbers-long : (t : List Trip) (l : List ℕ) → 2 + length l ≤ length (lineWords t l)
+unfolding lineWords
+numbers-long t l =
+    omega (
+      arith,
+      length-map l suc,
+      length-append (map suc l) (courseWords (course t l)),
+      length-append (map suc l ++ courseWords (course t l)) (lineTimes t l),
+    )
+
+line-inside : (v : List ℕ) (n : ℕ) (t : List Trip) (i : ℕ) → Holds v n t → i < lineCount v
+    → linePlace v i + 2 + (lineAt v i) .trips ≤ length v
+line-inside v n t i holds h =
+    let told = holding v n t holds in
+    let l = getD (lines t) i [] in
+    let h′ : i < length (lines t) = omega (arith, told .line-count) in
+    omega (
+      arith,
+      part-inside (lineWords t l) v (linePlace v i) (line-stands v n t holds i h′),
+      numbers-long t l,
+      told .line i h′ .trips,
+    )
+
+-- ---- where the number is 0
+module _ (v : List ℕ) (n line number : ℕ) (asked : number ≡ pieceNumber v n line) where
+  module _ (refused : number ≡ 0 → ⊥) where
+    test-no : eqb (pieceNumber v n line) 0 ≡ false
+    test-no = ne-eqb (pieceNumber v n line) 0 (λ e. refused (asked ∙ e))
+
+    pub no-start : 0 ≡ startTold v n line
+    unfolding startTold
+    no-start = rw test-no
+
+    pub no-length : 0 ≡ lengthTold v n line
+    unfolding lengthTold
+    no-length = rw test-no
+
+  module _ (accepted : number ≡ 0) where
+    zero-is : pieceNumber v n line ≡ 0
+    zero-is = sym asked ∙ accepted
+
+    answers : (areSome v ≡ true) × (nameTest v line ≡ true)
+    unfolding pieceNumber
+    answers = all-yes (longTest v n) (areSome v) (nameTest v line) zero-is
+
+    pub line-least : 1 ≤ line
+    line-least = leb-true 1 line (and-left (leb 1 line) (leb line (lineCount v)) (answers .1))
+
+    line-most : line ≤ lineCount v
+    line-most = leb-true line (lineCount v) (and-right (leb 1 line) (leb line (lineCount v)) (answers .1))
+
+    fit : countsFit v ≡ true
+    unfolding areSome
+    fit = and-left (countsFit v) (valid (drawn v)) (and-left (countsFit v && valid (drawn v)) (begins v (drawn v)) (answers .0))
+
+    own : begins v (drawn v) ≡ true
+    unfolding areSome
+    own = and-right (countsFit v && valid (drawn v)) (begins v (drawn v)) (answers .0)
+
+    lines-few : lineCount v ≤ 256
+    unfolding countsFit
+    lines-few =
+        let a : Bool = leb (getD v 0 0) 64 in
+        let b : Bool = leb (getD v 2 0) 256 in
+        let c : Bool = leb (lineCount v) 256 in
+        let d : Bool = leb (tripsFrom v 0 (lineCount v)) 256 in
+        leb-true (lineCount v) 256 (and-right (a && b) c (and-left (a && b && c) d fit))
+
+    pub place-small : line - 1 < 65536
+    place-small = omega (arith, line-most, lines-few)
+
+    test-yes : eqb (pieceNumber v n line) 0 ≡ true
+    test-yes = eq-eqb (pieceNumber v n line) 0 zero-is
+
+    module _ (l : Line) (is : l ≡ lineAt v (line - 1)) where
+      pub start-told : l .at + 2 ≡ startTold v n line
+      unfolding startTold pieceStart lineAt
+      start-told = rw test-yes (ap (λ (x : Line). x .at + 2) is)
+
+      pub length-told : l .trips ≡ lengthTold v n line
+      unfolding lengthTold pieceLength
+      length-told = rw test-yes (ap (λ (x : Line). x .trips) is)
+
+      at-is : l .at ≡ linePlace v (line - 1)
+      unfolding lineAt
+      at-is = ap (λ (x : Line). x .at) is
+
+      pub piece-inside : l .at + 2 + l .trips ≤ length v
+      piece-inside =
+          let inside =
+          line-inside v (length ((drawn v) .stations)) ((drawn v) .trips) (line - 1) (begins-holds v (drawn v) own)
+          (omega (arith, line-least, line-most)) in
+          omega (arith, inside, at-is, ap (λ (x : Line). x .trips) is)
+
+-- ---- the piece
+pub piece-is : (v : List ℕ) (n line s k : ℕ) → s ≡ startTold v n line → k ≡ lengthTold v n line
+    → take (s + k - s) (drop s v) ≡ piece v n line
+unfolding startTold lengthTold piece
+piece-is v n line s k is-s is-k =
+    rw add-sub-cancel-left
+    ((λ i. take (is-k i) (drop (is-s i) v)) ∙ by-test (eqb (pieceNumber v n line) 0))
+  where
+    by-test : (b : Bool)
+        → take (cond b (pieceLength v line) 0) (drop (cond b (pieceStart v line) 0) v)
+        ≡ cond b (take (pieceLength v line) (drop (pieceStart v line) v)) []
+    by-test true = refl
+    by-test false = refl
