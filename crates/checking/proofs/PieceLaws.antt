@@ -1,4 +1,4 @@
--- The trips of one line: the numbers of the call, and why the piece that holds the trips lies within the slice.
+-- The trips of one line: the numbers of the call, and where the piece that holds the trips stands.
 use mathlib.Core.Path.{_≡_, refl, sym, ap, subst, _∙_}
 use mathlib.Core.Bool.{Bool, true, false, cond, _&&_}
 use mathlib.Core.List.{List, [], _∷_, _++_, map}
@@ -21,6 +21,7 @@ use Rattle.lookup.specs.Places.{part-inside}
 use Rattle.lookup.specs.Holding.{holding, line-stands}
 use Rattle.checking.specs.Question10.{begins}
 use Rattle.checking.specs.Drawn.{drawn, tripsFrom, countsFit, areSome, aloneNumber}
+use Rattle.checking.specs.Handed.{line-least, line-most, lines-few, piece-within}
 use Rattle.checking.specs.Piece.{pieceNumber, pieceStart, pieceLength, piece, startTold, lengthTold}
 
 -- ---- the number: question 11 comes behind those that are asked without a line
@@ -39,13 +40,6 @@ last-asked : (a b c : Bool) → withoutLine a b ≡ 0 → withLine a b c ≡ con
 last-asked true true c e = refl
 last-asked true false c e = absurd (omega arith)
 last-asked false b c e = absurd (omega arith)
-
--- all three have their yes
-all-yes : (a b c : Bool) → withLine a b c ≡ 0 → (b ≡ true) × (c ≡ true)
-all-yes true true true e = (refl, refl)
-all-yes true true false e = absurd (omega arith)
-all-yes true false c e = absurd (omega arith)
-all-yes false b c e = absurd (omega arith)
 
 -- the tests of questions 8 and 11
 abbrev longTest : (v : List ℕ) (n : ℕ) → Bool
@@ -78,34 +72,6 @@ module _ (v : List ℕ) (n line number : ℕ) (asked : number ≡ aloneNumber v 
           let inside : leb line (getD v 1 0) ≡ true = omega (arith, le-leb) in
           sym (last ∙ rw (le-leb 1 line least, inside))
 
--- ---- the words of a line lie within the slice
-begins-holds : (v : List ℕ) (t : Timetable) → begins v t ≡ true → Holds v (length (t .stations)) (t .trips)
-unfolding begins
-begins-holds v t e = record { is = sym (same-eq (tablesOf t) (take (length (tablesOf t)) v) (subst T (sym e) tt)) }
-
-numbers-long : (t : List Trip) (l : List ℕ) → 2 + length l ≤ length (lineWords t l)
-unfolding lineWords
-numbers-long t l =
-    omega (
-      arith,
-      length-map l suc,
-      length-append (map suc l) (courseWords (course t l)),
-      length-append (map suc l ++ courseWords (course t l)) (lineTimes t l),
-    )
-
-line-inside : (v : List ℕ) (n : ℕ) (t : List Trip) (i : ℕ) → Holds v n t → i < lineCount v
-    → linePlace v i + 2 + (lineAt v i) .trips ≤ length v
-line-inside v n t i holds h =
-    let told = holding v n t holds in
-    let l = getD (lines t) i [] in
-    let h′ : i < length (lines t) = omega (arith, told .line-count) in
-    omega (
-      arith,
-      part-inside (lineWords t l) v (linePlace v i) (line-stands v n t holds i h′),
-      numbers-long t l,
-      told .line i h′ .trips,
-    )
-
 -- ---- where the number is 0
 module _ (v : List ℕ) (n line number : ℕ) (asked : number ≡ pieceNumber v n line) where
   module _ (refused : number ≡ 0 → ⊥) where
@@ -124,58 +90,34 @@ module _ (v : List ℕ) (n line number : ℕ) (asked : number ≡ pieceNumber v 
     zero-is : pieceNumber v n line ≡ 0
     zero-is = sym asked ∙ accepted
 
-    answers : (areSome v ≡ true) × (nameTest v line ≡ true)
-    unfolding pieceNumber
-    answers = all-yes (longTest v n) (areSome v) (nameTest v line) zero-is
-
-    pub line-least : 1 ≤ line
-    line-least = leb-true 1 line (and-left (leb 1 line) (leb line (lineCount v)) (answers .1))
-
-    line-most : line ≤ lineCount v
-    line-most = leb-true line (lineCount v) (and-right (leb 1 line) (leb line (lineCount v)) (answers .1))
-
-    fit : countsFit v ≡ true
-    unfolding areSome
-    fit = and-left (countsFit v) (valid (drawn v)) (and-left (countsFit v && valid (drawn v)) (begins v (drawn v)) (answers .0))
-
-    own : begins v (drawn v) ≡ true
-    unfolding areSome
-    own = and-right (countsFit v && valid (drawn v)) (begins v (drawn v)) (answers .0)
-
-    lines-few : lineCount v ≤ 256
-    unfolding countsFit
-    lines-few =
-        let a : Bool = leb (getD v 0 0) 64 in
-        let b : Bool = leb (getD v 2 0) 256 in
-        let c : Bool = leb (lineCount v) 256 in
-        let d : Bool = leb (tripsFrom v 0 (lineCount v)) 256 in
-        leb-true (lineCount v) 256 (and-right (a && b) c (and-left (a && b && c) d fit))
+    pub line-counts : 1 ≤ line
+    line-counts = line-least v n line zero-is
 
     pub place-small : line - 1 < 65536
-    place-small = omega (arith, line-most, lines-few)
+    place-small = omega (arith, line-most v n line zero-is, lines-few v n line zero-is)
 
     test-yes : eqb (pieceNumber v n line) 0 ≡ true
     test-yes = eq-eqb (pieceNumber v n line) 0 zero-is
 
     module _ (l : Line) (is : l ≡ lineAt v (line - 1)) where
+      at-is : l .at + 2 ≡ pieceStart v line
+      unfolding pieceStart lineAt
+      at-is = ap (λ (x : Line). x .at + 2) is
+
+      trips-are : l .trips ≡ pieceLength v line
+      unfolding pieceLength
+      trips-are = ap (λ (x : Line). x .trips) is
+
       pub start-told : l .at + 2 ≡ startTold v n line
-      unfolding startTold pieceStart lineAt
-      start-told = rw test-yes (ap (λ (x : Line). x .at + 2) is)
+      unfolding startTold
+      start-told = rw test-yes at-is
 
       pub length-told : l .trips ≡ lengthTold v n line
-      unfolding lengthTold pieceLength
-      length-told = rw test-yes (ap (λ (x : Line). x .trips) is)
-
-      at-is : l .at ≡ linePlace v (line - 1)
-      unfolding lineAt
-      at-is = ap (λ (x : Line). x .at) is
+      unfolding lengthTold
+      length-told = rw test-yes trips-are
 
       pub piece-inside : l .at + 2 + l .trips ≤ length v
-      piece-inside =
-          let inside =
-          line-inside v (length ((drawn v) .stations)) ((drawn v) .trips) (line - 1) (begins-holds v (drawn v) own)
-          (omega (arith, line-least, line-most)) in
-          omega (arith, inside, at-is, ap (λ (x : Line). x .trips) is)
+      piece-inside = omega (arith, piece-within v n line zero-is, at-is, trips-are)
 
 -- ---- the piece
 pub piece-is : (v : List ℕ) (n line s k : ℕ) → s ≡ startTold v n line → k ≡ lengthTold v n line

@@ -19,6 +19,7 @@ use Rattle.timetable.specs.WordLaws.{length-stationWords, joined-words}
 use Rattle.accepted.specs.Spelled.{words-spell, words-chained}
 use Rattle.lookup.specs.Lookup.{lineCount}
 use Rattle.checking.specs.Question10.{begins, areTables}
+use Rattle.checking.specs.Facts.{they-fit}
 use Rattle.checking.specs.Drawn.{
   drawnTrip,
   drawnTrips,
@@ -33,24 +34,10 @@ use Rattle.checking.specs.Drawn.{
 -- ---- drawing within the limits
 module _ (v : List ℕ) (fit : countsFit v ≡ true) where
   pub few-stations : (s : ℕ) → s ≡ getD v 0 0 → s ≤ 64
-  unfolding countsFit
-  few-stations s is =
-      let a : Bool = leb (getD v 0 0) 64 in
-      let b : Bool = leb (getD v 2 0) 256 in
-      let c : Bool = leb (lineCount v) 256 in
-      let d : Bool = leb (tripsFrom v 0 (lineCount v)) 256 in
-      let e = and-left a b (and-left (a && b) c (and-left (a && b && c) d fit)) in
-      omega (arith, is, leb-true (getD v 0 0) 64 e)
+  few-stations s is = omega (arith, they-fit v fit .stations)
 
   pub few-trips : (t : ℕ) → t ≡ getD v 2 0 → t ≤ 256
-  unfolding countsFit
-  few-trips t is =
-      let a : Bool = leb (getD v 0 0) 64 in
-      let b : Bool = leb (getD v 2 0) 256 in
-      let c : Bool = leb (lineCount v) 256 in
-      let d : Bool = leb (tripsFrom v 0 (lineCount v)) 256 in
-      let e = and-right a b (and-left (a && b) c (and-left (a && b && c) d fit)) in
-      omega (arith, is, leb-true (getD v 2 0) 256 e)
+  few-trips t is = omega (arith, they-fit v fit .trips)
 
   pub stations-room : (s : ℕ) → s ≡ getD v 0 0 → 2 * s ≤ 8320
   stations-room s is = omega (arith, few-stations s is)

@@ -2,7 +2,7 @@
 use Rattle.checking.proofs.PieceLaws.{
   no-start,
   no-length,
-  line-least,
+  line-counts,
   place-small,
   start-told,
   length-told,
@@ -30,7 +30,7 @@ returns c = ((search needs, search no-start, search no-length), search needs)
 
 -- src/lib.rt:361:36
 sub-line-at : tie.Need-sub-line-at
-sub-line-at c = search line-least
+sub-line-at c = search line-counts
 
 -- src/lib.rt:361:9
 line-at-requires : tie.Need-line-at-requires
