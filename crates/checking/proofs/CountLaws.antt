@@ -1,18 +1,17 @@
 -- The loops that count stops and trips: the whole count is what was counted and what is left.
-use mathlib.Core.Path.{_≡_, refl, sym, ap, _∙_}
-use mathlib.Core.Bool.{Bool, true, false}
+use mathlib.Core.Path.{_≡_, sym, ap, _∙_}
+use mathlib.Core.Bool.{false}
 use mathlib.Core.List.{List, map}
 use Prim.Native.Nat.{ℕ, suc, _+_, _-_, _≤_, _<_}
-use native.Mathlib.Nat.{sub-zero}
 use native.Mathlib.Omega.{arith}
 use borrow.Author.Tests.{le-leb, lt-leb}
 use lib.Dec.{leb}
 use lib.ListN.{length, getD, length-append, length-map}
 use Rattle.lists.specs.Lists.{range}
-use Rattle.timetable.specs.Timetable.{Trip, stopsOf}
+use Rattle.timetable.specs.Timetable.{stopsOf}
 use Rattle.timetable.specs.Check.{length-range}
 use Rattle.tables.proofs.TimesLaws.{range-more, range-none}
-use Rattle.lookup.specs.Lookup.{Line, lineCount, lineAt}
+use Rattle.lookup.specs.Lookup.{Line, lineAt}
 use Rattle.checking.specs.Drawn.{Home, homeOf, stopOn, tripOn, drawnTrip, drawnTrips, tripsFrom, countsFit}
 
 pub length-tripOn : (v : List ℕ) (h : Home) → length (tripOn v h) ≡ (h .line) .positions

@@ -1,7 +1,7 @@
 -- The loops that write stations, stops and starts: each turn puts the next words behind those that stand there.
-use mathlib.Core.Path.{_≡_, refl, sym, ap, _∙_}
+use mathlib.Core.Path.{_≡_, sym, ap, _∙_}
 use mathlib.Core.List.{List, [], _∷_, _++_, map, map-append, append-nil}
-use Prim.Native.Nat.{ℕ, suc, _+_, _-_, _*_, _≤_, _<_}
+use Prim.Native.Nat.{ℕ, _+_, _-_, _*_, _≤_, _<_}
 use native.Mathlib.Nat.{zero-add}
 use native.Mathlib.Omega.{arith}
 use lib.ListN.{
@@ -13,8 +13,8 @@ use lib.ListN.{
   length-replicate,
   replicate-append-replicate,
 }
-use Rattle.lists.specs.Lists.{range}
 use Rattle.words.specs.Put.{put, put-append, put-one, put-next, put-over}
+use Rattle.lists.specs.Lists.{range}
 use Rattle.timetable.specs.Timetable.{Trip, stopsOf}
 use Rattle.timetable.specs.Check.{length-range}
 use Rattle.timetable.specs.Words.{stationWords, stopWords, startWords}
@@ -152,6 +152,9 @@ module _ (v : List ℕ) (trips z count : ℕ) (counted : count ≡ length (stops
 
     pub next-few : length (stopsOf (drawnTrips v 0 trips)) ≤ 2048 → count + (h .line) .positions ≤ 2048
     next-few few = omega (arith, next-within)
+
+    pub next-small : length (stopsOf (drawnTrips v 0 trips)) ≤ 2048 → count + (h .line) .positions < 65536
+    next-small few = omega (arith, next-within)
 
     module _ (at : ℕ) (old body : List ℕ) (room : at + 4 * length (stopsOf (drawnTrips v 0 trips)) ≤ length old) where
       pub next-room : length body ≡ length old → at + 4 * count + 4 * (h .line) .positions ≤ length body

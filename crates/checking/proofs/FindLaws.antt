@@ -1,6 +1,5 @@
 -- The loops that look for a trip: it is none of those before place j of the line, and on no line before place i.
-use mathlib.Core.Path.{_≡_, refl, sym, ap, _∙_}
-use mathlib.Core.Bool.{true, false}
+use mathlib.Core.Path.{_≡_, sym, ap, _∙_}
 use mathlib.Core.List.{List}
 use Prim.Native.Nat.{ℕ, _+_, _-_, _≤_, _<_}
 use native.Mathlib.Nat.{sub-zero}
@@ -9,7 +8,7 @@ use borrow.Author.Tests.{lt-ltb, le-ltb, eq-eqb, ne-eqb}
 use lib.Dec.{ltb, eqb}
 use Rattle.lookup.specs.Lookup.{Line, lineCount, lineAt, numberAt}
 use Rattle.lookup.specs.First.{firstFrom, first-none, first-here, first-later}
-use Rattle.checking.specs.Drawn.{Home, noHome, placeOn, hasTrip, homeLine, homeOf}
+use Rattle.checking.specs.Drawn.{placeOn, hasTrip, homeLine, homeOf}
 
 module _
     (v : List ℕ)
@@ -25,7 +24,8 @@ module _
       found e =
           sym
           (so-far
-          ∙ first-here (λ j. eqb (numberAt v l j) number) j (l .trips) more (eq-eqb (numberAt v l j) number (sym is ∙ e)))
+          ∙ first-here (λ j. eqb (numberAt v l j) number) j (l .trips) more
+          (eq-eqb (numberAt v l j) number (sym is ∙ e)))
 
       pub goes-on : (r ≡ number → ⊥)
           → placeOn v l number ≡ firstFrom (λ j. eqb (numberAt v l j) number) (j + 1) (l .trips - (j + 1))

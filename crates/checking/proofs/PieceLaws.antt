@@ -1,26 +1,16 @@
 -- The trips of one line: the numbers of the call, and where the piece that holds the trips stands.
-use mathlib.Core.Path.{_≡_, refl, sym, ap, subst, _∙_}
+use mathlib.Core.Path.{_≡_, refl, sym, ap, _∙_}
 use mathlib.Core.Bool.{Bool, true, false, cond, _&&_}
-use mathlib.Core.List.{List, [], _∷_, _++_, map}
-use Prim.Native.Nat.{ℕ, suc, _+_, _-_, _≤_, _<_}
+use mathlib.Core.List.{List, [], _∷_}
+use Prim.Native.Nat.{ℕ, _+_, _-_, _≤_, _<_}
 use native.Mathlib.Nat.{add-sub-cancel-left}
 use native.Mathlib.Omega.{arith}
-use borrow.Author.Tests.{leb-true, le-leb, lt-leb, eq-eqb, ne-eqb}
-use lib.Dec.{T, leb, eqb}
-use lib.ListN.{length, getD, take, drop, length-append, length-map}
-use Rattle.lists.specs.Lists.{same}
-use Rattle.lists.specs.Members.{same-eq}
-use Rattle.questions.specs.Question.{ask, firstNo, and-left, and-right}
-use Rattle.timetable.specs.Timetable.{Trip, Timetable, valid}
-use Rattle.lines.specs.Lines.{lines, course}
-use Rattle.tables.specs.Tables.{courseWords, lineTimes, lineWords}
-use Rattle.tables.specs.Building.{tablesOf}
-use Rattle.lookup.specs.Lookup.{Line, lineCount, linePlace, lineAt}
-use Rattle.lookup.specs.Told.{Told, Holds}
-use Rattle.lookup.specs.Places.{part-inside}
-use Rattle.lookup.specs.Holding.{holding, line-stands}
-use Rattle.checking.specs.Question10.{begins}
-use Rattle.checking.specs.Drawn.{drawn, tripsFrom, countsFit, areSome, aloneNumber}
+use borrow.Author.Tests.{le-leb, lt-leb, eq-eqb, ne-eqb}
+use lib.Dec.{leb, eqb}
+use lib.ListN.{length, getD, take, drop}
+use Rattle.questions.specs.Question.{ask, firstNo}
+use Rattle.lookup.specs.Lookup.{Line, lineCount, lineAt}
+use Rattle.checking.specs.Drawn.{areSome, aloneNumber}
 use Rattle.checking.specs.Handed.{line-least, line-most, lines-few, piece-within}
 use Rattle.checking.specs.Piece.{pieceNumber, pieceStart, pieceLength, piece, startTold, lengthTold}
 

@@ -1,35 +1,25 @@
 -- The timetable that line tables tell is drawn within the limits, its words spell it, and it answers question 10.
-use mathlib.Core.Path.{_≡_, refl, sym, ap, _∙_}
+use mathlib.Core.Path.{_≡_, sym, ap, _∙_}
 use mathlib.Core.Bool.{Bool, true, false, not, _&&_}
-use mathlib.Core.List.{List, [], _∷_, _++_, map}
+use mathlib.Core.List.{List, _++_}
 use Prim.Native.Nat.{ℕ, _+_, _*_, _≤_, _<_}
 use native.Mathlib.Nat.{zero-add}
 use native.Mathlib.Omega.{arith}
-use borrow.Author.Tests.{leb-true, le-leb, lt-leb, not-true, not-false}
+use borrow.Author.Tests.{le-leb, lt-leb, not-true, not-false}
 use lib.Dec.{leb}
 use lib.ListN.{length, getD, drop, replicate, length-map, length-replicate}
-use Rattle.lists.specs.Lists.{range}
-use Rattle.questions.specs.Question.{and-left, and-right, and-false}
+use Rattle.questions.specs.Question.{and-false}
 use Rattle.words.specs.Put.{put, put-append}
-use Rattle.timetable.specs.Timetable.{Timetable, stopsOf, counted, validStations, validTrips, valid}
+use Rattle.lists.specs.Lists.{range}
+use Rattle.timetable.specs.Timetable.{Timetable, stopsOf, counted, valid}
 use Rattle.timetable.specs.Check.{length-range}
 use Rattle.timetable.specs.Words.{stationWords, stopWords, startWords, words, joined}
 use Rattle.timetable.specs.Words.{timetableOf, chained, isTimetable}
 use Rattle.timetable.specs.WordLaws.{length-stationWords, joined-words}
 use Rattle.accepted.specs.Spelled.{words-spell, words-chained}
-use Rattle.lookup.specs.Lookup.{lineCount}
 use Rattle.checking.specs.Question10.{begins, areTables}
 use Rattle.checking.specs.Facts.{they-fit}
-use Rattle.checking.specs.Drawn.{
-  drawnTrip,
-  drawnTrips,
-  plainStation,
-  drawn,
-  tripsFrom,
-  countsFit,
-  areSome,
-  aloneNumber,
-}
+use Rattle.checking.specs.Drawn.{drawnTrip, drawnTrips, plainStation, drawn, countsFit, areSome, aloneNumber}
 
 -- ---- drawing within the limits
 module _ (v : List ℕ) (fit : countsFit v ≡ true) where

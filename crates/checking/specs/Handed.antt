@@ -6,12 +6,12 @@ use mathlib.Core.List.{List, [], _∷_, _++_, map, append-assoc}
 use Prim.Native.Nat.{ℕ, suc, _+_, _-_, _≤_, _<_}
 use native.Mathlib.Omega.{arith}
 use borrow.Author.Tests.{leb-true, eq-eqb}
-use lib.Dec.{T, leb, eqb}
+use lib.Dec.{T, leb}
 use lib.ListN.{length, getD, take, drop, length-map}
 use lib.Seq.{take-at, drop-at}
-use Rattle.lists.specs.Members.{same-eq}
 use Rattle.questions.specs.Question.{ask, firstNo, and-left, and-right}
-use Rattle.timetable.specs.Timetable.{Trip, Timetable, valid}
+use Rattle.lists.specs.Members.{same-eq}
+use Rattle.timetable.specs.Timetable.{Trip, Timetable}
 use Rattle.lines.specs.Lines.{lines, course}
 use Rattle.tables.specs.Tables.{courseWords, lineTimes, lineWords}
 use Rattle.tables.specs.Building.{tablesOf}
@@ -20,7 +20,7 @@ use Rattle.lookup.specs.Told.{Holds}
 use Rattle.lookup.specs.Places.{Stands, part-inside, left-stands, right-stands}
 use Rattle.lookup.specs.Holding.{holding, line-stands}
 use Rattle.checking.specs.Question10.{begins}
-use Rattle.checking.specs.Drawn.{drawn, tripsFrom, countsFit, areSome}
+use Rattle.checking.specs.Drawn.{drawn, areSome}
 use Rattle.checking.specs.Facts.{Some, they-fit, they-are}
 use Rattle.checking.specs.Piece.{pieceNumber, pieceStart, pieceLength, piece}
 

@@ -2,7 +2,7 @@
 -- as the piece of the line tables that holds them, empty when refused; a call beside it, with the same input, returns
 -- the number." What is handed out are the trips' numbers, which stand in the tables one behind the other. Lines count
 -- from 1.
-use mathlib.Core.Bool.{Bool, cond, _&&_}
+use mathlib.Core.Bool.{cond, _&&_}
 use mathlib.Core.List.{List, [], _∷_}
 use Prim.Native.Nat.{ℕ, _+_, _-_}
 use lib.Dec.{leb, eqb}

@@ -1,12 +1,12 @@
 -- The ways out of the call.
 use mathlib.Core.Path.{_≡_, refl, sym, ap, subst, _∙_}
 use mathlib.Core.Bool.{Bool, true, false, cond}
-use mathlib.Core.List.{List, _∷_, _++_, append-nil}
-use Prim.Native.Nat.{ℕ, _+_, _*_, _≤_, _<_}
+use mathlib.Core.List.{List, append-nil}
+use Prim.Native.Nat.{ℕ, _≤_, _<_}
 use native.Mathlib.Omega.{arith}
 use borrow.Author.Tests.{le-leb, lt-leb}
 use lib.Dec.{leb}
-use lib.ListN.{length, take, length-append}
+use lib.ListN.{length}
 use Rattle.words.specs.Put.{put}
 use Rattle.timetable.specs.Timetable.{Timetable, stopsOf}
 use Rattle.timetable.specs.Words.{startWords, words, joined}
@@ -159,7 +159,8 @@ module _ (text old : List ℕ) where
         pub done-values : valuesOf (ReplyDone n) ≡ readValues text (length old)
         done-values = values-told (ReplyDone n) done-reply
 
-        pub done-words : (table : List ℕ) → table ≡ put 0 (joined (p .stations) (p .trips) (p .stops) body starts) old → table ≡ readWords text old
+        pub done-words : (table : List ℕ)
+            → table ≡ put 0 (joined (p .stations) (p .trips) (p .stops) body starts) old → table ≡ readWords text old
         unfolding readWords
         done-words table e =
             simp (le-leb 16384 (length old) room, reads-lines, held .accepted)

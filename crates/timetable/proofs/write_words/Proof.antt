@@ -12,9 +12,9 @@ all-written c =
     let start = head .before .before .before .before .before in
     let a = start .args in (
       table-written (a .stations) (a .trips) (a .stops) (start .pre .0) (start .pre .1) (start .pre .2) (a .body .now)
-          (a .starts .now) (a .timetable .now) (head .put-three .last .0) (first .copy .last .0) (second .copy2 .last .0)
-          (second .copy2 .ensures .0) (first .copy .ensures .0) (head .put-three .ensures .0) (start .pre .3)
-          (start .pre .4),
+          (a .starts .now) (a .timetable .now) (head .put-three .last .0) (first .copy .last .0)
+          (second .copy2 .last .0) (second .copy2 .ensures .0) (first .copy .ensures .0) (head .put-three .ensures .0)
+          (start .pre .3) (start .pre .4),
       search needs,
     )
 
