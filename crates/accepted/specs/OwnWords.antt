@@ -25,7 +25,7 @@ length-range : (k n : ℕ) → length (range k n) ≡ n
 length-range k zero = refl
 length-range k (suc n) = ap suc (length-range (suc k) n)
 
-range-append : (k m n : ℕ) → range k m ++ range (k + m) n ≡ range k (m + n)
+pub range-append : (k m n : ℕ) → range k m ++ range (k + m) n ≡ range k (m + n)
 range-append k zero n = rw (add-zero k, zero-add n)
 range-append k (suc m) n =
     let place : k + suc m ≡ suc k + m = omega arith in

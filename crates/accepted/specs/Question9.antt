@@ -58,7 +58,7 @@ yes-comes w h y =
     }
 
 -- ---- from a text to the test
-valid-yes : (t : Timetable) (rest : List ℕ) → valid t ≡ true → isTimetable (words t ++ rest) ≡ true
+pub valid-yes : (t : Timetable) (rest : List ℕ) → valid t ≡ true → isTimetable (words t ++ rest) ≡ true
 unfolding isTimetable
 valid-yes t rest v = both _ _ (words-chained t rest) (rw (words-spell t rest) v)
 

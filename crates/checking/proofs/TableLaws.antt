@@ -1,16 +1,13 @@
 -- Tables written to working space and compared with those lent, and the ways out of the call that asks about them.
-use mathlib.Core.Path.{_≡_, refl, sym, ap, _∙_}
+use mathlib.Core.Path.{_≡_, _∙_}
 use mathlib.Core.Bool.{Bool, true, false, not}
 use mathlib.Core.List.{List}
 use Prim.Native.Nat.{ℕ, _≤_, _<_}
-use native.Mathlib.Omega.{arith}
 use borrow.Author.Tests.{le-leb, lt-leb, not-true, not-false}
 use lib.ListN.{length, take}
 use Rattle.lists.specs.Lists.{same}
 use Rattle.words.specs.Put.{put}
-use Rattle.timetable.specs.Timetable.{Timetable}
-use Rattle.timetable.specs.Words.{timetableOf, isTimetable}
-use Rattle.tables.specs.Building.{tablesOf}
+use Rattle.timetable.specs.Words.{isTimetable}
 use Rattle.tables.specs.Model.{tableAt}
 use Rattle.tables.proofs.BuildLaws.{tables-taken, tables-are}
 use Rattle.checking.specs.Question10.{begins, areTables, tablesNumber}

@@ -42,7 +42,7 @@ pub built-number : (w : List ℕ) (m n : ℕ) → numberOf (buildReply w m n) �
 unfolding buildReply
 built-number w m n e = sym (reply-number (buildNumber w m n) (lineCount (timetableOf w))) ∙ e
 
-tables-fit : (w : List ℕ) → isTimetable w ≡ true → length (tablesOf (timetableOf w)) ≤ slicesLeast
+pub tables-fit : (w : List ℕ) → isTimetable w ≡ true → length (tablesOf (timetableOf w)) ≤ slicesLeast
 tables-fit w y =
     let trips = (timetableOf w) .trips in
     omega (

@@ -2,6 +2,3 @@ pub mod Question10
 pub mod Asked
 pub mod Yes
 pub mod Built
-pub mod Drawn
-pub mod Redrawn
-pub mod Alone

@@ -1,5 +1,5 @@
-// Question 10: are these line tables those of this timetable or, lent without one, of any? And the piece of line tables
-// that holds the trips of one line.
+// The questions that are put to a query before it is looked at: 8 to 12. Question 10 here is about line tables lent with
+// a timetable: are they its own?
 ghost use mathlib.Core.Path.{_≡_};
 ghost use mathlib.Core.Bool.{true};
 ghost use Prim.Native.Nat.{_≤_};
@@ -9,16 +9,9 @@ ghost use Rattle.timetable.specs.Words.{isTimetable};
 ghost use Rattle.checking.specs.Question10.{areTables, tablesNumber};
 ghost use Rattle.checking.specs.Asked.{listed, named, queryNumber};
 ghost use Rattle.timetable.specs.Words.{timetableOf};
-use lookup::Line;
 
 // The last minute of the two days that a timetable has.
 const LAST_MINUTE: u32 = 2879;
-
-// Where a trip stands in line tables: its line, and its place among the line's trips.
-pub struct Home {
-    pub line: Line,
-    pub place: usize,
-}
 
 // Whether the first count words of both are the same.
 fn same_words(lines: &[u16], work: &[u32], count: usize) -> bool

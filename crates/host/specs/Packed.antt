@@ -6,6 +6,8 @@ use native.Mathlib.Nat.{add-zero, zero-add}
 use Rattle.reading.specs.declared.Reply.{Reply}
 use Rattle.reading.specs.declared.Reply.the-variants.{Done, Refused}
 use Rattle.reading.specs.Reading.{numberOf, lineOf, countOf}
+use mathlib.Core.List.{List}
+use Rattle.alone.specs.Piece.{pieceNumber, startTold, lengthTold}
 use Rattle.replies.specs.declared.Reply.{Reply as Counted}
 use Rattle.replies.specs.declared.Reply.the-variants.{Done as CountDone, Refused as CountRefused}
 use Rattle.replies.specs.Replies.{numberOf as countedNumber, countOf as countedCount}
@@ -20,6 +22,10 @@ packedReply r = packed (numberOf r) (countOf r + lineOf r)
 -- the reply of a call that counts: it has no line
 unfoldable pub packedCount : Counted → ℕ
 packedCount r = packed (countedNumber r) (countedCount r)
+
+-- where the trips of a line stand: the index of the piece in the upper half of the lower half, its length in the rest
+unfoldable pub packedPlace : (v : List ℕ) (n line : ℕ) → ℕ
+packedPlace v n line = packed (pieceNumber v n line) (startTold v n line * 65536 + lengthTold v n line)
 
 -- ---- the two cases
 module _ (reply : Reply) (r : ℕ) where
@@ -46,3 +52,9 @@ module _ (reply : Counted) (r : ℕ) where
 
   pub count-same : (other : Counted) → r ≡ packedCount reply → reply ≡ other → r ≡ packedCount other
   count-same other e f = e ∙ ap packedCount f
+
+pub place-packed : (v : List ℕ) (n line number start count r : ℕ) → number ≡ pieceNumber v n line
+    → start ≡ startTold v n line → count ≡ lengthTold v n line → r ≡ packed number (start * 65536 + count)
+    → r ≡ packedPlace v n line
+unfolding packedPlace
+place-packed v n line number start count r e f g h = h ∙ (λ i. packed (e i) (f i * 65536 + g i))

@@ -6,12 +6,16 @@ ghost use Rattle.timetable.specs.Words.{timetableNumber};
 ghost use Rattle.reading.specs.Reading.{readReply, readWords};
 ghost use Rattle.tables.specs.Building.{buildReply, buildWords};
 ghost use Rattle.checking.specs.Question10.{tablesNumber};
+ghost use Rattle.alone.specs.Drawn.{aloneNumber};
 ghost use Rattle.direct.specs.Direct.{directReply, directWords};
-ghost use Rattle.host.specs.Packed.{packed, packedReply, packedCount};
+ghost use Rattle.host.specs.Packed.{packed, packedReply, packedCount, packedPlace};
 use reading::Reply;
 
 // What 1 in the upper half of a reply counts.
 const UPPER: u64 = 4294967296;
+
+// What 1 in the index of a piece counts; its length stands below.
+const PIECE: u32 = 65536;
 
 // The refusal's number, or 0, in the upper half, and the count or line in the lower.
 fn pack(number: u32, low: u32) -> u64
@@ -122,4 +126,21 @@ pub extern "C" fn dairyepoch_direct(
         (now (answer .entry)) ⌝ }
 {
     pack_count(direct::direct(timetable, lines, work, from, to, minute, answer))
+}
+
+// Questions 8 and 10 to line tables lent without a timetable.
+#[no_mangle]
+pub extern "C" fn dairyepoch_check_lines_alone(lines: &[u16], work: &mut [u32]) -> u64
+    ensures { λ r. ⌜ r ≡ packed (aloneNumber (now (lines .entry)) (length (now (work .entry)))) 0 ⌝ }
+{
+    pack(alone::alone_number(lines, work), 0)
+}
+
+// Where in the lent line tables the numbers of a line's trips stand: the index of the first, and how many there are.
+#[no_mangle]
+pub extern "C" fn dairyepoch_line_trips(lines: &[u16], work: &mut [u32], line: u32) -> u64
+    ensures { λ r. ⌜ r ≡ packedPlace (now (lines .entry)) (length (now (work .entry))) line ⌝ }
+{
+    let place = alone::line_place(lines, work, line);
+    pack(place.number, place.start * PIECE + place.count)
 }

@@ -46,7 +46,7 @@ module _ (t : List Trip) where
   line-place k zero (l ∷ ls) h = omega arith
   line-place k (suc i) (l ∷ ls) h = omega (arith, line-place (k + length (lineWords t l)) i ls (omega arith))
 
-  length-linePlaces : (k : ℕ) (ls : List (List ℕ)) → length (linePlaces t k ls) ≡ length ls
+  pub length-linePlaces : (k : ℕ) (ls : List (List ℕ)) → length (linePlaces t k ls) ≡ length ls
   unfolding linePlaces
   length-linePlaces k [] = refl
   length-linePlaces k (l ∷ ls) = ap suc (length-linePlaces (k + length (lineWords t l)) ls)
@@ -117,7 +117,7 @@ module _ (v : List ℕ) (n : ℕ) (t : List Trip) (holds : Holds v n t) where
       subst (λ k. Stands (allLineWords t (lines t)) v (4 + k)) (length-linePlaces t firstLine (lines t))
       (right-stands placeWords (allLineWords t (lines t)) v 4 before-firsts)
 
-  line-stands : (i : ℕ) → i < length (lines t) → Stands (lineWords t (getD (lines t) i [])) v (linePlace v i)
+  pub line-stands : (i : ℕ) → i < length (lines t) → Stands (lineWords t (getD (lines t) i [])) v (linePlace v i)
   unfolding allLineWords
   line-stands i h =
       subst (Stands (lineWords t (getD (lines t) i [])) v) (sym (line-place-told i h))

@@ -3,5 +3,4 @@ pub mod YesLaws
 pub mod TakeLaws
 pub mod DraftLaws
 pub mod LoopLaws
-pub mod WriteLaws
 pub mod ReadLaws

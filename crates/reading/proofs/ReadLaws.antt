@@ -1,16 +1,16 @@
 -- The ways out of the call.
 use mathlib.Core.Path.{_≡_, refl, sym, ap, subst, _∙_}
 use mathlib.Core.Bool.{Bool, true, false, cond}
-use mathlib.Core.List.{List, _∷_, _++_, append-nil}
-use Prim.Native.Nat.{ℕ, _+_, _*_, _≤_, _<_}
+use mathlib.Core.List.{List, append-nil}
+use Prim.Native.Nat.{ℕ, _≤_, _<_}
 use native.Mathlib.Omega.{arith}
 use borrow.Author.Tests.{le-leb, lt-leb}
 use lib.Dec.{leb}
-use lib.ListN.{length, take, length-append}
-use Rattle.words.specs.Put.{put, take-put}
+use lib.ListN.{length}
+use Rattle.words.specs.Put.{put}
 use Rattle.timetable.specs.Timetable.{Timetable, stopsOf}
-use Rattle.timetable.specs.Words.{startWords, words}
-use Rattle.timetable.specs.WordLaws.{length-stationWords, length-stopWords, length-startWords}
+use Rattle.timetable.specs.Words.{startWords, words, joined}
+use Rattle.timetable.specs.WordLaws.{joined-words}
 use Rattle.reading.specs.Reading.{
   Outcome,
   Accepted,
@@ -24,7 +24,7 @@ use Rattle.reading.specs.Reading.{
   outcomeValues,
   readValues,
 }
-use Rattle.reading.specs.Model.{Within, bodyWords, progressOf, LinesRead, tableWords}
+use Rattle.reading.specs.Model.{Within, bodyWords, progressOf, LinesRead}
 use Rattle.reading.specs.declared.Progress.{Progress}
 use Rattle.reading.specs.declared.Lines.{Lines}
 use Rattle.reading.specs.declared.Lines.the-variants.{Accepted as LinesAccepted, Refused as LinesRefused}
@@ -131,49 +131,36 @@ module _ (text old : List ℕ) where
         held : Held
         held = is-held (readLines text) refl lines
 
-        pub accepted-within : Within p
-        accepted-within = subst Within (sym (held .is-progress)) (held .within)
+        is-within : Within p
+        is-within = subst Within (sym (held .is-progress)) (held .within)
+
+        pub few-stations : p .stations ≤ 64
+        few-stations = is-within .stations
+
+        pub few-trips : p .trips ≤ 256
+        few-trips = is-within .trips
+
+        pub few-stops : p .stops ≤ 2048
+        few-stops = is-within .stops
 
         pub done-reply : ReplyDone n ≡ readReply text (length old)
         unfolding readReply
         done-reply = simp (le-leb 16384 (length old) room, reads-lines, held .accepted)
 
-        body-taken : take (2 * p .stations + 4 * p .stops) body ≡ bodyWords (held .timetable)
-        body-taken =
-            let t = held .timetable in
-            let long : length (bodyWords t) ≡ 2 * (progressOf t) .stations + 4 * (progressOf t) .stops =
-            simp (length-append, length-stationWords, length-stopWords, append-nil) in
-            ap (λ (x : Progress). take (2 * x .stations + 4 * x .stops) body) (held .is-progress)
-            ∙ ap (λ k. take k body) (sym long)
-            ∙ ap (take (length (bodyWords t))) (held .is-body)
-            ∙ take-put (bodyWords t) body₀
-
-        starts-taken : take (p .trips + 1) starts ≡ startWords 0 ((held .timetable) .trips)
-        starts-taken =
-            let t = held .timetable in
-            ap (λ (x : Progress). take (x .trips + 1) starts) (held .is-progress)
-            ∙ ap (λ k. take k starts) (sym (length-startWords 0 (t .trips)))
-            ∙ ap (take (length (startWords 0 (t .trips)))) (held .is-starts)
-            ∙ take-put (startWords 0 (t .trips)) starts₀
-
-        table-is : tableWords p body starts ≡ words (held .timetable)
-        unfolding words
+        table-is : joined (p .stations) (p .trips) (p .stops) body starts ≡ words (held .timetable)
         table-is =
             let t = held .timetable in
+            let e = held .is-progress in
             let stops : (progressOf t) .stops ≡ length (stopsOf (t .trips)) = simp append-nil in
-            ap (λ (x : List ℕ). p .stations ∷ p .trips ∷ p .stops ∷ (x ++ take (p .trips + 1) starts)) body-taken
-            ∙ ap (λ (x : List ℕ). p .stations ∷ p .trips ∷ p .stops ∷ (bodyWords t ++ x)) starts-taken
-            ∙ ap
-            (λ (x : Progress). x .stations ∷ x .trips ∷ x .stops ∷ (bodyWords t ++ startWords 0 (t .trips)))
-            (held .is-progress)
-            ∙ ap
-            (λ k. length (t .stations) ∷ length (t .trips) ∷ k ∷ (bodyWords t ++ startWords 0 (t .trips)))
-            stops
+            joined-words t (p .stations) (p .trips) (p .stops) (ap (λ (x : Progress). x .stations) e)
+            (ap (λ (x : Progress). x .trips) e) (ap (λ (x : Progress). x .stops) e ∙ stops) body starts body₀ starts₀
+            (held .is-body) (held .is-starts)
 
         pub done-values : valuesOf (ReplyDone n) ≡ readValues text (length old)
         done-values = values-told (ReplyDone n) done-reply
 
-        pub done-words : (table : List ℕ) → table ≡ put 0 (tableWords p body starts) old → table ≡ readWords text old
+        pub done-words : (table : List ℕ)
+            → table ≡ put 0 (joined (p .stations) (p .trips) (p .stops) body starts) old → table ≡ readWords text old
         unfolding readWords
         done-words table e =
             simp (le-leb 16384 (length old) room, reads-lines, held .accepted)

@@ -5,7 +5,7 @@ use mathlib.Core.Bool.{cond, _&&_}
 use mathlib.Core.List.{List, [], _∷_, _++_}
 use Prim.Native.Nat.{ℕ, _+_, _-_, _*_, _≤_}
 use lib.Dec.{leb, eqb}
-use lib.ListN.{take, set}
+use lib.ListN.{set}
 use Rattle.words.specs.Put.{put}
 use Rattle.text.specs.declared.Line.{Line}
 use Rattle.text.specs.declared.Line.the-variants.{Station as StationIn, Stop as StopIn, Shapeless}
@@ -100,11 +100,3 @@ LinesRead (Accepted t n) r body starts body₀ starts₀ =
     × (body ≡ put 0 (bodyWords t) body₀)
     × (starts ≡ put 0 (startWords 0 (t .trips)) starts₀)
 LinesRead (Refused k l) r body starts body₀ starts₀ = r ≡ LinesRefused k l
-
--- the words of a whole table, from the progress at its end and the two arrays
-abbrev pub tableWords : Progress → (body starts : List ℕ) → List ℕ
-tableWords p body starts =
-    p .stations
-    ∷ p .trips
-    ∷ p .stops
-    ∷ (take (2 * p .stations + 4 * p .stops) body ++ take (p .trips + 1) starts)

@@ -3,7 +3,6 @@ ghost use mathlib.Core.Path.{_≡_};
 ghost use Prim.Native.Nat.{_+_, _*_, _≤_, _<_};
 ghost use mathlib.Core.Bool.{cond};
 ghost use lib.ListN.{length, set};
-ghost use Rattle.words.specs.Put.{put};
 ghost use Rattle.text.specs.Shape.{shapeOf};
 ghost use Rattle.text.specs.declared.Line.the-variants.{Station, Stop};
 ghost use Rattle.reading.specs.Progress.{stationNumberAt, stopNumberAt, stopFitsAt};
@@ -16,7 +15,6 @@ ghost use Rattle.reading.specs.Model.{
   startsAfter,
   endOf,
   LinesRead,
-  tableWords,
 };
 use text::Line;
 use text::StationLine;
@@ -31,11 +29,6 @@ const STATIONS_MOST: usize = timetable::STATIONS_MOST as usize;
 const TRIPS_MOST: usize = timetable::TRIPS_MOST as usize;
 
 const STOPS_MOST: usize = timetable::STOPS_MOST as usize;
-
-// The words of all stations and stops, at the limits, and the places where trips begin.
-const BODY_WORDS: usize = 2 * STATIONS_MOST + 4 * STOPS_MOST;
-
-const STARTS_WORDS: usize = TRIPS_MOST + 1;
 
 // How far the lines of a text have come: stations, ended trips, stops in all, stops of the begun trip, and the station
 // and departure of the stop before, where a trip has begun.
@@ -303,29 +296,6 @@ fn read_lines(text: &[u8], body: &mut [u16], starts: &mut [u16]) -> Lines
     }
 }
 
-// Writes the words of a timetable that was read.
-fn write_timetable(timetable: &mut [u16], p: Progress, body: &[u16], starts: &[u16])
-    requires { ⌜ Within p
-        × (16384 ≤ length (now timetable))
-        × (length (now body) ≡ 8320)
-        × (length (now starts) ≡ 257) ⌝ }
-    ensures { λ _. ⌜ now (timetable .exit)
-        ≡ put 0 (tableWords p (now (body .entry)) (now (starts .entry))) (now (timetable .entry)) ⌝ }
-{
-    let body_length = 2 * p.stations + 4 * p.stops;
-    let starts_at = 3 + body_length;
-    let starts_length = p.trips + 1;
-    words::put_three(
-        timetable,
-        0,
-        p.stations as u32,
-        p.trips as u32,
-        p.stops as u32,
-    );
-    words::copy(timetable, 3, body, body_length);
-    words::copy(timetable, starts_at, starts, starts_length);
-}
-
 // Reads a text into the lent words of a timetable.
 pub fn read(text: &[u8], timetable: &mut [u16]) -> Reply
     ensures reply { λ r. ⌜ r ≡ readReply (now (text .entry)) (length (now (timetable .entry))) ⌝ }
@@ -338,14 +308,14 @@ pub fn read(text: &[u8], timetable: &mut [u16]) -> Reply
     if TEXT_MOST < text.len() {
         return Reply::Refused { number: 1, line: 0 };
     }
-    let mut body = [0u16; BODY_WORDS];
-    let mut starts = [0u16; STARTS_WORDS];
+    let mut body = [0u16; timetable::BODY_WORDS];
+    let mut starts = [0u16; timetable::STARTS_WORDS];
     match read_lines(text, &mut body, &mut starts) {
         Lines::Refused { number, line } => {
             return Reply::Refused { number, line };
         }
         Lines::Accepted(p, lines) => {
-            write_timetable(timetable, p, &body, &starts);
+            timetable::write_words(timetable, p.stations, p.trips, p.stops, &body, &starts);
             return Reply::Done { lines };
         }
     }

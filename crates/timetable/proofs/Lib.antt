@@ -2,3 +2,4 @@ pub mod TestLaws
 pub mod WordAtLaws
 pub mod CheckLaws
 pub mod DecideLaws
+pub mod WriteLaws

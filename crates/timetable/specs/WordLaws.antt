@@ -3,9 +3,10 @@ use mathlib.Core.Path.{_≡_, refl, sym, ap, _∙_}
 use mathlib.Core.List.{List, [], _∷_, _++_, append-assoc}
 use Prim.Native.Nat.{ℕ, _+_, _*_}
 use native.Mathlib.Omega.{arith}
-use lib.ListN.{length, length-append}
-use Rattle.timetable.specs.Timetable.{Station, Stop, Trip, stopsOf}
-use Rattle.timetable.specs.Words.{stationWords, stopWords, startWords}
+use lib.ListN.{length, take, length-append}
+use Rattle.words.specs.Put.{put, take-put}
+use Rattle.timetable.specs.Timetable.{Station, Stop, Trip, Timetable, stopsOf}
+use Rattle.timetable.specs.Words.{stationWords, stopWords, startWords, words, joined}
 
 pub length-stationWords : (l : List Station) → length (stationWords l) ≡ 2 * length l
 unfolding stationWords
@@ -50,3 +51,40 @@ pub start-first : (k : ℕ) (l : List Trip) → (ws : List ℕ) × (startWords k
 unfolding startWords
 start-first k [] = ([], refl)
 start-first k (t ∷ l) = (startWords (k + length t) l, refl)
+
+-- a timetable's words, put together
+module _
+    (t : Timetable)
+    (stations trips stops : ℕ)
+    (is-stations : stations ≡ length (t .stations))
+    (is-trips : trips ≡ length (t .trips))
+    (is-stops : stops ≡ length (stopsOf (t .trips)))
+    (body starts old₁ old₂ : List ℕ)
+    (held : body ≡ put 0 (stationWords (t .stations) ++ stopWords (stopsOf (t .trips))) old₁)
+    (kept : starts ≡ put 0 (startWords 0 (t .trips)) old₂)
+  where
+    abbrev front : List ℕ
+    front = stationWords (t .stations) ++ stopWords (stopsOf (t .trips))
+
+    body-taken : take (2 * stations + 4 * stops) body ≡ front
+    body-taken =
+        let many : 2 * stations + 4 * stops ≡ length front =
+        omega (
+          arith,
+          is-stations,
+          is-stops,
+          length-append (stationWords (t .stations)) (stopWords (stopsOf (t .trips))),
+          length-stationWords (t .stations),
+          length-stopWords (stopsOf (t .trips)),
+        ) in
+        (λ i. take (many i) (held i)) ∙ take-put front old₁
+
+    starts-taken : take (trips + 1) starts ≡ startWords 0 (t .trips)
+    starts-taken =
+        let many : trips + 1 ≡ length (startWords 0 (t .trips)) =
+        omega (arith, is-trips, length-startWords 0 (t .trips)) in
+        (λ i. take (many i) (kept i)) ∙ take-put (startWords 0 (t .trips)) old₂
+
+    pub joined-words : joined stations trips stops body starts ≡ words t
+    unfolding words
+    joined-words = λ i. is-stations i ∷ is-trips i ∷ is-stops i ∷ (body-taken i ++ starts-taken i)

@@ -4,7 +4,7 @@ use mathlib.Core.Bool.{Bool, _&&_}
 use mathlib.Core.List.{List, [], _∷_, _++_, map}
 use Prim.Native.Nat.{ℕ, zero, suc, _+_, _-_, _*_}
 use lib.Dec.{leb, eqb}
-use lib.ListN.{length, getD}
+use lib.ListN.{length, getD, take}
 use Rattle.lists.specs.Lists.{range}
 use Rattle.questions.specs.Question.{ask, firstNo}
 use Rattle.timetable.specs.Timetable.{Station, Stop, Trip, Timetable, stopsOf, valid}
@@ -28,6 +28,12 @@ words t =
     ∷ length (t .trips)
     ∷ length (stopsOf (t .trips))
     ∷ (stationWords (t .stations) ++ stopWords (stopsOf (t .trips)) ++ startWords 0 (t .trips))
+
+-- the words of so many stations, trips and stops, as they are put together: those of stations and stops are the first
+-- of one list, the starts the first of another
+abbrev pub joined : (stations trips stops : ℕ) (body starts : List ℕ) → List ℕ
+joined stations trips stops body starts =
+    stations ∷ trips ∷ stops ∷ (take (2 * stations + 4 * stops) body ++ take (trips + 1) starts)
 
 -- ---- the timetable that words spell
 abbrev pub stationCount : List ℕ → ℕ

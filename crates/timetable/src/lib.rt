@@ -12,7 +12,9 @@ ghost use Rattle.timetable.specs.Timetable.{
   validTrip,
   validStations,
 };
+ghost use Rattle.words.specs.Put.{put};
 ghost use Rattle.timetable.specs.Words.{
+  joined,
   stationCount,
   stopCount,
   stationAt,
@@ -31,6 +33,11 @@ pub const STATIONS_MOST: u32 = 64;
 pub const TRIPS_MOST: u32 = 256;
 
 pub const STOPS_MOST: u32 = 2048;
+
+// The words of all stations and stops, at the limits, and the places where trips begin.
+pub const BODY_WORDS: usize = 2 * STATIONS_MOST as usize + 4 * STOPS_MOST as usize;
+
+pub const STARTS_WORDS: usize = TRIPS_MOST as usize + 1;
 
 const CHANGE_MINUTES_MOST: u32 = 240;
 
@@ -94,6 +101,34 @@ pub fn start_at(words: &[u16], k: usize) -> usize
     let stops = 3 + 2 * words::word(words, 0) as usize;
     let place = stops + 4 * words::word(words, 2) as usize + k;
     words::word(words, place) as usize
+}
+
+// Writes the words of a timetable of so many stations, trips and stops: the words of its stations and stops, which
+// body begins with, behind the three counts, and behind them where its trips begin.
+pub fn write_words(
+    timetable: &mut [u16],
+    stations: usize,
+    trips: usize,
+    stops: usize,
+    body: &[u16],
+    starts: &[u16],
+)
+    requires { ⌜ (stations ≤ 64)
+        × (trips ≤ 256)
+        × (stops ≤ 2048)
+        × (16384 ≤ length (now timetable))
+        × (length (now body) ≡ 8320)
+        × (length (now starts) ≡ 257) ⌝ }
+    ensures { λ _. ⌜ now (timetable .exit)
+        ≡ put 0 (joined stations trips stops (now (body .entry)) (now (starts .entry))) (now (timetable .entry)) ⌝ }
+    ensures { λ _. ⌜ length (now (timetable .exit)) ≡ length (now (timetable .entry)) ⌝ }
+{
+    let body_length = 2 * stations + 4 * stops;
+    let starts_at = 3 + body_length;
+    let starts_length = trips + 1;
+    words::put_three(timetable, 0, stations as u32, trips as u32, stops as u32);
+    words::copy(timetable, 3, body, body_length);
+    words::copy(timetable, starts_at, starts, starts_length);
 }
 
 // ---- question 9, from its parts

@@ -11,7 +11,9 @@ use Rattle.reading.proofs.ReadLaws.{
   refused-reply,
   refused-values,
   refused-words,
-  accepted-within,
+  few-stations,
+  few-trips,
+  few-stops,
   done-reply,
   done-values,
   done-words,
@@ -33,6 +35,6 @@ read-spec =
     (λ c. search needs)
     (λ c. search needs)
     (λ c. search needs)
-    (λ c κs. (search accepted-within, search needs, search needs, search needs))
+    (λ c κs. (search few-stations, search few-trips, search few-stops, search needs, search needs, search needs))
     (λ c. search needs)
     (λ c. (search done-reply, (search done-values, search done-words))))

@@ -36,8 +36,8 @@ use Rattle.checking.specs.Built.{
   built-long,
   built-holds,
 }
-use Rattle.checking.specs.Drawn.{plainStation, drawn, tripsFrom, countsFit, areSome, aloneNumber}
-use Rattle.checking.specs.Redrawn.{plain, redrawn}
+use Rattle.alone.specs.Drawn.{plainStation, drawn, tripsFrom, countsFit, areSome, aloneNumber}
+use Rattle.alone.specs.Redrawn.{plain, redrawn}
 
 -- Some text of at most 65,536 bytes is accepted by reading, and the words v begin with the line tables of its
 -- timetable: "no question judges the words past a table".

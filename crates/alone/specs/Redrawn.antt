@@ -20,7 +20,7 @@ use Rattle.tables.specs.Spelled.{within}
 use Rattle.lookup.specs.Lookup.{lineCount, lineAt, numberAt}
 use Rattle.lookup.specs.First.{firstFrom}
 use Rattle.lookup.specs.Told.{LineTold, Told}
-use Rattle.checking.specs.Drawn.{
+use Rattle.alone.specs.Drawn.{
   Home,
   placeOn,
   hasTrip,

@@ -12,8 +12,8 @@ use Rattle.timetable.specs.Timetable.{Station, Stop, Trip, Timetable, valid}
 use Rattle.tables.specs.Building.{slicesLeast}
 use Rattle.lookup.specs.Lookup.{Line, lineCount, lineAt, numberAt, stationAt, pointsAt, arriveAt, departAt}
 use Rattle.lookup.specs.First.{firstFrom}
 use Rattle.checking.specs.Question10.{begins}
-use Rattle.checking.specs.declared.Home.{Home as HomeStruct}
+use Rattle.alone.specs.declared.Home.{Home as HomeStruct}
 
 -- where a trip stands: its line, and its place among the line's trips; the struct of src/
 abbrev pub Home : Type 0

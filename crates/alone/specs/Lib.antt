@@ -1,0 +1,6 @@
+pub mod Drawn
+pub mod Piece
+pub mod Redrawn
+pub mod Alone
+pub mod Facts
+pub mod Handed

@@ -1,0 +1,37 @@
+-- The header, the words of stations and stops, and the starts are put one behind the other: one put of them all.
+use borrow.Author.Needs.{needs}
+use Rattle.timetable.proofs.WriteLaws.{starts-fit, starts-enough, table-written}
+use Rattle.timetable.proofs.write_words.Statement.{statement}
+use Rattle.timetable.proofs.write_words.Tie as tie
+
+all-written : tie.Need-returns
+all-written c =
+    let second = c .before .before in
+    let first = second .before .before .before .before in
+    let head = first .before .before .before .before in
+    let start = head .before .before .before .before .before in
+    let a = start .args in (
+      table-written (a .stations) (a .trips) (a .stops) (start .pre .0) (start .pre .1) (start .pre .2) (a .body .now)
+          (a .starts .now) (a .timetable .now) (head .put-three .last .0) (first .copy .last .0)
+          (second .copy2 .last .0) (second .copy2 .ensures .0) (first .copy .ensures .0) (head .put-three .ensures .0)
+          (start .pre .3) (start .pre .4),
+      search needs,
+    )
+
+pub write-words-spec : {M : Type 1} → statement M
+write-words-spec =
+    tie.close
+    (tie.spec
+    (λ c. search needs)
+    (λ c. search needs)
+    (λ c. search needs)
+    (λ c. search needs)
+    (λ c. search needs)
+    (λ c. search needs)
+    (λ c. search needs)
+    (λ c. search needs)
+    (λ c. search needs)
+    (λ c. search needs)
+    (λ c κs. (search starts-fit, search starts-enough))
+    (λ c. search needs)
+    all-written)
