@@ -1,6 +1,6 @@
--- What the direct query answers and writes. Document 01: "Is there a feasible connection, with a stored pattern (a single
--- ride, in a direct query)? 14"; "An answer is in 32-bit words, rows in rising duration: duration, penalty, number of
--- rides, then trip, boarding stop, alighting stop per ride. The row count is returned."
+-- What the direct query answers and writes. Document 01: "Is there a feasible connection, with a stored pattern (a
+-- single ride, in a direct query)? 14"; "An answer is in 32-bit words, rows in rising duration: duration, penalty,
+-- number of rides, then trip, boarding stop, alighting stop per ride. The row count is returned."
 use mathlib.Core.List.{List, [], _∷_, _++_}
 use Prim.Native.Nat.{ℕ}
 use lib.Dec.{leb}

@@ -1,50 +1,20 @@
-use Rattle.direct.proofs.ShownLaws.{minutes-room, minutes-part}
-use Rattle.direct.specs.Shown.{asked-reply, asked-words, source-first, source-few, lists-inside, found-reply, found-words}
+-- The rides are kept at the beginning of working space, which the questions asked to be long enough.
+use Rattle.direct.specs.Shown.{asked-reply, asked-words, source-first, source-few, lists-inside}
+use Rattle.direct.specs.Shown.{found-reply, found-words}
+use Rattle.direct.proofs.ShownLaws.{kept-room, kept-part}
 use borrow.Author.Needs.{needs}
 use Rattle.direct.proofs.direct.Statement.{statement}
 use Rattle.direct.proofs.direct.Tie as tie
-use Rattle.direct.proofs.direct.Reads as reads
-use Rattle.direct.proofs.direct.Lts as lts
-use Rattle.checking.proofs.query_number.Reads as query-number-reads
-use Rattle.direct.proofs.show.Reads as show-reads
 
--- src/lib.rt:529:9
-query-number-requires : tie.Need-query-number-requires
-query-number-requires c κs = search needs
-
--- src/lib.rt:531:9
-same-length : tie.Need-same-length
-same-length c = search needs
-
--- src/lib.rt:531:9
 returns : tie.Need-returns
 returns c = (search asked-reply, search asked-words)
 
--- src/lib.rt:533:16
-sub-best : tie.Need-sub-best
-sub-best c = search needs
+part-kept-end : tie.Need-part-kept-end
+part-kept-end c = search kept-room
 
--- src/lib.rt:533:16
-part-best-start : tie.Need-part-best-start
-part-best-start c = search needs
-
--- src/lib.rt:533:16
-part-best-end : tie.Need-part-best-end
-part-best-end c = search minutes-room
-
--- src/lib.rt:534:5
 show-requires : tie.Need-show-requires
-show-requires c κs = (search source-first, search source-few, search lists-inside, search minutes-part)
+show-requires c κs = (search source-first, search source-few, search lists-inside, search kept-part)
 
--- src/lib.rt:501:1
-same-length-2 : tie.Need-same-length-2
-same-length-2 c = search needs
-
--- src/lib.rt:501:1
-same-length-3 : tie.Need-same-length-3
-same-length-3 c = search needs
-
--- src/lib.rt:501:1
 returns-2 : tie.Need-returns-2
 returns-2 c = (search found-reply, search found-words)
 
@@ -52,13 +22,13 @@ pub direct-spec : {M : Type 1} → statement M
 direct-spec =
     tie.close
     (tie.spec
-    query-number-requires
-    same-length
+    (λ c. search needs)
+    (λ c. search needs)
     returns
-    sub-best
-    part-best-start
-    part-best-end
+    (λ c. search needs)
+    (λ c. search needs)
+    part-kept-end
     show-requires
-    same-length-2
-    same-length-3
+    (λ c. search needs)
+    (λ c. search needs)
     returns-2)
