@@ -12,7 +12,8 @@ ghost use Rattle.direct.specs.Candidates.{rideOn, reach, firstRead, allR
 ghost use Rattle.direct.specs.Choosing.{noPoints, blank, noteAll, leads, goesBefore, rowFor};
 ghost use Rattle.direct.specs.Keeping.{keptAt, rideWords, Unkept, keptWith, keptOn, keepAll, Keeps, rowsKept};
 ghost use Rattle.direct.specs.Turns.{costOf, lowered, notedAt, tripsFrom, keptTo, leadWords};
-ghost use Rattle.direct.specs.Direct.{directReply, directWords};
+ghost use Rattle.replies.specs.Replies.{valuesOf};
+ghost use Rattle.direct.specs.Direct.{directReply, directValues, directWords};
 ghost use Rattle.direct.specs.Shown.{bestOf, leadsOf, foundReply, foundAnswer};
 use lookup::Line;
 use replies::Reply;
@@ -543,8 +544,8 @@ fn show(
     }
 }
 
-// The direct rides from one station to another at a minute. Working space may hold any words afterwards.
-pub fn direct(
+// Answers the query if no question is in the way.
+fn direct_asked(
     words: &[u16],
     lines: &[u16],
     work: &mut [u32],
@@ -553,7 +554,7 @@ pub fn direct(
     minute: u32,
     answer: &mut [u32],
 ) -> Reply
-    ensures reply { λ r. ⌜ r
+    ensures { λ r. ⌜ r
         ≡ directReply
         (now (words .entry))
         (now (lines .entry))
@@ -562,7 +563,7 @@ pub fn direct(
         to
         minute
         (length (now (answer .entry))) ⌝ }
-    ensures words { λ _. ⌜ now (answer .exit)
+    ensures { λ _. ⌜ now (answer .exit)
         ≡ directWords
         (now (words .entry))
         (now (lines .entry))
@@ -585,4 +586,45 @@ pub fn direct(
         minute as usize,
         answer,
     )
+}
+
+// The direct rides from one station to another at a minute. Working space may hold any words afterwards.
+pub fn direct(
+    words: &[u16],
+    lines: &[u16],
+    work: &mut [u32],
+    from: u32,
+    to: u32,
+    minute: u32,
+    answer: &mut [u32],
+) -> Reply
+    ensures reply { λ r. ⌜ r
+        ≡ directReply
+        (now (words .entry))
+        (now (lines .entry))
+        (length (now (work .entry)))
+        from
+        to
+        minute
+        (length (now (answer .entry))) ⌝ }
+    ensures values { λ r. ⌜ valuesOf r
+        ≡ directValues
+        (now (words .entry))
+        (now (lines .entry))
+        (length (now (work .entry)))
+        from
+        to
+        minute
+        (length (now (answer .entry))) ⌝ }
+    ensures words { λ _. ⌜ now (answer .exit)
+        ≡ directWords
+        (now (words .entry))
+        (now (lines .entry))
+        (length (now (work .entry)))
+        from
+        to
+        minute
+        (now (answer .entry)) ⌝ }
+{
+    direct_asked(words, lines, work, from, to, minute, answer)
 }

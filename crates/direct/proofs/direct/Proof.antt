@@ -1,34 +1,27 @@
--- The rides are kept at the beginning of working space, which the questions asked to be long enough.
-use Rattle.direct.specs.Shown.{asked-reply, asked-words, source-first, source-few, lists-inside}
-use Rattle.direct.specs.Shown.{found-reply, found-words}
-use Rattle.direct.proofs.ShownLaws.{kept-room, kept-part}
+-- What was answered if no question is in the way; number and count are those of the reply.
+use Rattle.direct.specs.Direct.{direct-values}
 use borrow.Author.Needs.{needs}
 use Rattle.direct.proofs.direct.Statement.{statement}
 use Rattle.direct.proofs.direct.Tie as tie
+use Rattle.direct.proofs.direct.Reads as reads
+use Rattle.direct.proofs.direct.Lts as lts
+use Rattle.direct.proofs.direct_asked.Reads as direct-asked-reads
 
+-- src/lib.rt:629:5
+direct-asked-requires : tie.Need-direct-asked-requires
+direct-asked-requires c κs = search needs
+
+-- src/lib.rt:592:1
+same-length : tie.Need-same-length
+same-length c = search needs
+
+-- src/lib.rt:592:1
+same-length-2 : tie.Need-same-length-2
+same-length-2 c = search needs
+
+-- src/lib.rt:592:1
 returns : tie.Need-returns
-returns c = (search asked-reply, search asked-words)
-
-part-kept-end : tie.Need-part-kept-end
-part-kept-end c = search kept-room
-
-show-requires : tie.Need-show-requires
-show-requires c κs = (search source-first, search source-few, search lists-inside, search kept-part)
-
-returns-2 : tie.Need-returns-2
-returns-2 c = (search found-reply, search found-words)
+returns c = (search needs, (search direct-values, search needs))
 
 pub direct-spec : {M : Type 1} → statement M
-direct-spec =
-    tie.close
-    (tie.spec
-    (λ c. search needs)
-    (λ c. search needs)
-    returns
-    (λ c. search needs)
-    (λ c. search needs)
-    part-kept-end
-    show-requires
-    (λ c. search needs)
-    (λ c. search needs)
-    returns-2)
+direct-spec = tie.close (tie.spec direct-asked-requires same-length same-length-2 returns)
