@@ -1,0 +1,1 @@
+// The query from a store: what a rider is shown.
