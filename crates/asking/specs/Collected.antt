@@ -116,9 +116,9 @@ module _ (n : Net) (ok : Sound n) (s : List ℕ) (a u b : ℕ) where
     module _ (rev : List ℕ) (e : this ≡ reverseAux rev (b ∷ [])) (new : List ℕ) (l : Lowered n a u rev b w new) where
       attained : (m : ℕ) → m < 2880 → getD new m 0 < noPoints → Held (suc k) m (getD new m 0)
       attained m h g = elim (l .from m h) [
-          | inl z ↦ old z
-          | inr z ↦ fresh (sequence-ends n a u rev b m (getD new m 0) .0 z)
-        ]
+        | inl z ↦ old z
+        | inr z ↦ fresh (sequence-ends n a u rev b m (getD new m 0) .0 z)
+      ]
         where
           old : getD new m 0 ≡ getD w m 0 → Held (suc k) m (getD new m 0)
           old z =

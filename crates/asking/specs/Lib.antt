@@ -1,3 +1,4 @@
 pub mod Asking
 pub mod Rowed
 pub mod Collected
+pub mod Won
