@@ -2,3 +2,4 @@ pub mod Asking
 pub mod Rowed
 pub mod Collected
 pub mod Won
+pub mod Keys
