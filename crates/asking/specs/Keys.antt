@@ -52,9 +52,9 @@ module _ (a b : List ℕ) (n i : ℕ) (long-a : n ≤ length a) (long-b : n ≤ 
       sym
       (so-far
       ∙ rw (
-          drop-of-length-le (take n a) {i = i} (omega (arith, length-take-le n a long-a)),
-          drop-of-length-le (take n b) {i = i} (omega (arith, length-take-le n b long-b)),
-        ))
+        drop-of-length-le (take n a) {i = i} (omega (arith, length-take-le n a long-a)),
+        drop-of-length-le (take n b) {i = i} (omega (arith, length-take-le n b long-b)),
+      ))
 
 -- ---- the parts of the key one after the other
 module _ (d e r t : ℕ) (x y : List ℕ) (in-time : d ≤ 2879) (other-in-time : e ≤ 2879) where

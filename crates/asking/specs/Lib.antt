@@ -3,3 +3,4 @@ pub mod Rowed
 pub mod Collected
 pub mod Won
 pub mod Keys
+pub mod Leading

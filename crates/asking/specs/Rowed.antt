@@ -59,7 +59,7 @@ module _ (u : ℕ) (d : List Connection) where
 
   module _ (bounds : (c : Connection) → c ∈ d → Bounds c) (w : List ℕ) (least : LeastKept w) where
     -- by duration
-    abbrev best : ℕ → ℕ
+    abbrev pub best : ℕ → ℕ
     best e = getD w (u + e) noPoints
 
     at-from : (m p : ℕ) (a : At m p) → u ≤ m
@@ -79,7 +79,7 @@ module _ (u : ℕ) (d : List Connection) where
             rw at (least .low c i)
 
     -- a cost leads exactly if the array has it below all that are earlier; before minute u no one arrives
-    led-leads : (c : Cost) → c ∈ leads noPoints 0 w
+    pub led-leads : (c : Cost) → c ∈ leads noPoints 0 w
         → (u ≤ c .minutes) × Leads (measure u) d best noPoints (c .minutes - u) (c .points)
     led-leads c i =
         (from, record { is = rw back (ap (λ z. getD w z noPoints) place ∙ k .is); found = k .less; first = first })
@@ -135,7 +135,7 @@ module _ (u : ℕ) (d : List Connection) where
                 omega (arith, k .first (e - u) (omega arith), ap (λ z. getD w z noPoints) same)
 
     -- the costs that lead are the undominated ones
-    led-cost : (e p : ℕ) → Leads (measure u) d best noPoints e p
+    pub led-cost : (e p : ℕ) → Leads (measure u) d best noPoints e p
         ↔ ((c : Connection) × Undominated (measure u) d c × (pair (measure u) c ≡ e ∷ p ∷ []))
     led-cost = leads-exactly (measure u) d best noPoints least-points
 
