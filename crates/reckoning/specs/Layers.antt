@@ -90,7 +90,8 @@ module _ (n : Net) (a t inf limit : ℕ) where
 
       -- from the values `old` of other sequences
       pub record Ending (b : ℕ) (old best : ℕ → ℕ) : Type 0 where
-        pub over : (r : Ride) → r ∈ n .rides → r .to ≡ b → best (r .arrive) ≤ val (r .from) (r .depart) + r .points
+        pub over : (r : Ride) → r ∈ n .rides → r .to ≡ b → val (r .from) (r .depart) < inf
+            → best (r .arrive) ≤ val (r .from) (r .depart) + r .points
         pub attained : (v : ℕ) → best v < old v → LastTo b best v
 
       module _ (b : ℕ) (old best : ℕ → ℕ) (e : Ending b old best) where
@@ -108,9 +109,9 @@ module _ (n : Net) (a t inf limit : ℕ) where
               total = k .is;
             }
 
-        pub end-below : (v p : ℕ) → Ends n a t rev b v p → best v ≤ p
-        end-below v p g =
+        pub end-below : (v p : ℕ) → p < inf → Ends n a t rev b v p → best v ≤ p
+        end-below v p h g =
             let r = g .ride in
-            let o = e .over r (g .listed) (g .to) in
             let k = l .below (r .from) (r .depart) (g .paid) (leaves r (g .listed)) (g .below) in
+            let o = e .over r (g .listed) (g .to) (omega (arith, g .total)) in
             omega (arith, ap best (g .minute), g .total)

@@ -1,0 +1,1 @@
+// The least penalties along one stored pattern.
