@@ -1,3 +1,5 @@
+pub mod Lowered
 pub mod Lowest
 pub mod Layering
 pub mod Taken
+pub mod Readies
