@@ -3,3 +3,4 @@ pub mod Lowest
 pub mod Layering
 pub mod Taken
 pub mod Readies
+pub mod Patterns

@@ -34,7 +34,7 @@ use Rattle.layers.specs.Lowered.{kept, Lowered}
 unfoldable pub valueAt : (x : ℕ) (p : List ℕ) → (y u : ℕ) → ℕ
 valueAt x p y u = cond (eqb y x) (kept p u) noPoints
 
-value-here : (x : ℕ) (p : List ℕ) (y u : ℕ) → y ≡ x → valueAt x p y u ≡ kept p u
+pub value-here : (x : ℕ) (p : List ℕ) (y u : ℕ) → y ≡ x → valueAt x p y u ≡ kept p u
 unfolding valueAt
 value-here x p y u e = rw (eq-eqb y x e)
 
@@ -43,7 +43,7 @@ unfolding valueAt
 value-else x p y u e = rw (ne-eqb y x e)
 
 -- a value is that of the present station
-value-some : (x : ℕ) (p : List ℕ) (y u : ℕ) → valueAt x p y u < noPoints → y ≡ x
+pub value-some : (x : ℕ) (p : List ℕ) (y u : ℕ) → valueAt x p y u < noPoints → y ≡ x
 value-some x p y u h =
     elim (ℕ-discrete y x) [
       | yes e ↦ e
@@ -79,7 +79,7 @@ module _ (tt : Timetable) (ok : T (valid tt)) (a t : ℕ) where
     pub low : (m : ℕ) → e ≤ m → m < 2880 → kept p m ≤ penaltyMost
 
   -- every ride leaves within the two days
-  leaves : (r : Ride) → r ∈ n .rides → r .depart < 2880
+  pub leaves : (r : Ride) → r ∈ n .rides → r .depart < 2880
   leaves r m = omega (arith, sound tt ok .forward r m, sound tt ok .bounded r m)
 
   -- a value that is reached is small
