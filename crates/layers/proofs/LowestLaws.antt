@@ -7,12 +7,12 @@ use native.Mathlib.Omega.{arith}
 use native.Mathlib.Nat.{sub-zero}
 use borrow.Author.Tests.{lt-ltb, le-ltb}
 use lib.Dec.{ltb}
-use lib.ListN.{length, getD, set, take, drop}
+use lib.ListN.{length, getD, set, take, drop, length-set}
 use lib.Seq.{take-all, drop-length, drop-cons, append-snoc, take-suc-set, drop-set-lt}
 use Rattle.lookup.specs.First.{firstFrom, first-none, first-here, first-later}
-use Rattle.direct.specs.Choosing.{noPoints}
+use Rattle.direct.specs.Choosing.{noPoints, blank}
 use Rattle.layers.specs.Lowest.{lowest}
-use Rattle.layers.specs.Layering.{firstValue}
+use Rattle.layers.specs.Layering.{startOf, firstValue}
 
 lowest-one : (least x : ℕ) (l : List ℕ) → lowest least (x ∷ l) ≡ min least x ∷ lowest (min least x) l
 unfolding lowest
@@ -73,3 +73,15 @@ module _
 pub looks : (p : List ℕ) → firstValue p ≡ firstFrom (λ k. ltb (getD p k 0) noPoints) 0 (2880 - 0)
 unfolding firstValue
 looks p = refl
+
+-- ready at the minute of the query, with nothing paid
+module _ (old l : List ℕ) (m : ℕ) (long : length l ≡ length old) where
+  pub start-room : length old ≡ 2880 → length (set l m 0) ≡ 2880
+  start-room h = length-set l m 0 ∙ long ∙ h
+
+  pub start-length : (last : List ℕ) → length last ≡ length (set l m 0) → length last ≡ length old
+  start-length last h = h ∙ length-set l m 0 ∙ long
+
+pub start-is : (l last : List ℕ) (m : ℕ) → last ≡ lowest noPoints (set l m 0) → l ≡ blank → last ≡ startOf m
+unfolding startOf
+start-is l last m h e = h ∙ ap (λ l. lowest noPoints (set l m 0)) e
