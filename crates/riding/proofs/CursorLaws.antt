@@ -2,7 +2,7 @@
 use mathlib.Core.Path.{_≡_, refl, sym, ap, subst, _∙_}
 use mathlib.Core.Bool.{Bool, true, false}
 use mathlib.Core.List.{List, [], _∷_, _++_, append-assoc, map}
-use Prim.Native.Nat.{ℕ, _+_, _-_, _≤_, _<_}
+use Prim.Native.Nat.{ℕ, _+_, _-_, _*_, _≤_, _<_}
 use native.Mathlib.Omega.{arith}
 use lib.ListN.{length, getD}
 use lib.Seq.{slice}
@@ -170,6 +170,34 @@ module _ (v : List ℕ) (a b u : ℕ) (c : Cursor) (good : Good c) (more : c .mo
     next-call e f r g =
         past e
         ∙ ap (λ m. rideOf v c ∷ m) (at-none v l b (c .x) (c .first) s (callsFrom v a b u (c .call)) f ∙ sym g)
+
+-- the first trip stands no later than the one left, so there is one
+pub place-good : (c : Cursor) → Good c → c .more ≡ true → (l : Line) → l ≡ c .line
+    → (s : Place) → s .place < 65536 → s .points ≤ 65535 * s .place
+    → Good
+    (record {
+      more = true;
+      call = c .call;
+      line = l;
+      x = c .x;
+      first = c .first;
+      p = s .place;
+      points = s .points;
+      j = c .first;
+    })
+place-good c good more l is-l s few points-few =
+    record {
+      call-few = good .call-few;
+      at-few = rw is-l (good .at-few);
+      positions-few = rw is-l (good .positions-few);
+      trips-few = rw is-l (good .trips-few);
+      x-few = good .x-few;
+      p-few = few;
+      j-few = omega (arith, good .j-few, good .first-before);
+      points-few = points-few;
+      first-before = omega arith;
+      at-trip = λ e. rw is-l (omega (arith, good .at-trip more, good .first-before));
+    }
 
 -- ---- what the code tells of a ride
 pub told : (v : List ℕ) (c : Cursor) → Good c → (l : Line) → l ≡ c .line → (z d m : ℕ)

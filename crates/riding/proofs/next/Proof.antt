@@ -1,4 +1,4 @@
-use Rattle.riding.proofs.CursorLaws.{next-trip, next-place, next-call}
+use Rattle.riding.proofs.CursorLaws.{next-trip, next-place, place-good, next-call}
 use borrow.Author.Needs.{needs}
 use Rattle.riding.proofs.next.Statement.{statement}
 use Rattle.riding.proofs.next.Tie as tie
@@ -25,7 +25,7 @@ seek-place-requires c κs = search needs
 
 -- src/lib.rt:179:9
 returns-2 : tie.Need-returns-2
-returns-2 c = (search next-place, search needs)
+returns-2 c = (search next-place, search place-good)
 
 -- src/lib.rt:190:5
 seek-call-requires : tie.Need-seek-call-requires
