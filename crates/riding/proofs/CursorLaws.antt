@@ -1,17 +1,16 @@
 -- What is left of the rides from call to call, and behind the ride at which a cursor stands.
 use mathlib.Core.Path.{_≡_, refl, sym, ap, subst, _∙_}
-use mathlib.Core.Bool.{Bool, true, false}
+use mathlib.Core.Bool.{true, false}
 use mathlib.Core.List.{List, [], _∷_, _++_, append-assoc, map}
 use Prim.Native.Nat.{ℕ, _+_, _-_, _*_, _≤_, _<_}
 use native.Mathlib.Omega.{arith}
 use lib.ListN.{length, getD}
-use lib.Seq.{slice}
 use Rattle.lists.specs.Lists.{concatMap}
 use Rattle.connections.specs.Rides.{Ride}
 use Rattle.tables.proofs.TimesLaws.{range-more, range-none}
 use Rattle.lookup.specs.Lookup.{Line, lineAt, numberAt, arriveAt, departAt, callsPlace}
 use Rattle.lookup.specs.First.{firstTrip}
-use Rattle.direct.specs.Candidates.{Reach, rideOn, pairsOf, callsOf, allRead}
+use Rattle.direct.specs.Candidates.{Reach, rideOn, allRead}
 use Rattle.direct.specs.Turns.{tripsFrom, allCalls}
 use Rattle.direct.proofs.CallLaws.{pairs-more, pairs-none, calls-are}
 use Rattle.riding.specs.declared.Place.{Place}
