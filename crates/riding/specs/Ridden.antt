@@ -26,6 +26,7 @@ use Rattle.direct.specs.Gathered.{all-read, all-bounds}
 use Rattle.riding.specs.declared.Cursor.{Cursor}
 use Rattle.riding.specs.Riding.{alightOf, rideOf, left, Good}
 
+-- what a connection begins with: a direct one is its ride
 abbrev firstRide : Connection → Ride
 firstRide (direct r) = r
 firstRide (onward r w c) = r

@@ -81,7 +81,7 @@ pub left-none : (v : List ℕ) (a b u : ℕ) (c : Cursor) → c .more ≡ false 
 unfolding left
 left-none v a b u c e = rw e
 
--- one is left less behind each ride
+-- behind a ride, one less is left
 pub left-falls : (v : List ℕ) (a b u : ℕ) (c d : Cursor) → left v a b u c ≡ rideOf v c ∷ left v a b u d
     → length (left v a b u d) < length (left v a b u c)
 left-falls v a b u c d e = omega (arith, ap length e)

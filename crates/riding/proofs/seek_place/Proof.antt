@@ -1,9 +1,9 @@
 -- The places left are those sought. The penalty is bounded by the places passed, 65,535 for each.
-use Rattle.riding.specs.Riding.{rest}
-use Rattle.riding.proofs.PlaceLaws.{place-found, place-missed, place-none}
 use mathlib.Core.Path.{_≡_, refl}
 use Prim.Native.Nat.{_≤_, _<_, _-_, _*_}
 use borrow.Author.Needs.{needs}
+use Rattle.riding.specs.Riding.{rest}
+use Rattle.riding.proofs.PlaceLaws.{place-found, place-missed, place-none}
 use Rattle.riding.proofs.seek_place.Statement.{statement}
 use Rattle.riding.proofs.seek_place.Tie as tie
 
