@@ -77,7 +77,7 @@ fn better(f: Found, g: Found) -> Found
 }
 
 // The lesser of two numbers of points.
-fn lesser(a: u32, b: u32) -> u32
+pub fn lesser(a: u32, b: u32) -> u32
     ensures { λ r. ⌜ r ≡ min a b ⌝ }
 {
     if b < a {
@@ -88,7 +88,7 @@ fn lesser(a: u32, b: u32) -> u32
 
 // Notes that a ride arrives at a minute with a penalty; best holds the least penalty for each arrival minute. A minute
 // past its end is not noted: no trip of a timetable arrives then.
-fn note(best: &mut [u32], cost: Cost)
+pub fn note(best: &mut [u32], cost: Cost)
     ensures { λ _. ⌜ now (best .exit)
         ≡ lowered (now (best .entry)) (cost .minutes .0) (cost .points .0) ⌝ }
     ensures { λ _. ⌜ length (now (best .exit)) ≡ length (now (best .entry)) ⌝ }
@@ -100,7 +100,7 @@ fn note(best: &mut [u32], cost: Cost)
 }
 
 // Before a query no ride has been noted for any minute.
-fn fill_blank(best: &mut [u32])
+pub fn fill_blank(best: &mut [u32])
     requires { ⌜ length (now best) ≡ 2880 ⌝ }
     ensures { λ _. ⌜ now (best .exit) ≡ blank ⌝ }
     ensures { λ _. ⌜ length (now (best .exit)) ≡ length (now (best .entry)) ⌝ }

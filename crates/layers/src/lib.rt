@@ -1,0 +1,124 @@
+// The least penalties along one stored pattern, change by change: for each minute the least with which one is ready to
+// board at the present station by then.
+ghost use mathlib.Core.Path.{_≡_};
+ghost use Prim.Native.Nat.{_+_, _-_, _≤_, _<_};
+ghost use lib.ListN.{length, getD};
+ghost use Rattle.lookup.specs.Lookup.{callsPlace};
+ghost use Rattle.direct.specs.Candidates.{allRead};
+ghost use Rattle.direct.specs.Choosing.{noPoints};
+ghost use Rattle.direct.specs.Turns.{lowered};
+ghost use Rattle.layers.specs.Lowest.{lowest};
+ghost use Rattle.layers.specs.Layering.{takenAll, startOf, firstValue};
+ghost use Rattle.layers.specs.Fitting.{Fits, Fitting};
+use results::Cost;
+use results::Minutes;
+use results::Points;
+use riding::Ride;
+use timetable::Station;
+
+// The minutes in which one may be ready: 0 to 2,879.
+const MINUTES: usize = 2880;
+
+// The penalty of a minute by which no one is ready; all others are less.
+const NO_POINTS: u32 = u32::MAX;
+
+// Who is ready at a minute is ready at each later one: each penalty is lowered to the least so far.
+fn lowest_so_far(p: &mut [u32])
+    requires { ⌜ length (now p) ≡ 2880 ⌝ }
+    ensures { λ _. ⌜ now (p .exit) ≡ lowest noPoints (now (p .entry)) ⌝ }
+    ensures { λ _. ⌜ length (now (p .exit)) ≡ length (now (p .entry)) ⌝ }
+{
+    let mut least = NO_POINTS;
+    let mut m = 0;
+    while m < MINUTES {
+        least = direct::lesser(least, p[m]);
+        p[m] = least;
+        m += 1;
+    }
+}
+
+// The first minute by which one is ready; 2,880 if no one ever is.
+fn first_value(p: &[u32]) -> usize
+    requires { ⌜ length (now p) ≡ 2880 ⌝ }
+    ensures { λ r. ⌜ (r ≡ firstValue (now (p .entry))) × (r ≤ 2880) ⌝ }
+{
+    let mut m = 0;
+    let first = loop {
+        if MINUTES <= m {
+            break m;
+        }
+        if p[m] < NO_POINTS {
+            break m;
+        }
+        m += 1;
+    };
+    first
+}
+
+// Before the first ride one is ready from the minute of the query on, and has paid nothing.
+fn start(minute: usize, p: &mut [u32])
+    requires { ⌜ (minute < 2880) × (length (now p) ≡ 2880) ⌝ }
+    ensures { λ _. ⌜ now (p .exit) ≡ startOf minute ⌝ }
+    ensures { λ _. ⌜ length (now (p .exit)) ≡ length (now (p .entry)) ⌝ }
+{
+    direct::fill_blank(p);
+    p[minute] = 0;
+    lowest_so_far(p);
+}
+
+// Notes a ride for one who has paid what p holds for its departure: when he can leave again, behind a change that takes
+// and costs so much, and what he has paid by then.
+fn note_ride(p: &[u32], ride: Ride, change: Station, best: &mut [u32])
+    requires { ⌜ (length (now p) ≡ 2880)
+        × Fits (now p) ride
+        × (change .minutes ≤ 240)
+        × (change .points ≤ 1000) ⌝ }
+    ensures { λ _. ⌜ now (best .exit)
+        ≡ lowered
+        (now (best .entry))
+        (ride .arrive + change .minutes)
+        (getD (now (p .entry)) (ride .depart) 0 + ride .points + change .points) ⌝ }
+    ensures { λ _. ⌜ length (now (best .exit)) ≡ length (now (best .entry)) ⌝ }
+{
+    let depart = ride.depart;
+    let paid = p[depart] + ride.points + change.points;
+    let minute = ride.arrive as u32 + change.minutes;
+    direct::note(
+        best,
+        Cost {
+            minutes: Minutes(minute),
+            points: Points(paid),
+        },
+    );
+}
+
+// Notes all rides from one station to another that leave at a minute or later.
+fn note_rides(
+    lines: &[u16],
+    from: usize,
+    to: usize,
+    earliest: usize,
+    p: &[u32],
+    change: Station,
+    best: &mut [u32],
+)
+    requires { ⌜ (1 ≤ from) × (from ≤ 64) × (callsPlace (now lines) from ≤ length (now lines)) ⌝ }
+    requires { ⌜ (length (now p) ≡ 2880)
+        × Fitting (now p) (allRead (now lines) from earliest to)
+        × (change .minutes ≤ 240)
+        × (change .points ≤ 1000) ⌝ }
+    ensures { λ _. ⌜ now (best .exit)
+        ≡ takenAll
+        (now (p .entry))
+        (change .minutes)
+        (change .points)
+        (now (best .entry))
+        (allRead (now (lines .entry)) from earliest to) ⌝ }
+    ensures { λ _. ⌜ length (now (best .exit)) ≡ length (now (best .entry)) ⌝ }
+{
+    let mut c = riding::begin(lines, from, to, earliest);
+    while c.more {
+        note_ride(p, riding::tell(lines, c), change, best);
+        c = riding::next(lines, from, to, earliest, c);
+    }
+}
