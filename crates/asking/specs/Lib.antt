@@ -4,3 +4,4 @@ pub mod Collected
 pub mod Won
 pub mod Keys
 pub mod Leading
+pub mod Granted

@@ -1,9 +1,28 @@
 // The query from a store: what a rider is shown.
 ghost use mathlib.Core.Path.{_≡_};
-ghost use Prim.Native.Nat.{_*_, _≤_};
+ghost use mathlib.Core.List.{_∷_};
+ghost use Prim.Native.Nat.{_+_, _-_, _*_, _≤_, _<_};
 ghost use lib.ListN.{length, take};
+ghost use Rattle.words.specs.Put.{put};
 ghost use Rattle.lists.specs.Lists.{before};
+ghost use Rattle.direct.specs.Choosing.{noPoints};
+ghost use Rattle.asking.specs.Asking.{kept, rows, rowWords, askReply, askWords};
 ghost use Rattle.asking.specs.Keys.{keyWords};
+ghost use Rattle.asking.specs.Rowed.{LeastKept};
+ghost use Rattle.asking.specs.Granted.{Granted, Leading, Winning, Counted, Written, Room};
+use replies::Reply;
+
+// The minutes in which a connection may arrive: 0 to 2,879.
+const MINUTES: usize = 2880;
+
+// The penalty of a minute in which no connection arrives; every connection has less.
+const NO_POINTS: u32 = u32::MAX;
+
+// The words of a row before the numbers of its rides.
+const ROW_WORDS: usize = 3;
+
+// Room for the numbers of all rides of a connection: a pattern has at most 63 stations behind its source.
+const NUMBERS_MOST: usize = 192;
 
 // The connection that goes before all others tried so far: whether there is one, when it departs, and how many rides it
 // has. The numbers of its rides stand in an array beside it.
@@ -57,4 +76,175 @@ fn goes_before(g: Winner, tried: &[u32], f: Winner, shown: &[u32]) -> bool
         return false;
     }
     words_before(tried, shown, 3 * g.rides)
+}
+
+// The connection that is shown for an arrival minute and a penalty.
+fn choose(
+    words: &[u16],
+    lines: &[u16],
+    store: &[u16],
+    from: usize,
+    to: usize,
+    minute: usize,
+    arrive: usize,
+    points: u32,
+    shown: &mut [u32],
+) -> Winner
+    requires { ⌜ Granted (now words) (now lines) (now store) from to minute
+        × Leading (now words) (now store) from to minute arrive points
+        × (length (now shown) ≡ 192) ⌝ }
+    ensures { λ r. ⌜ Winning (now (words .entry)) (now (store .entry)) from to minute arrive points r (now (shown .exit)) ⌝ }
+{
+    Winner {
+        found: false,
+        depart: 0,
+        rides: 0,
+    }
+}
+
+// How many words the row for an arrival minute and a penalty has.
+fn row_length(
+    words: &[u16],
+    lines: &[u16],
+    store: &[u16],
+    from: usize,
+    to: usize,
+    minute: usize,
+    arrive: usize,
+    points: u32,
+) -> usize
+    requires { ⌜ Granted (now words) (now lines) (now store) from to minute
+        × Leading (now words) (now store) from to minute arrive points ⌝ }
+    ensures { λ r. ⌜ Counted (now (words .entry)) (now (store .entry)) from to minute arrive points r × (r ≤ 192) ⌝ }
+{
+    let mut shown = [0u32; NUMBERS_MOST];
+    let x = choose(words, lines, store, from, to, minute, arrive, points, &mut shown);
+    ROW_WORDS + 3 * x.rides
+}
+
+// How many words all rows have. best has the least penalty for each minute of arrival.
+fn measure(
+    words: &[u16],
+    lines: &[u16],
+    store: &[u16],
+    from: usize,
+    to: usize,
+    minute: usize,
+    best: &[u32],
+) -> usize
+    requires { ⌜ Granted (now words) (now lines) (now store) from to minute
+        × LeastKept minute (kept (now words) (now store) from to minute) (now best)
+        × (length (now best) ≡ 2880) ⌝ }
+    ensures { λ r. ⌜ r ≡ length (rowWords (rows (now (words .entry)) (now (store .entry)) from to minute)) ⌝ }
+{
+    let mut count = 0;
+    let mut least = NO_POINTS;
+    let mut m = 0;
+    'minutes: while m < MINUTES {
+        let arrive = m;
+        let points = best[m];
+        m += 1;
+        if least <= points {
+            continue 'minutes;
+        }
+        least = points;
+        count += row_length(words, lines, store, from, to, minute, arrive, points);
+    }
+    count
+}
+
+// The minutes from one minute to a later one; none if it is not later.
+fn minutes_between(minute: usize, arrive: usize) -> u32
+    requires { ⌜ arrive < 2880 ⌝ }
+    ensures { λ r. ⌜ r ≡ arrive - minute ⌝ }
+{
+    if arrive <= minute {
+        return 0;
+    }
+    (arrive - minute) as u32
+}
+
+// Writes a row from index at on: duration, penalty, number of rides and the numbers of the rides. Answers the index
+// behind it.
+fn put_row(answer: &mut [u32], at: usize, duration: u32, points: u32, rides: usize, shown: &[u32]) -> usize
+    requires { ⌜ (rides ≤ 63) × (length (now shown) ≡ 192) × (at + (3 + 3 * rides) ≤ length (now answer)) ⌝ }
+    ensures { λ _. ⌜ now (answer .exit)
+        ≡ put at (duration ∷ points ∷ rides ∷ take (3 * rides) (now (shown .entry))) (now (answer .entry)) ⌝ }
+    ensures { λ r. ⌜ (length (now (answer .exit)) ≡ length (now (answer .entry))) × (r ≡ at + (3 + 3 * rides)) ⌝ }
+{
+    words::put_pair(answer, at, duration, points);
+    answer[at + 2] = rides as u32;
+    words::copy_long(answer, at + ROW_WORDS, shown, 3 * rides);
+    at + (ROW_WORDS + 3 * rides)
+}
+
+// Writes the row for an arrival minute and a penalty, from index at on. Answers the index behind it.
+fn write_row(
+    words: &[u16],
+    lines: &[u16],
+    store: &[u16],
+    from: usize,
+    to: usize,
+    minute: usize,
+    arrive: usize,
+    points: u32,
+    answer: &mut [u32],
+    at: usize,
+) -> usize
+    requires { ⌜ Granted (now words) (now lines) (now store) from to minute
+        × Leading (now words) (now store) from to minute arrive points
+        × (arrive < 2880)
+        × Room (now words) (now store) from to minute arrive points at (now answer) ⌝ }
+    ensures { λ r. ⌜ Written
+        (now (words .entry))
+        (now (store .entry))
+        from
+        to
+        minute
+        arrive
+        points
+        at
+        r
+        (now (answer .entry))
+        (now (answer .exit)) ⌝ }
+    ensures { λ r. ⌜ length (now (answer .exit)) ≡ length (now (answer .entry)) ⌝ }
+{
+    let mut shown = [0u32; NUMBERS_MOST];
+    let x = choose(words, lines, store, from, to, minute, arrive, points, &mut shown);
+    let duration = minutes_between(minute, arrive);
+    put_row(answer, at, duration, points, x.rides, &shown)
+}
+
+// Writes all rows, in rising duration: one for each arrival minute whose penalty is below those of all earlier minutes.
+fn write_rows(
+    words: &[u16],
+    lines: &[u16],
+    store: &[u16],
+    from: usize,
+    to: usize,
+    minute: usize,
+    best: &[u32],
+    answer: &mut [u32],
+)
+    requires { ⌜ Granted (now words) (now lines) (now store) from to minute
+        × LeastKept minute (kept (now words) (now store) from to minute) (now best)
+        × (length (now best) ≡ 2880)
+        × (length (rowWords (rows (now words) (now store) from to minute)) ≤ length (now answer)) ⌝ }
+    ensures { λ _. ⌜ now (answer .exit)
+        ≡ put 0 (rowWords (rows (now (words .entry)) (now (store .entry)) from to minute)) (now (answer .entry)) ⌝ }
+    ensures { λ _. ⌜ length (now (answer .exit)) ≡ length (now (answer .entry)) ⌝ }
+{
+    let mut here = 0;
+    let mut least = NO_POINTS;
+    let mut m = 0;
+    'minutes: while m < MINUTES {
+        let arrive = m;
+        let points = best[m];
+        m += 1;
+        if least <= points {
+            continue 'minutes;
+        }
+        least = points;
+        here = write_row(words, lines, store, from, to, minute, arrive, points, answer, here);
+    }
 }
