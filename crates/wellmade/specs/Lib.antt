@@ -1,0 +1,5 @@
+pub mod Entries
+pub mod Paths
+pub mod Depths
+pub mod Tests
+pub mod Made
