@@ -12,7 +12,7 @@ use Rattle.stores.specs.Words.{long, wellMade}
 use Rattle.wellmade.specs.Entries.{nodeCount, arcCount, nodeStation, nodeParent, arcTarget, arcBefore}
 use Rattle.wellmade.specs.Paths.{nodePath, arcPath, arc-path}
 use Rattle.wellmade.specs.Depths.{Depths, depths-start, depths-more}
-use Rattle.wellmade.specs.Tests.{presentTest, nodesTest, arcTest, risesTest, arcsTest, nodes-end, nodes-next}
+use Rattle.wellmade.specs.Tests.{presentTest, nodeTest, nodesTest, arcTest, risesTest, arcsTest, nodes-end, nodes-next}
 use Rattle.wellmade.specs.Tests.{arcs-end, arcs-next, decided, present-words, present-nodes}
 
 -- ---- a station
@@ -61,6 +61,7 @@ module _ (k : ℕ) (s : List ℕ) (n v : ℕ) (is-n : n ≡ nodeCount s) (so-far
 
   module _ (more : v < n) (x : ℕ) (is-x : x ≡ nodeStation s (v + 1)) (t : Bool) (is-t : t ≡ (leb 1 x && leb x k)) where
     node-tests : nodesTest k s 0 ≡ (t && ltb (nodeParent s (v + 1)) (suc v) && nodesTest k s (v + 1))
+    unfolding nodeTest
     node-tests = so-far ∙ nodes-next k s v (omega arith) ∙ rw (is-t, is-x)
 
     pub node-unlisted : not t ≡ true → false ≡ nodesTest k s 0

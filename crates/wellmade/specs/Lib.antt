@@ -3,3 +3,4 @@ pub mod Paths
 pub mod Depths
 pub mod Tests
 pub mod Made
+pub mod Granted

@@ -43,7 +43,12 @@ module _ (s : List ℕ) (yes : presentTest s ≡ true) where
       (and-right (leb (2 + 2 * nodeCount s + 2 * arcCount s) (length s)) _ (and-left _ (leb (arcCount s) entriesMost) yes))
 
 -- ---- the nodes
--- those behind node v
+-- node v + 1
+unfoldable pub nodeTest : (k : ℕ) (s : List ℕ) (v : ℕ) → Bool
+nodeTest k s v =
+    leb 1 (nodeStation s (v + 1)) && leb (nodeStation s (v + 1)) k && ltb (nodeParent s (v + 1)) (suc v)
+
+-- the nodes behind node v
 unfoldable pub nodesTest : (k : ℕ) (s : List ℕ) (v : ℕ) → Bool
 nodesTest k s v = nodesMade k (suc v) (drop v (nodePairs s))
 
@@ -52,18 +57,13 @@ module _ (k : ℕ) (s : List ℕ) (v : ℕ) where
   unfolding nodesTest
   nodes-end h = rw (drop-of-length-le (nodePairs s) {i = v} (omega (arith, length-nodes s)))
 
-  pub nodes-next : v < nodeCount s
-      → nodesTest k s v
-      ≡ (leb 1 (nodeStation s (v + 1))
-      && leb (nodeStation s (v + 1)) k
-      && ltb (nodeParent s (v + 1)) (suc v)
-      && nodesTest k s (v + 1))
-  unfolding nodesTest
+  pub nodes-next : v < nodeCount s → nodesTest k s v ≡ (nodeTest k s v && nodesTest k s (v + 1))
+  unfolding nodesTest nodeTest
   nodes-next h =
       rw (drop-cons (nodePairs s) v [] (omega (arith, length-nodes s)), node-at s v h, add-one v)
 
 -- ---- the arcs
--- arc k of the stations is made well, and its sequence is not too long
+-- arc i, of k stations, and its sequence is not too long
 unfoldable pub arcTest : (k : ℕ) (s : List ℕ) (i : ℕ) → Bool
 arcTest k s i =
     leb 1 (arcTarget s i)
