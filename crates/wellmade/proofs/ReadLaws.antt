@@ -1,10 +1,10 @@
 -- What a call at a node or arc makes of what the call at the node before it wrote.
 use mathlib.Core.Path.{_≡_, refl, sym, ap, _∙_}
 use mathlib.Core.List.{List, [], _∷_, _++_}
-use Prim.Native.Nat.{ℕ, suc, _+_, _*_, _≤_, _<_}
+use Prim.Native.Nat.{ℕ, _+_, _≤_, _<_}
 use native.Mathlib.Numerals.{add-one}
 use native.Mathlib.Omega.{arith}
-use lib.ListN.{length, getD, take, set, length-append, length-set}
+use lib.ListN.{length, take, set, length-append, length-set}
 use lib.Seq.{take-suc-set}
 use Rattle.wellmade.specs.Entries.{nodeCount, arcCount, nodeStation, nodeParent, arcTarget, arcBefore}
 use Rattle.wellmade.specs.Paths.{nodePath, arcPath, root-path, arc-path}
@@ -31,9 +31,6 @@ module _ (q whole : List ℕ) (x k : ℕ) (is : whole ≡ q ++ (x ∷ [])) (is-k
 
 -- ---- a node
 module _ (s : List ℕ) (node : ℕ) (m : Made s) (some : node ≡ 0 → ⊥) (known : node ≤ nodeCount s) where
-  pub node-present : 2 * node + 1 < length s
-  node-present = omega (arith, m .present)
-
   module _ (p : ℕ) (is-p : p ≡ nodeParent s node) where
     parent-falls : p < node
     parent-falls = omega (arith, node-falls s node m some known)
@@ -64,13 +61,11 @@ module _ (s : List ℕ) (node : ℕ) (m : Made s) (some : node ≡ 0 → ⊥) (k
 
           pub node-words : (y : ℕ) → y ≡ nodeStation s node → take k mid ≡ nodePath s p
               → take (k + 1) (set mid k y) ≡ nodePath s node
-          node-words y e f = written (nodePath s p) (nodePath s node) (nodeStation s node) k path is-k mid y e f node-room
+          node-words y e f =
+              written (nodePath s p) (nodePath s node) (nodeStation s node) k path is-k mid y e f node-room
 
 -- ---- an arc
 module _ (s : List ℕ) (i : ℕ) (m : Made s) (h : i < arcCount s) where
-  pub arcs-present : 2 + 2 * nodeCount s + 2 * arcCount s ≤ length s
-  arcs-present = m .present
-
   module _ (p : ℕ) (is-p : p ≡ arcBefore s i) where
     pub before-known : p ≤ nodeCount s
     before-known = omega (arith, m .known i h)
@@ -101,7 +96,8 @@ module _ (s : List ℕ) (i : ℕ) (m : Made s) (h : i < arcCount s) where
 
           pub arc-words : (y : ℕ) → y ≡ arcTarget s i → take k mid ≡ nodePath s p
               → take (k + 1) (set mid k y) ≡ arcPath s i
-          arc-words y e f = written (nodePath s p) (arcPath s i) (arcTarget s i) k arc-is is-k mid y e f arc-room
+          arc-words y e f =
+              written (nodePath s p) (arcPath s i) (arcTarget s i) k arc-is is-k mid y e f arc-room
 
 pub kept-length : (mid out : List ℕ) (k y : ℕ) → length mid ≡ length out → length (set mid k y) ≡ length out
 kept-length mid out k y e = length-set mid k y ∙ e

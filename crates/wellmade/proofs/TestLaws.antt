@@ -12,8 +12,9 @@ use Rattle.stores.specs.Words.{long, wellMade}
 use Rattle.wellmade.specs.Entries.{nodeCount, arcCount, nodeStation, nodeParent, arcTarget, arcBefore}
 use Rattle.wellmade.specs.Paths.{nodePath, arcPath, arc-path}
 use Rattle.wellmade.specs.Depths.{Depths, depths-start, depths-more}
-use Rattle.wellmade.specs.Tests.{presentTest, nodeTest, nodesTest, arcTest, risesTest, arcsTest, nodes-end, nodes-next}
-use Rattle.wellmade.specs.Tests.{arcs-end, arcs-next, decided, present-words, present-nodes}
+use Rattle.wellmade.specs.Tests.{presentTest, nodeTest, nodesTest, arcTest, risesTest, arcsTest}
+use Rattle.wellmade.specs.Tests.{present-words, present-nodes, nodes-end, nodes-next, arcs-end}
+use Rattle.wellmade.specs.Tests.{arcs-next, decided}
 
 -- ---- a station
 module _ (k x : ℕ) where
@@ -106,6 +107,7 @@ pub nothing-noted : (P : Type 0) → false ≡ true → P
 nothing-noted P e = absurd (subst T (sym e) tt)
 
 -- ---- an arc
+-- d stations before the target
 short : (d l : ℕ) → l ≡ d + 1 → not (ltb 64 (suc l)) ≡ leb d 62
 short d l e = either (leb d 62) low high
   where

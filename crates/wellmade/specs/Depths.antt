@@ -1,7 +1,7 @@
 -- How many stations the sequence of each node has, noted word by word in working space.
-use mathlib.Core.Path.{_≡_, refl, ap, subst, _∙_}
+use mathlib.Core.Path.{_≡_, ap, subst, _∙_}
 use mathlib.Core.List.{List, [], _∷_}
-use Prim.Native.Nat.{ℕ, suc, _+_, _≤_, _<_}
+use Prim.Native.Nat.{ℕ, _+_, _≤_, _<_}
 use native.Mathlib.Omega.{arith}
 use lib.Dec.{leb, leb→le, nleb→lt}
 use lib.ListN.{length, getD, set, length-append}
@@ -23,10 +23,9 @@ depths-start s w h = record { deep = deep; few = few }
     none u g = ap (λ i. getD (set w 0 0) i 0) (omega arith) ∙ getD-set-same w 0 0 0 h
 
     deep : (u : ℕ) → u ≤ 0 → getD (set w 0 0) u 0 ≡ length (nodePath s u)
-    deep u g = omega (arith, none u g, ap length (root-path s), ap (λ i. length (nodePath s i)) (zeroth u g))
-      where
-        zeroth : (u : ℕ) → u ≤ 0 → u ≡ 0
-        zeroth u g = omega arith
+    deep u g =
+        let e : u ≡ 0 = omega arith in
+        omega (arith, none u g, ap length (root-path s), ap (λ i. length (nodePath s i)) e)
 
     few : (u : ℕ) → u ≤ 0 → getD (set w 0 0) u 0 ≤ u
     few u g = omega (arith, none u g)

@@ -21,7 +21,7 @@ use Rattle.stores.specs.Sequences.{place-get, place-bound}
 use Rattle.wellmade.specs.Entries.{nodeCount, arcCount, nodeStation, nodeParent, arcTarget, arcBefore}
 use Rattle.wellmade.specs.Paths.{nodePath, arcPath, root-path, next-path, arc-path, length-readable}
 use Rattle.wellmade.specs.Tests.{presentTest, nodeTest, nodesTest, arcTest, risesTest, arcsTest}
-use Rattle.wellmade.specs.Tests.{present-words, nodes-next, arcs-next, decided}
+use Rattle.wellmade.specs.Tests.{present-words, present-nodes, present-arcs, nodes-next, arcs-next, decided}
 use Rattle.wellmade.specs.Made.{Made}
 
 passed : (b : Bool) → b ≡ true → T b
@@ -59,6 +59,12 @@ module _ (s : List ℕ) where
     omega (arith, length-readable s, place-bound p (readable s) m),
     place-get p (readable s) m,
   )
+
+-- "Arcs rise by target, then predecessor."
+abbrev pub Rises : List ℕ → ℕ → Type 0
+Rises s i =
+    (arcTarget s i < arcTarget s (i + 1))
+    ⊎ ((arcTarget s i ≡ arcTarget s (i + 1)) × (arcBefore s i < arcBefore s (i + 1)))
 
 -- ---- what was tested of each node and arc
 module _ (k : ℕ) (s : List ℕ) (yes : wellMade k s ≡ true) where
@@ -132,10 +138,7 @@ module _ (k : ℕ) (s : List ℕ) (yes : wellMade k s ≡ true) where
         let l : T (not (long (arcPath s i))) = search reads in
         omega (arith, nltb→le 64 (suc (length (arcPath s i))) l)
 
-    -- "Arcs rise by target, then predecessor."
-    pub arc-rises : i + 1 < arcCount s
-        → (arcTarget s i < arcTarget s (i + 1))
-            ⊎ ((arcTarget s i ≡ arcTarget s (i + 1)) × (arcBefore s i < arcBefore s (i + 1)))
+    pub arc-rises : i + 1 < arcCount s → Rises s i
     unfolding risesTest
     arc-rises more = go (or-cases (leb (arcCount s) (i + 1)) _ (passed (risesTest s i) rises))
       where
@@ -144,23 +147,29 @@ module _ (k : ℕ) (s : List ℕ) (yes : wellMade k s ≡ true) where
 
         go : T (leb (arcCount s) (i + 1))
             ⊎ T (before (arcTarget s i ∷ arcBefore s i ∷ []) (arcTarget s (i + 1) ∷ arcBefore s (i + 1) ∷ []))
-            → (arcTarget s i < arcTarget s (i + 1))
-                ⊎ ((arcTarget s i ≡ arcTarget s (i + 1)) × (arcBefore s i < arcBefore s (i + 1)))
+            → Rises s i
         go (inl t) = absurd (omega (arith, leb→le (arcCount s) (i + 1) t))
         go (inr t) =
-            elim (before-cases (arcTarget s i) (arcTarget s (i + 1)) (arcBefore s i ∷ []) (arcBefore s (i + 1) ∷ []) t) [
-              inl l ↦ inl l
-            | inr e ↦
-              elim (before-cases (arcBefore s i) (arcBefore s (i + 1)) [] [] (e .1)) [
-                inl l ↦ inr (e .0, l)
-              | inr f ↦ absurd (f .1)
-              ]
+            let b : ℕ = arcBefore s i in
+            let c : ℕ = arcBefore s (i + 1) in
+            elim (before-cases (arcTarget s i) (arcTarget s (i + 1)) (b ∷ []) (c ∷ []) t) [
+              | inl l ↦ inl l
+              | inr e ↦ elim (before-cases b c [] [] (e .1)) [ inl l ↦ inr (e .0, l) | inr f ↦ absurd (f .1) ]
             ]
+
+  present : presentTest s ≡ true
+  present = and-left (presentTest s) (nodesTest k s 0) first-tests
+
+  pub few-nodes : nodeCount s ≤ 16383
+  few-nodes = present-nodes s present
+
+  pub few-arcs : arcCount s ≤ 16383
+  few-arcs = present-arcs s present
 
   pub made : Made s
   made =
       record {
-        present = present-words s (and-left (presentTest s) (nodesTest k s 0) first-tests);
+        present = present-words s present;
         falls = node-below;
         known = arc-known;
         short = arc-short;
@@ -200,7 +209,11 @@ module _ (k : ℕ) (s : List ℕ) (yes : wellMade k s ≡ true) where
       subst
       (Within k)
       (sym (arc-path s i h))
-      (last-listed (nodePath s (arcBefore s i)) (arcTarget s i) (node-within (arcBefore s i) (arc-known i h)) (arc-listed i h))
+      (last-listed
+      (nodePath s (arcBefore s i))
+      (arcTarget s i)
+      (node-within (arcBefore s i) (arc-known i h))
+      (arc-listed i h))
 
   -- ---- targets rise
   target-next : (i : ℕ) → i + 1 < arcCount s → arcTarget s i ≤ arcTarget s (i + 1)

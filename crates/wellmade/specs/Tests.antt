@@ -1,17 +1,16 @@
 -- Question 13 in the order in which it is decided: the counts, the nodes one by one, the arcs one by one.
-use mathlib.Core.Path.{_≡_, refl, sym, ap, _∙_}
+use mathlib.Core.Path.{_≡_, refl, sym, ap, subst, _∙_}
 use mathlib.Core.Bool.{Bool, true, false, not, _&&_, _||_}
 use mathlib.Core.List.{List, [], _∷_, map}
 use Prim.Native.Nat.{ℕ, suc, _+_, _*_, _≤_, _<_}
 use native.Mathlib.Numerals.{add-one}
 use native.Mathlib.Omega.{arith}
-use borrow.Author.Tests.{le-leb, lt-leb, leb-true}
+use borrow.Author.Tests.{le-leb, lt-leb}
 use lib.Dec.{T, leb, ltb, leb→le, nleb→lt}
-use lib.ListN.{length, getD, drop, drop-of-length-le}
+use lib.ListN.{length, drop, drop-of-length-le}
 use lib.Seq.{drop-cons}
-use Rattle.questions.specs.Question.{and-left, and-right}
 use Rattle.lists.specs.Lists.{any, before}
-use Rattle.lists.specs.Tests.{either}
+use Rattle.lists.specs.Tests.{either, reads}
 use Rattle.stores.specs.Words.{nodePairs, arcPairs, follow, chains, readable, nodesMade, arcsMade, arcsRise, long}
 use Rattle.stores.specs.Words.{entriesMost, wellMade}
 use Rattle.wellmade.specs.Entries.{nodeCount, arcCount, nodeStation, nodeParent, arcTarget, arcBefore}
@@ -26,21 +25,20 @@ presentTest s =
     && leb (arcCount s) entriesMost
 
 module _ (s : List ℕ) (yes : presentTest s ≡ true) where
+  tests : T (presentTest s)
+  tests = subst T (sym yes) tt
+
   pub present-words : 2 + 2 * nodeCount s + 2 * arcCount s ≤ length s
   unfolding presentTest
-  present-words =
-      leb-true
-      (2 + 2 * nodeCount s + 2 * arcCount s)
-      (length s)
-      (and-left _ (leb (nodeCount s) entriesMost) (and-left _ (leb (arcCount s) entriesMost) yes))
+  present-words = let t = tests in search reads
 
   pub present-nodes : nodeCount s ≤ entriesMost
   unfolding presentTest
-  present-nodes =
-      leb-true
-      (nodeCount s)
-      entriesMost
-      (and-right (leb (2 + 2 * nodeCount s + 2 * arcCount s) (length s)) _ (and-left _ (leb (arcCount s) entriesMost) yes))
+  present-nodes = let t = tests in search reads
+
+  pub present-arcs : arcCount s ≤ entriesMost
+  unfolding presentTest
+  present-arcs = let t = tests in search reads
 
 -- ---- the nodes
 -- node v + 1
@@ -111,13 +109,14 @@ module _ (k : ℕ) (s : List ℕ) (i : ℕ) where
   arcs-left i h =
       drop-cons (arcPairs s) i [] (omega (arith, length-arcs s)) ∙ rw (arc-at s i h, add-one i)
 
-  rise-next : i < arcCount s
-      → arcsRise (arc i ∷ drop (i + 1) (arcPairs s)) ≡ (risesTest s i && arcsRise (drop (i + 1) (arcPairs s)))
+  abbrev RiseNext : Type 0
+  RiseNext = arcsRise (arc i ∷ drop (i + 1) (arcPairs s)) ≡ (risesTest s i && arcsRise (drop (i + 1) (arcPairs s)))
+
+  rise-next : i < arcCount s → RiseNext
   unfolding risesTest
   rise-next h = either (leb (arcCount s) (i + 1)) at-end before-end
     where
-      at-end : T (leb (arcCount s) (i + 1))
-          → arcsRise (arc i ∷ drop (i + 1) (arcPairs s)) ≡ (risesTest s i && arcsRise (drop (i + 1) (arcPairs s)))
+      at-end : T (leb (arcCount s) (i + 1)) → RiseNext
       at-end t =
           let g = leb→le (arcCount s) (i + 1) t in
           rw (
@@ -125,8 +124,7 @@ module _ (k : ℕ) (s : List ℕ) (i : ℕ) where
             le-leb (arcCount s) (i + 1) g,
           )
 
-      before-end : T (not (leb (arcCount s) (i + 1)))
-          → arcsRise (arc i ∷ drop (i + 1) (arcPairs s)) ≡ (risesTest s i && arcsRise (drop (i + 1) (arcPairs s)))
+      before-end : T (not (leb (arcCount s) (i + 1))) → RiseNext
       before-end t =
           let g = nleb→lt (arcCount s) (i + 1) t in
           rw (arcs-left (i + 1) g, lt-leb (arcCount s) (i + 1) g)
@@ -135,7 +133,8 @@ module _ (k : ℕ) (s : List ℕ) (i : ℕ) where
   unfolding arcsTest arcTest nodePath
   arcs-next h =
       ap (λ l. arcsMade k n l && arcsRise l && not (any long (map f l))) (arcs-left i h)
-      ∙ (λ z. listed && arcsMade k n rest && rise-next h z && not (long (sym (arc-path s i h) z) || any long (map f rest)))
+      ∙ (λ z.
+      listed && arcsMade k n rest && rise-next h z && not (long (sym (arc-path s i h) z) || any long (map f rest)))
       ∙ weave listed (arcsMade k n rest) (risesTest s i) (arcsRise rest) (long (arcPath s i)) (any long (map f rest))
     where
       n : ℕ

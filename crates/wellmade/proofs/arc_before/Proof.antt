@@ -1,58 +1,19 @@
+-- The words of the arcs stand behind those of the nodes, the predecessor second.
 use borrow.Author.Needs.{needs}
 use Rattle.wellmade.proofs.arc_before.Statement.{statement}
 use Rattle.wellmade.proofs.arc_before.Tie as tie
-use Rattle.wellmade.proofs.arc_before.Reads as reads
-use Rattle.wellmade.proofs.arc_before.Lts as lts
-use Rattle.wellmade.proofs.node_count.Reads as node-count-reads
-use Rattle.words.proofs.word.Reads as word-reads
 use Rattle.wellmade.proofs.EntryLaws.{before-read}
-
--- src/lib.rt:53:32
-node-count-requires : tie.Need-node-count-requires
-node-count-requires c κs = search needs
-
--- src/lib.rt:53:28
-mul-word : tie.Need-mul-word
-mul-word c = search needs
-
--- src/lib.rt:53:24
-add-word : tie.Need-add-word
-add-word c = search needs
-
--- src/lib.rt:53:52
-mul-word-2 : tie.Need-mul-word-2
-mul-word-2 c = search needs
-
--- src/lib.rt:53:24
-add-word-2 : tie.Need-add-word-2
-add-word-2 c = search needs
-
--- src/lib.rt:53:24
-add-word-3 : tie.Need-add-word-3
-add-word-3 c = search needs
-
--- src/lib.rt:53:5
-word-requires : tie.Need-word-requires
-word-requires c κs = search needs
-
--- src/lib.rt:53:5
-cast-result : tie.Need-cast-result
-cast-result c = search needs
-
--- src/lib.rt:48:1
-returns : tie.Need-returns
-returns c = (search before-read, search needs)
 
 pub arc-before-spec : {M : Type 1} → statement M
 arc-before-spec =
     tie.close
     (tie.spec
-    node-count-requires
-    mul-word
-    add-word
-    mul-word-2
-    add-word-2
-    add-word-3
-    word-requires
-    cast-result
-    returns)
+    (λ c. search needs)
+    (λ c. search needs)
+    (λ c. search needs)
+    (λ c. search needs)
+    (λ c. search needs)
+    (λ c. search needs)
+    (λ c. search needs)
+    (λ c. search needs)
+    (λ c. (search before-read, search needs)))
