@@ -1,1 +1,2 @@
 pub mod LowestLaws
+pub mod RideLaws
