@@ -1,8 +1,10 @@
 // The least penalties along one stored pattern, change by change: for each minute the least with which one is ready to
 // board at the present station by then.
 ghost use mathlib.Core.Path.{_≡_};
+ghost use mathlib.Core.Bool.{true, not};
 ghost use Prim.Native.Nat.{_+_, _-_, _≤_, _<_};
 ghost use lib.ListN.{length, getD};
+ghost use Rattle.timetable.specs.Words.{isTimetable};
 ghost use Rattle.lookup.specs.Lookup.{callsPlace};
 ghost use Rattle.direct.specs.Candidates.{allRead};
 ghost use Rattle.direct.specs.Choosing.{noPoints};
@@ -10,6 +12,8 @@ ghost use Rattle.direct.specs.Turns.{lowered};
 ghost use Rattle.layers.specs.Lowest.{lowest};
 ghost use Rattle.layers.specs.Layering.{takenAll, startOf, firstValue};
 ghost use Rattle.layers.specs.Fitting.{Fits, Fitting};
+ghost use Rattle.layers.specs.Turning.{held};
+ghost use Rattle.layers.specs.Onward.{Listed, changeWords};
 use results::Cost;
 use results::Minutes;
 use results::Points;
@@ -120,5 +124,110 @@ fn note_rides(
     while c.more {
         note_ride(p, riding::tell(lines, c), change, best);
         c = riding::next(lines, from, to, earliest, c);
+    }
+}
+
+// One ride and the change at its end: from the least penalties at station from to those at station to. Answers the
+// first minute by which one is ready there.
+fn step(
+    words: &[u16],
+    lines: &[u16],
+    from: usize,
+    to: usize,
+    earliest: usize,
+    p: &[u32],
+    q: &mut [u32],
+) -> usize
+    requires { ⌜ (16384 ≤ length (now words)) × (isTimetable (now words) ≡ true) × Listed (now words) to ⌝ }
+    requires { ⌜ (1 ≤ from) × (from ≤ 64) × (callsPlace (now lines) from ≤ length (now lines)) ⌝ }
+    requires { ⌜ (length (now p) ≡ 2880)
+        × (length (now q) ≡ 2880)
+        × Fitting (now p) (allRead (now lines) from earliest to) ⌝ }
+    ensures { λ _. ⌜ now (q .exit)
+        ≡ changeWords (now (words .entry)) (now (p .entry)) to (allRead (now (lines .entry)) from earliest to) ⌝ }
+    ensures { λ _. ⌜ length (now (q .exit)) ≡ length (now (q .entry)) ⌝ }
+    ensures { λ r. ⌜ (r ≡ firstValue (now (q .exit))) × (r ≤ 2880) ⌝ }
+{
+    let change = timetable::station_at(words, to - 1);
+    direct::fill_blank(q);
+    note_rides(lines, from, to, earliest, p, change, q);
+    lowest_so_far(q);
+    first_value(q)
+}
+
+// The last ride: notes for each minute of arrival the least penalty.
+fn finish(lines: &[u16], from: usize, to: usize, earliest: usize, p: &[u32], best: &mut [u32])
+    requires { ⌜ (1 ≤ from) × (from ≤ 64) × (callsPlace (now lines) from ≤ length (now lines)) ⌝ }
+    requires { ⌜ (length (now p) ≡ 2880) × Fitting (now p) (allRead (now lines) from earliest to) ⌝ }
+    ensures { λ _. ⌜ now (best .exit)
+        ≡ takenAll (now (p .entry)) 0 0 (now (best .entry)) (allRead (now (lines .entry)) from earliest to) ⌝ }
+    ensures { λ _. ⌜ length (now (best .exit)) ≡ length (now (best .entry)) ⌝ }
+{
+    let none = Station {
+        minutes: 0,
+        points: 0,
+    };
+    note_rides(lines, from, to, earliest, p, none, best);
+}
+
+// A step from the array that holds the present penalties, q if they have changed places, to the other.
+fn step_turned(
+    words: &[u16],
+    lines: &[u16],
+    from: usize,
+    to: usize,
+    earliest: usize,
+    turned: bool,
+    p: &mut [u32],
+    q: &mut [u32],
+) -> usize
+    requires { ⌜ (16384 ≤ length (now words)) × (isTimetable (now words) ≡ true) × Listed (now words) to ⌝ }
+    requires { ⌜ (1 ≤ from) × (from ≤ 64) × (callsPlace (now lines) from ≤ length (now lines)) ⌝ }
+    requires { ⌜ (length (now p) ≡ 2880)
+        × (length (now q) ≡ 2880)
+        × Fitting (held turned (now p) (now q)) (allRead (now lines) from earliest to) ⌝ }
+    ensures { λ _. ⌜ held (not turned) (now (p .exit)) (now (q .exit))
+        ≡ changeWords
+        (now (words .entry))
+        (held turned (now (p .entry)) (now (q .entry)))
+        to
+        (allRead (now (lines .entry)) from earliest to) ⌝ }
+    ensures { λ _. ⌜ (length (now (p .exit)) ≡ 2880) × (length (now (q .exit)) ≡ 2880) ⌝ }
+    ensures { λ r. ⌜ (r ≡ firstValue (held (not turned) (now (p .exit)) (now (q .exit)))) × (r ≤ 2880) ⌝ }
+{
+    if turned {
+        return step(words, lines, from, to, earliest, q, p);
+    }
+    step(words, lines, from, to, earliest, p, q)
+}
+
+// The last ride, likewise.
+fn finish_turned(
+    lines: &[u16],
+    from: usize,
+    to: usize,
+    earliest: usize,
+    turned: bool,
+    p: &[u32],
+    q: &[u32],
+    best: &mut [u32],
+)
+    requires { ⌜ (1 ≤ from) × (from ≤ 64) × (callsPlace (now lines) from ≤ length (now lines)) ⌝ }
+    requires { ⌜ (length (now p) ≡ 2880)
+        × (length (now q) ≡ 2880)
+        × Fitting (held turned (now p) (now q)) (allRead (now lines) from earliest to) ⌝ }
+    ensures { λ _. ⌜ now (best .exit)
+        ≡ takenAll
+        (held turned (now (p .entry)) (now (q .entry)))
+        0
+        0
+        (now (best .entry))
+        (allRead (now (lines .entry)) from earliest to) ⌝ }
+    ensures { λ _. ⌜ length (now (best .exit)) ≡ length (now (best .entry)) ⌝ }
+{
+    if turned {
+        finish(lines, from, to, earliest, q, best);
+    } else {
+        finish(lines, from, to, earliest, p, best);
     }
 }
