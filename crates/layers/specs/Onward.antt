@@ -34,8 +34,8 @@ pub record Listed (w : List ℕ) (x : ℕ) : Type 0 where
   pub some : 1 ≤ x
   pub inside : x ≤ stationCount w
 
--- the words of the change at station y
-abbrev pub changeWords : List ℕ → (p : List ℕ) → (y : ℕ) → List Ride → List ℕ
+-- behind some rides to station y and the change there
+unfoldable pub changeWords : (w p : List ℕ) (y : ℕ) → List Ride → List ℕ
 changeWords w p y l = stepOf p (stationAt w (y - 1) .minutes) (stationAt w (y - 1) .points) l
 
 module _ (w : List ℕ) (accepted : isTimetable w ≡ true) where
@@ -116,6 +116,7 @@ module _ (w : List ℕ) (accepted : isTimetable w ≡ true) where
 
       pub step-on : Listed w y
           → Ready (net t) a u (y ∷ rev) y (firstValue (changeWords w p y l)) (changeWords w p y l)
+      unfolding changeWords
       step-on j =
           subst
           (λ s. (let q = stepOf p (s .minutes) (s .points) l in Ready (net t) a u (y ∷ rev) y (firstValue q) q))

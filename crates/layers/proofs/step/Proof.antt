@@ -1,3 +1,4 @@
+use Rattle.layers.proofs.StepLaws.{place-few, change-minutes, change-points, step-is}
 use borrow.Author.Needs.{needs}
 use Rattle.layers.proofs.step.Statement.{statement}
 use Rattle.layers.proofs.step.Tie as tie
@@ -15,7 +16,7 @@ sub-station-at c = search needs
 
 -- src/lib.rt:151:9
 station-at-requires : tie.Need-station-at-requires
-station-at-requires c κs = ?
+station-at-requires c κs = (search needs, search place-few)
 
 -- src/lib.rt:152:5
 fill-blank-requires : tie.Need-fill-blank-requires
@@ -23,7 +24,7 @@ fill-blank-requires c κs = search needs
 
 -- src/lib.rt:153:5
 note-rides-requires : tie.Need-note-rides-requires
-note-rides-requires c κs = ?
+note-rides-requires c κs = (search needs, (search needs, search needs, search change-minutes, search change-points))
 
 -- src/lib.rt:154:5
 lowest-so-far-requires : tie.Need-lowest-so-far-requires
@@ -39,7 +40,7 @@ same-length c = search needs
 
 -- src/lib.rt:132:1
 returns : tie.Need-returns
-returns c = ?
+returns c = (search step-is, (search needs, search needs))
 
 pub step-spec : {M : Type 1} → statement M
 step-spec =
