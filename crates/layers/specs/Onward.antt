@@ -34,6 +34,10 @@ pub record Listed (w : List ℕ) (x : ℕ) : Type 0 where
   pub some : 1 ≤ x
   pub inside : x ≤ stationCount w
 
+-- so are the first r stations of a path
+pub record Stations (w path : List ℕ) (r : ℕ) : Type 0 where
+  pub listed : (k : ℕ) → k < r → Listed w (getD path k 0)
+
 -- behind some rides to station y and the change there
 unfoldable pub changeWords : (w p : List ℕ) (y : ℕ) → List Ride → List ℕ
 changeWords w p y l = stepOf p (stationAt w (y - 1) .minutes) (stationAt w (y - 1) .points) l

@@ -4,8 +4,10 @@ ghost use mathlib.Core.Path.{_≡_};
 ghost use mathlib.Core.Bool.{true, not};
 ghost use Prim.Native.Nat.{_+_, _-_, _≤_, _<_};
 ghost use lib.ListN.{length, getD};
-ghost use Rattle.timetable.specs.Words.{isTimetable};
+ghost use Rattle.timetable.specs.Words.{timetableOf, isTimetable};
+ghost use Rattle.connections.specs.Connections.{net};
 ghost use Rattle.lookup.specs.Lookup.{callsPlace};
+ghost use Rattle.checking.specs.Question10.{areTables};
 ghost use Rattle.direct.specs.Candidates.{allRead};
 ghost use Rattle.direct.specs.Choosing.{noPoints};
 ghost use Rattle.direct.specs.Turns.{lowered};
@@ -13,7 +15,9 @@ ghost use Rattle.layers.specs.Lowest.{lowest};
 ghost use Rattle.layers.specs.Layering.{takenAll, startOf, firstValue};
 ghost use Rattle.layers.specs.Fitting.{Fits, Fitting};
 ghost use Rattle.layers.specs.Turning.{held};
-ghost use Rattle.layers.specs.Onward.{Listed, changeWords};
+ghost use Rattle.layers.specs.Onward.{Listed, Stations, changeWords};
+ghost use Rattle.layers.specs.Patterns.{changesTo};
+ghost use Rattle.layers.specs.Lowered.{Lowered};
 use results::Cost;
 use results::Minutes;
 use results::Points;
@@ -229,5 +233,55 @@ fn finish_turned(
         finish(lines, from, to, earliest, q, best);
     } else {
         finish(lines, from, to, earliest, p, best);
+    }
+}
+
+// Lowers the penalties of the arrival minutes to those of the connections of one pattern: from the source at the minute
+// or later, with changes at the first r - 1 stations of the path, to the station behind them.
+pub fn note_pattern(
+    words: &[u16],
+    lines: &[u16],
+    source: usize,
+    minute: usize,
+    path: &[u16],
+    r: usize,
+    best: &mut [u32],
+)
+    requires { ⌜ (16384 ≤ length (now words))
+        × (isTimetable (now words) ≡ true)
+        × (areTables (now words) (now lines) ≡ true) ⌝ }
+    requires { ⌜ Listed (now words) source × (minute < 2880) ⌝ }
+    requires { ⌜ (1 ≤ r) × (r ≤ length (now path)) × Stations (now words) (now path) r ⌝ }
+    requires { ⌜ length (now best) ≡ 2880 ⌝ }
+    ensures { λ _. ⌜ Lowered
+        (net (timetableOf (now (words .entry))))
+        source
+        minute
+        (changesTo (now (path .entry)) (r - 1))
+        (getD (now (path .entry)) (r - 1) 0)
+        (now (best .entry))
+        (now (best .exit)) ⌝ }
+    ensures { λ _. ⌜ length (now (best .exit)) ≡ length (now (best .entry)) ⌝ }
+{
+    let mut p = [NO_POINTS; MINUTES];
+    let mut q = [NO_POINTS; MINUTES];
+    start(minute, &mut p);
+    let mut turned = false;
+    let mut from = source;
+    let mut earliest = minute;
+    let mut j = 0;
+    'pattern: loop {
+        let to = words::word(path, j) as usize;
+        if j + 1 == r {
+            finish_turned(lines, from, to, earliest, turned, &p, &q, best);
+            break 'pattern;
+        }
+        earliest = step_turned(words, lines, from, to, earliest, turned, &mut p, &mut q);
+        if MINUTES <= earliest {
+            break 'pattern;
+        }
+        turned = !turned;
+        from = to;
+        j += 1;
     }
 }
