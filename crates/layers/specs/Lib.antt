@@ -4,4 +4,6 @@ pub mod Layering
 pub mod Fitting
 pub mod Taken
 pub mod Readies
+pub mod Turning
 pub mod Patterns
+pub mod Onward

@@ -10,7 +10,7 @@ use lib.Dec.{T}
 use lib.ListN.{length, getD, take, drop}
 use lib.Seq.{take-suc, take-add}
 use Rattle.timetable.specs.Timetable.{Timetable, valid}
-use Rattle.connections.specs.Connections.{net}
+use Rattle.connections.specs.Connections.{Net, net}
 use Rattle.reckoning.specs.Along.{Along, Ends}
 use Rattle.reckoning.specs.Bounds.{penaltyMost, reach-most}
 use Rattle.direct.specs.Choosing.{noPoints}
@@ -39,34 +39,37 @@ module _ (path : List ℕ) (j : ℕ) where
   changes-later k =
       ap (λ l. reverseAux l []) (take-add j k path) ∙ reverse-behind (take j path) (take k (drop j path)) []
 
-module _ (tt : Timetable) (ok : T (valid tt)) (a t : ℕ) where
-  -- no one is ready along these changes
-  pub record Nowhere (rev : List ℕ) : Type 0 where
-    pub none : (x u p : ℕ) → u < 2880 → ¬ Along (net tt) a t rev x u p
+-- no one is ready along these changes
+pub record Nowhere (n : Net) (a t : ℕ) (rev : List ℕ) : Type 0 where
+  pub none : (x u p : ℕ) → u < 2880 → ¬ Along n a t rev x u p
 
-  pub nowhere : (rev : List ℕ) (x : ℕ) (p : List ℕ) → Ready tt ok a t rev x 2880 p → Nowhere rev
+module _ (tt : Timetable) (ok : T (valid tt)) (a t : ℕ) where
+  abbrev n : Net
+  n = net tt
+
+  pub nowhere : (rev : List ℕ) (x : ℕ) (p : List ℕ) → Ready n a t rev x 2880 p → Nowhere n a t rev
   nowhere rev x p is = record { none = none }
     where
-      none : (y u c : ℕ) → u < 2880 → ¬ Along (net tt) a t rev y u c
+      none : (y u c : ℕ) → u < 2880 → ¬ Along n a t rev y u c
       none y u c h g =
           let low = is .least .below y u c h g in
           let few = reach-most tt ok a t y u c (record { changed = rev; along = g }) in
           let here = value-some x p y u (omega (arith, low, few)) in
           omega (arith, low, few, value-here x p y u here, is .none u h)
 
-  nowhere-next : (y : ℕ) (rev : List ℕ) → Nowhere rev → Nowhere (y ∷ rev)
+  nowhere-next : (y : ℕ) (rev : List ℕ) → Nowhere n a t rev → Nowhere n a t (y ∷ rev)
   nowhere-next y rev z =
       record {
         none = λ x u p h g. (let r = g .ride in z .none (r .from) (r .depart) (g .paid) (leaves tt ok a t r (g .listed)) (g .below));
       }
 
-  nowhere-on : (l rev : List ℕ) → Nowhere rev → Nowhere (reverseAux l rev)
+  nowhere-on : (l rev : List ℕ) → Nowhere n a t rev → Nowhere n a t (reverseAux l rev)
   nowhere-on [] rev z = z
   nowhere-on (y ∷ l) rev z = nowhere-on l (y ∷ rev) (nowhere-next y rev z)
 
   -- so there is nothing to note
-  pub nowhere-lowered : (path : List ℕ) (j k : ℕ) → j ≤ k → Nowhere (changesTo path j) → (b : ℕ) (old : List ℕ)
-      → Lowered (net tt) a t (changesTo path k) b old old
+  pub nowhere-lowered : (path : List ℕ) (j k : ℕ) → j ≤ k → Nowhere n a t (changesTo path j) → (b : ℕ) (old : List ℕ)
+      → Lowered n a t (changesTo path k) b old old
   nowhere-lowered path j k h z b old =
       record {
         long = refl;
@@ -79,9 +82,9 @@ module _ (tt : Timetable) (ok : T (valid tt)) (a t : ℕ) where
       all : j + (k - j) ≡ k
       all = omega arith
 
-      on : Nowhere (changesTo path k)
+      on : Nowhere n a t (changesTo path k)
       on =
           subst
-          Nowhere
+          (Nowhere n a t)
           (sym (changes-later path j (k - j)) ∙ ap (changesTo path) all)
           (nowhere-on (take (k - j) (drop j path)) (changesTo path j) z)

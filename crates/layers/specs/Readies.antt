@@ -66,17 +66,17 @@ pub record Between (n : Net) (x y e : ℕ) (l : List Ride) : Type 0 where
   pub timely : (r : Ride) → r ∈ l → e ≤ r .depart
   pub all : (r : Ride) → r ∈ n .rides → r .from ≡ x → r .to ≡ y → e ≤ r .depart → r ∈ l
 
+-- Along rev, from station a at minute t on, one is ready to board at station x by minute u for word u of p at the least,
+-- from minute e on; before it not at all.
+pub record Ready (n : Net) (a t : ℕ) (rev : List ℕ) (x e : ℕ) (p : List ℕ) : Type 0 where
+  pub long : length p ≡ 2880
+  pub least : LeastAlong n a t noPoints 2880 rev (valueAt x p)
+  pub none : (m : ℕ) → m < e → kept p m ≡ noPoints
+  pub low : (m : ℕ) → e ≤ m → m < 2880 → kept p m ≤ penaltyMost
+
 module _ (tt : Timetable) (ok : T (valid tt)) (a t : ℕ) where
   abbrev n : Net
   n = net tt
-
-  -- Along rev one is ready to board at station x by minute u for word u of p at the least, from minute e on; before it
-  -- not at all.
-  pub record Ready (rev : List ℕ) (x e : ℕ) (p : List ℕ) : Type 0 where
-    pub long : length p ≡ 2880
-    pub least : LeastAlong n a t noPoints 2880 rev (valueAt x p)
-    pub none : (m : ℕ) → m < e → kept p m ≡ noPoints
-    pub low : (m : ℕ) → e ≤ m → m < 2880 → kept p m ≤ penaltyMost
 
   -- every ride leaves within the two days
   pub leaves : (r : Ride) → r ∈ n .rides → r .depart < 2880
@@ -152,7 +152,7 @@ module _ (tt : Timetable) (ok : T (valid tt)) (a t : ℕ) where
                   | no g ↦ omega arith
                 ]
 
-    pub start-ready : Ready [] a t (startOf t)
+    pub start-ready : Ready n a t [] a t (startOf t)
     start-ready =
         record {
           long = start-long;
@@ -162,7 +162,7 @@ module _ (tt : Timetable) (ok : T (valid tt)) (a t : ℕ) where
         }
 
   -- ---- on from what is so
-  module _ (rev : List ℕ) (x e : ℕ) (p : List ℕ) (is : Ready rev x e p) (y : ℕ) (l : List Ride) (b : Between n x y e l) where
+  module _ (rev : List ℕ) (x e : ℕ) (p : List ℕ) (is : Ready n a t rev x e p) (y : ℕ) (l : List Ride) (b : Between n x y e l) where
     -- what was paid before a ride
     before : (r : Ride) → r ∈ n .rides → r .from ≡ x → getD p (r .depart) 0 ≡ valueAt x p (r .from) (r .depart)
     before r m h =
@@ -243,7 +243,7 @@ module _ (tt : Timetable) (ok : T (valid tt)) (a t : ℕ) where
       unfolding firstValue
       first = foremost (λ m. ltb (getD q m 0) noPoints) 0 2880
 
-      pub step-ready : Ready (y ∷ rev) y (firstValue q) q
+      pub step-ready : Ready n a t (y ∷ rev) y (firstValue q) q
       step-ready = record { long = s .long; least = least; none = none; low = low }
         where
           word : (m : ℕ) → m < 2880 → getD q m 0 ≡ kept q m
