@@ -19,19 +19,9 @@ use Rattle.reckoning.specs.AlongLaws.{Sequenced, sequence-ends, reverse-twice}
 use Rattle.stores.specs.Words.{readable, keptList}
 use Rattle.stores.specs.KeptLaws.{kept-exactly}
 use Rattle.direct.specs.Choosing.{noPoints, blank}
+use Rattle.direct.specs.Noted.{getD-any}
+use Rattle.layers.specs.Lowered.{Lowered}
 use Rattle.asking.specs.Rowed.{At, LeastKept, Bounds}
-
--- one sequence more: no word rises, and each is what it was or what one of the sequence pays
-pub record Lowered (n : Net) (a t : ℕ) (rev : List ℕ) (b : ℕ) (old new : List ℕ) : Type 0 where
-  pub long : length new ≡ length old
-  pub falls : (m : ℕ) → m < 2880 → getD new m 0 ≤ getD old m 0
-  pub from : (m : ℕ) → m < 2880 → (getD new m 0 ≡ getD old m 0) ⊎ Ends n a t rev b m (getD new m 0)
-  pub below : (m p : ℕ) → m < 2880 → Ends n a t rev b m p → getD new m 0 ≤ p
-
-getD-inside : (l : List ℕ) (i d e : ℕ) → i < length l → getD l i d ≡ getD l i e
-getD-inside [] i d e h = absurd (omega arith)
-getD-inside (x ∷ l) zero d e h = refl
-getD-inside (x ∷ l) (suc i) d e h = getD-inside l i d e (omega arith)
 
 -- the last station of a connection is where it ends
 stations-end : (n : Net) (x u b : ℕ) (c : Connection) (m : List ℕ) → Feasible n x u b c
@@ -114,10 +104,18 @@ module _ (n : Net) (ok : Sound n) (s : List ℕ) (a u b : ℕ) where
         }
 
     module _ (rev : List ℕ) (e : this ≡ reverseAux rev (b ∷ [])) (new : List ℕ) (l : Lowered n a u rev b w new) where
+      -- within the array what is read past its end does not matter
+      before-is : (m : ℕ) → m < 2880 → getD w m noPoints ≡ getD w m 0
+      before-is m h = getD-any w m noPoints 0 (omega (arith, so-far .long))
+
+      after-is : (m : ℕ) → m < 2880 → getD new m noPoints ≡ getD new m 0
+      after-is m h = getD-any new m noPoints 0 (omega (arith, l .long, so-far .long))
+
       attained : (m : ℕ) → m < 2880 → getD new m 0 < noPoints → Held (suc k) m (getD new m 0)
-      attained m h g = elim (l .from m h) [
-        | inl z ↦ old z
-        | inr z ↦ fresh (sequence-ends n a u rev b m (getD new m 0) .0 z)
+      attained m h g = elim (l .stems m) [
+        | inl z ↦ old (sym (after-is m h) ∙ z ∙ before-is m h)
+        | inr z ↦
+          fresh (sequence-ends n a u rev b m (getD new m 0) .0 (subst (Ends n a u rev b m) (after-is m h) z))
       ]
         where
           old : getD new m 0 ≡ getD w m 0 → Held (suc k) m (getD new m 0)
@@ -145,11 +143,19 @@ module _ (n : Net) (ok : Sound n) (s : List ℕ) (a u b : ℕ) where
           low c f i =
               let h = arrives-in-time n ok a u b c f in
               cases (stations c) i
-              (λ z. omega (arith, l .falls (arrival c) h, so-far .low c f z))
               (λ z.
-              l .below (arrival c) (penalty c) h
-              (sequence-ends n a u rev b (arrival c) (penalty c) .1
-              (record { connection = c; feasible = f; sequence = z ∙ e; arrives = refl; pays = refl })))
+              omega (
+                arith,
+                l .lower (arrival c),
+                before-is (arrival c) h,
+                after-is (arrival c) h,
+                so-far .low c f z,
+              ))
+              (λ z.
+              let ends =
+              sequence-ends n a u rev b (arrival c) (penalty c) .1
+              (record { connection = c; feasible = f; sequence = z ∙ e; arrives = refl; pays = refl }) in
+              omega (arith, l .below (arrival c) (penalty c) ends, after-is (arrival c) h))
 
   -- all sequences: the list kept
   pub collected-all : (k : ℕ) (w : List ℕ) → length (readable s) ≤ k → Collected k w
@@ -168,7 +174,7 @@ module _ (n : Net) (ok : Sound n) (s : List ℕ) (a u b : ℕ) where
       attained : (m : ℕ) → getD w m noPoints < noPoints → At u (keptList n s a u b) m (getD w m noPoints)
       attained m h =
           let i = inside m h in
-          let same = getD-inside w m noPoints 0 i in
+          let same = getD-any w m noPoints 0 i in
           let z = c .attained m (omega (arith, i, c .long)) (omega (arith, h, same)) in
           record {
             one = z .one;
@@ -183,7 +189,7 @@ module _ (n : Net) (ok : Sound n) (s : List ℕ) (a u b : ℕ) where
       low e i =
           let z = kept-exactly n ok s a u b e .0 i in
           let h = arrives-in-time n ok a u b e (z .feasible) in
-          let same = getD-inside w (arrival e) noPoints 0 (omega (arith, h, c .long)) in
+          let same = getD-any w (arrival e) noPoints 0 (omega (arith, h, c .long)) in
           omega (arith, same, c .low e (z .feasible) (subst (λ l. stations e ∈ l) (sym whole) (z .held)))
 
   -- the bounds of those on the list

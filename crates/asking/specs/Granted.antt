@@ -9,7 +9,7 @@ use lib.Dec.{T}
 use lib.ListN.{length, take}
 use Rattle.words.specs.Put.{put}
 use Rattle.timetable.specs.Timetable.{lastMinute, valid}
-use Rattle.timetable.specs.Words.{timetableOf, isTimetable}
+use Rattle.timetable.specs.Words.{timetableOf, isTimetable, stationCount}
 use Rattle.timetable.specs.Access.{spelled-valid}
 use Rattle.lists.specs.Lists.{_∈_}
 use Rattle.results.specs.Results.{Cost}
@@ -27,11 +27,12 @@ use Rattle.asking.specs.declared.Winner.{Winner}
 
 -- the timetable w, line tables v and store s, for a query from station a to station b at minute u
 pub record Granted (w v s : List ℕ) (a b u : ℕ) : Type 0 where
+  pub long : 16384 ≤ length w
   pub accepted : isTimetable w ≡ true
   pub own : areTables w v ≡ true
   pub made : wellMade (length ((timetableOf w) .stations)) s ≡ true
   pub some : 1 ≤ a
-  pub inside : a ≤ length ((timetableOf w) .stations)
+  pub inside : a ≤ stationCount w
   pub minute : u ≤ lastMinute
 
 module _ (w v s : List ℕ) (a b u : ℕ) (g : Granted w v s a b u) where

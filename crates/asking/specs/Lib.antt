@@ -5,3 +5,5 @@ pub mod Won
 pub mod Keys
 pub mod Leading
 pub mod Granted
+pub mod Arcs
+pub mod Shown

@@ -5,11 +5,13 @@ ghost use Prim.Native.Nat.{_+_, _-_, _*_, _≤_, _<_};
 ghost use lib.ListN.{length, take};
 ghost use Rattle.words.specs.Put.{put};
 ghost use Rattle.lists.specs.Lists.{before};
-ghost use Rattle.direct.specs.Choosing.{noPoints};
+ghost use Rattle.wellmade.specs.Entries.{arcCount};
 ghost use Rattle.asking.specs.Asking.{kept, rows, rowWords, askReply, askWords};
 ghost use Rattle.asking.specs.Keys.{keyWords};
 ghost use Rattle.asking.specs.Rowed.{LeastKept};
+ghost use Rattle.asking.specs.Arcs.{Noted};
 ghost use Rattle.asking.specs.Granted.{Granted, Leading, Winning, Counted, Written, Room};
+ghost use Rattle.asking.specs.Shown.{shownReply, shownWords};
 use replies::Reply;
 
 // The minutes in which a connection may arrive: 0 to 2,879.
@@ -20,6 +22,9 @@ const NO_POINTS: u32 = u32::MAX;
 
 // The words of a row before the numbers of its rides.
 const ROW_WORDS: usize = 3;
+
+// Room for the stations of a pattern.
+const STATIONS_MOST: usize = 64;
 
 // Room for the numbers of all rides of a connection: a pattern has at most 63 stations behind its source.
 const NUMBERS_MOST: usize = 192;
@@ -76,6 +81,55 @@ fn goes_before(g: Winner, tried: &[u32], f: Winner, shown: &[u32]) -> bool
         return false;
     }
     words_before(tried, shown, 3 * g.rides)
+}
+
+// Lowers the least penalties to those of the connections of arc k.
+fn note_arc(
+    words: &[u16],
+    lines: &[u16],
+    store: &[u16],
+    from: usize,
+    to: usize,
+    minute: usize,
+    k: usize,
+    best: &mut [u32],
+)
+    requires { ⌜ Granted (now words) (now lines) (now store) from to minute
+        × (k < arcCount (now store))
+        × (length (now best) ≡ 2880) ⌝ }
+    ensures { λ _. ⌜ Noted (now (words .entry)) (now (store .entry)) from minute k (now (best .entry)) (now (best .exit)) ⌝ }
+    ensures { λ _. ⌜ length (now (best .exit)) ≡ length (now (best .entry)) ⌝ }
+{
+    let mut path = [0u16; STATIONS_MOST];
+    let r = wellmade::arc_pattern(store, k, &mut path);
+    layers::note_pattern(words, lines, from, minute, &path, r, best);
+}
+
+// Notes the least penalty for each minute of arrival, of all connections whose pattern is stored.
+fn note_arcs(
+    words: &[u16],
+    lines: &[u16],
+    store: &[u16],
+    from: usize,
+    to: usize,
+    minute: usize,
+    best: &mut [u32],
+)
+    requires { ⌜ Granted (now words) (now lines) (now store) from to minute × (length (now best) ≡ 2880) ⌝ }
+    ensures { λ _. ⌜ LeastKept minute (kept (now (words .entry)) (now (store .entry)) from to minute) (now (best .exit))
+        × (length (now (best .exit)) ≡ 2880) ⌝ }
+{
+    direct::fill_blank(best);
+    let arcs = wellmade::arc_count(store);
+    let mut k = 0;
+    'arcs: while k < arcs {
+        let arc = k;
+        k += 1;
+        if wellmade::arc_target(store, arc) != to {
+            continue 'arcs;
+        }
+        note_arc(words, lines, store, from, to, minute, arc, best);
+    }
 }
 
 // The connection that is shown for an arrival minute and a penalty.
@@ -247,4 +301,87 @@ fn write_rows(
         least = points;
         here = write_row(words, lines, store, from, to, minute, arrive, points, answer, here);
     }
+}
+
+// Answers a query from a store that is well made. The answer is measured before a word is written.
+fn show(
+    words: &[u16],
+    lines: &[u16],
+    store: &[u16],
+    best: &mut [u32],
+    from: usize,
+    to: usize,
+    minute: usize,
+    answer: &mut [u32],
+) -> Reply
+    requires { ⌜ Granted (now words) (now lines) (now store) from to minute × (length (now best) ≡ 2880) ⌝ }
+    ensures { λ r. ⌜ r ≡ shownReply (now (words .entry)) (now (store .entry)) from to minute (length (now (answer .entry))) ⌝ }
+    ensures { λ _. ⌜ now (answer .exit) ≡ shownWords (now (words .entry)) (now (store .entry)) from to minute (now (answer .entry)) ⌝ }
+{
+    note_arcs(words, lines, store, from, to, minute, best);
+    let count = direct::count_rows(best);
+    if count < 1 {
+        return Reply::Refused { number: 14 };
+    }
+    let long = measure(words, lines, store, from, to, minute, best);
+    if answer.len() < long {
+        return Reply::Refused { number: 15 };
+    }
+    write_rows(words, lines, store, from, to, minute, best, answer);
+    Reply::Done {
+        count: count as u32,
+    }
+}
+
+// The query from a store: from one station to another at a minute. Working space may hold any words afterwards.
+pub fn query(
+    words: &[u16],
+    lines: &[u16],
+    store: &[u16],
+    work: &mut [u32],
+    from: u32,
+    to: u32,
+    minute: u32,
+    answer: &mut [u32],
+) -> Reply
+    ensures reply { λ r. ⌜ r
+        ≡ askReply
+        (now (words .entry))
+        (now (lines .entry))
+        (now (store .entry))
+        (length (now (work .entry)))
+        from
+        to
+        minute
+        (length (now (answer .entry))) ⌝ }
+    ensures words { λ _. ⌜ now (answer .exit)
+        ≡ askWords
+        (now (words .entry))
+        (now (lines .entry))
+        (now (store .entry))
+        (length (now (work .entry)))
+        from
+        to
+        minute
+        (now (answer .entry)) ⌝ }
+{
+    let number = checking::query_number(words, lines, work, from, to, minute);
+    if number != 0 {
+        return Reply::Refused { number };
+    }
+    let stations = words::word(words, 0) as usize;
+    if !wellmade::is_well_made(store, stations, work) {
+        return Reply::Refused { number: 13 };
+    }
+    let best = &mut work[0..MINUTES];
+    show(
+        words,
+        lines,
+        store,
+        best,
+        from as usize,
+        to as usize,
+        minute as usize,
+        answer,
+    )
 }

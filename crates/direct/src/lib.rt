@@ -123,7 +123,7 @@ fn below(a: u32, b: u32) -> usize
 }
 
 // How many arrival minutes have a penalty below those of all earlier minutes: the rows of the answer.
-fn count_rows(best: &[u32]) -> usize
+pub fn count_rows(best: &[u32]) -> usize
     requires { ⌜ length (now best) ≡ 2880 ⌝ }
     ensures { λ r. ⌜ (r ≡ length (leads noPoints 0 (now (best .entry)))) × (r ≤ 2880) ⌝ }
 {
