@@ -105,3 +105,9 @@ module _ (w v work after : List ℕ) (a b u number : ℕ)
 
     pub words-long : 1 ≤ length w
     words-long = omega (arith, yes-all w v (length work) a b u (sym is ∙ none-denied) .slices .words)
+
+    pub minutes-room : (last : List ℕ) → length last ≡ length after → 2880 ≤ length last
+    minutes-room last e = omega (arith, work-room)
+
+    pub minutes-part : (last : List ℕ) → length last ≡ length after → length (take 2880 last) ≡ 2880
+    minutes-part last e = length-take-le 2880 last (minutes-room last e)

@@ -1,10 +1,11 @@
 -- The query's reply part by part: questions 14 and 15 for a store that is well made, and before them 13 and those of
 -- every query.
 use mathlib.Core.Path.{_≡_, refl, sym, ap, subst, _∙_}
-use mathlib.Core.Bool.{Bool, true, false}
+use mathlib.Core.Bool.{Bool, true, false, not}
 use mathlib.Core.List.{List, [], _∷_}
 use Prim.Native.Nat.{ℕ, zero, suc, _≤_, _<_}
 use native.Mathlib.Omega.{arith}
+use borrow.Author.Tests.{not-true, not-false}
 use lib.Dec.{leb}
 use lib.ListN.{length}
 use Rattle.questions.specs.Question.{Question, ask, firstNo}
@@ -90,7 +91,10 @@ module _
         asked-on (queryQuestions w v n a b u) (lastQuestions w s a b u m) (query-asked w v n a b u) all-yes
         ∙ ap (λ t. firstNo (ask 13 t ∷ twoQuestions w s a b u m)) made-is
 
-    module _ (no : r ≡ false) where
+    module _ (denied : not r ≡ true) where
+      no : r ≡ false
+      no = not-true r denied
+
       thirteen : (m : ℕ) → 13 ≡ askNumber w v s n a b u m
       thirteen m = sym (last-number m ∙ ap (λ t. firstNo (ask 13 t ∷ twoQuestions w s a b u m)) no)
 
@@ -100,7 +104,10 @@ module _
       pub badly-words : (old : List ℕ) → old ≡ askWords w v s n a b u old
       badly-words old = out-words w v s n a b u old 12 (thirteen (length old))
 
-    module _ (good : r ≡ true) where
+    module _ (given : not r ≡ false) where
+      good : r ≡ true
+      good = not-false r given
+
       answers : Yes w v n a b u
       answers = yes-all w v n a b u (sym is ∙ none-denied)
 
