@@ -1,0 +1,1 @@
+// The connection of one stored pattern that is shown for a row.
