@@ -153,11 +153,11 @@ module _ (timetable : Timetable) (okay : T (valid timetable)) (b v t : ℕ) wher
             let c = caught-out (a .ride) (a .listed) in
             let r = c .ride in
             let boards : Boards n (w .to) (m + w .minutes) r =
-                record {
-                  listed = c .boards .listed;
-                  here = c .boards .here ∙ sym at ∙ sym (ok .stays w listed);
-                  timely = omega (arith, k .1, a .at, c .minute);
-                }
+            record {
+              listed = c .boards .listed;
+              here = c .boards .here ∙ sym at ∙ sym (ok .stays w listed);
+              timely = omega (arith, k .1, a .at, c .minute);
+            }
             in
             let e = begun n b v q y (w .to) (m + w .minutes) r (getD old (r .arrive) noPoints) boards (c .to) (c .rest) in
             record {
@@ -180,11 +180,11 @@ module _ (timetable : Timetable) (okay : T (valid timetable)) (b v t : ℕ) wher
             let points = ap (λ w. w .points) same in
             let most = penalty-most timetable okay (o .change .to) (m + o .change .minutes) b (o .connection) (o .feasible) in
             let boards : Boards n x t r =
-                record {
-                  listed = d .boards .listed;
-                  here = d .boards .here ∙ ok .stays (o .change) (o .listed) ∙ o .at;
-                  timely = omega (arith, d .boards .timely);
-                }
+            record {
+              listed = d .boards .listed;
+              here = d .boards .here ∙ ok .stays (o .change) (o .listed) ∙ o .at;
+              timely = omega (arith, d .boards .timely);
+            }
             in
             let forward = ok .forward r (d .boards .listed) in
             let bounded = ok .bounded r (d .boards .listed) in
