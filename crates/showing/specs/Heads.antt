@@ -55,6 +55,7 @@ module _ (timetable : Timetable) (b v : ℕ) where
   -- it does, and none that fits begins with a ride that comes before it
   pub record Chosen (first : Bool) (q : List ℕ) (x u p : ℕ) (r : Ride) : Type 0 where
     pub starts : Starts q x u p r
+    pub few : r .trip < 65536
     pub leads : (e : Connection) → Fitting timetable b v q x u p e
         → ¬ T (before (headKey first (firstRide e)) (headKey first r))
 
@@ -69,11 +70,13 @@ module _ (timetable : Timetable) (okay : T (valid timetable)) (b v : ℕ) where
   unfolding valid counted
   trips-few = search reads
 
-  ride-before : (first : Bool) (r : Ride) → r ∈ n .rides → T (before (headKey first r) (headKey first noRide))
-  ride-before first r m =
+  trip-few : (r : Ride) → r ∈ n .rides → r .trip < 65536
+  trip-few r m =
       let k = rides-out (timetable .trips) r m in
-      let few : r .trip < 65536 = omega (arith, ap (λ r. r .trip) (k .is), k .listed, trips-few) in
-      go first few
+      omega (arith, ap (λ r. r .trip) (k .is), k .listed, trips-few)
+
+  ride-before : (first : Bool) (r : Ride) → r ∈ n .rides → T (before (headKey first r) (headKey first noRide))
+  ride-before first r m = go first (trip-few r m)
     where
       told : List ℕ
       told = rideNumbers r
@@ -141,9 +144,11 @@ module _ (timetable : Timetable) (okay : T (valid timetable)) (b v : ℕ) where
           those : List Ride
           those = filter (takeable z p) rides
 
+          listed : (r : Ride) → r ∈ those → r ∈ n .rides
+          listed r m = told r .0 (filter-out (takeable z p) rides m .0) .0 .listed
+
           ahead : (r : Ride) → r ∈ those → T (before (headKey first r) (headKey first noRide))
-          ahead r m =
-              ride-before first r (told r .0 (filter-out (takeable z p) rides m .0) .0 .listed)
+          ahead r m = ride-before first r (listed r m)
 
           one : Ride
           one = foremost (headKey first) noRide those
@@ -154,5 +159,6 @@ module _ (timetable : Timetable) (okay : T (valid timetable)) (b v : ℕ) where
           go (inr h) =
               inr (record {
                 starts = starts-out one (h .member);
+                few = trip-few one (listed one (h .member));
                 leads = λ e f. h .first (firstRide e) (starts-in e f);
               })

@@ -4,14 +4,19 @@
 use mathlib.Core.Path.{_≡_}
 use mathlib.Core.Bool.{Bool, true, false}
 use mathlib.Core.List.{List}
-use Prim.Native.Nat.{ℕ}
+use Prim.Native.Nat.{ℕ, _≤_, _<_}
 use lib.Dec.{T}
+use lib.ListN.{getD}
 use Rattle.timetable.specs.Timetable.{Timetable}
 use Rattle.lists.specs.Lists.{before}
 use Rattle.connections.specs.Connections.{net, Connection, departure}
 use Rattle.connections.specs.Planner.{numbers, tieKey}
 use Rattle.connections.specs.Named.{named}
 use Rattle.reckoning.specs.Greedy.{Fits}
+
+-- the first r numbers of a path are stations, of n
+pub record Listed (n : ℕ) (path : List ℕ) (r : ℕ) : Type 0 where
+  pub at : (i : ℕ) → i < r → (1 ≤ getD path i 0) × (getD path i 0 ≤ n)
 
 module _ (timetable : Timetable) (b v : ℕ) where
   -- from station x at minute u by the stations q to b, there by minute v, for p points at the most

@@ -1,0 +1,5 @@
+pub mod RestLaws
+pub mod GatherLaws
+pub mod PatternLaws
+pub mod KeyLaws
+pub mod ChooseLaws
