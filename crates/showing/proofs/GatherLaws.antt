@@ -16,7 +16,7 @@ use Rattle.riding.specs.declared.Ride.{Ride as RideStruct}
 use Rattle.riding.specs.declared.Cursor.{Cursor}
 use Rattle.riding.specs.Riding.{Tells, left, rideOf, left-none}
 use Rattle.showing.specs.Settling.{settled}
-use Rattle.showing.specs.Stepping.{catches, stepped}
+use Rattle.showing.specs.Stepping.{arrived, catches, stepped}
 use Rattle.showing.specs.Turns.{tells-is, stepBack, caughtBy, catches-none, catches-more}
 
 module _ (lines : List ℕ) (from to minute cm cp : ℕ) (old first : List ℕ) where
@@ -61,7 +61,7 @@ copied k z spare e f =
     let none : drop (0 + length z) spare ≡ [] = drop-of-length-le spare {i = 0 + length z} (omega arith) in
     rw (all, none) (append-nil z)
 
-pub emptied : (k : ℕ) (z : List ℕ) → length z ≡ k → replicate k noPoints ++ drop k z ≡ replicate k noPoints
+emptied : (k : ℕ) (z : List ℕ) → length z ≡ k → replicate k noPoints ++ drop k z ≡ replicate k noPoints
 emptied k z e =
     let none : drop k z ≡ [] = drop-of-length-le z {i = k} (omega arith) in
     rw none (append-nil (replicate k noPoints))
@@ -84,3 +84,10 @@ module _ (w lines path : List ℕ) (minute j : ℕ) (z spare copy empty full las
         (f
         ∙ (λ i. noteAll ((n ∙ emptied 2880 z g) i)
         (catches (there i .minutes) (there i .points) ((c ∙ copied 2880 z spare g h) i) (allRead lines (d i) minute (e i)))))
+
+pub last-filled : (z empty last : List ℕ) (v : ℕ) → length z ≡ 2880
+    → empty ≡ replicate 2880 4294967295 ++ drop 2880 z
+    → last ≡ replicate (v + 1) 0 ++ drop (v + 1) empty
+    → last ≡ arrived v
+unfolding arrived
+last-filled z empty last v g e f = f ∙ ap (λ l. replicate (v + 1) 0 ++ drop (v + 1) l) (e ∙ emptied 2880 z g)

@@ -1,12 +1,12 @@
 -- What is left behind each station of a path, from the target back.
 use mathlib.Core.Path.{_≡_, refl, sym, ap, subst, _∙_}
 use mathlib.Core.Bool.{true}
-use mathlib.Core.List.{List, [], _∷_, _++_}
+use mathlib.Core.List.{List, [], _∷_}
 use Prim.Native.Nat.{ℕ, suc, _+_, _-_, _≤_, _<_}
 use native.Mathlib.Numerals.{add-one}
 use native.Mathlib.Omega.{arith}
 use lib.Dec.{T}
-use lib.ListN.{length, getD, drop, replicate}
+use lib.ListN.{length, getD}
 use lib.Seq.{slice, slice-empty, slice-cons}
 use Rattle.timetable.specs.Timetable.{Timetable, valid}
 use Rattle.timetable.specs.Words.{stationCount, stationAt, timetableOf, isTimetable}
@@ -19,14 +19,12 @@ use Rattle.connections.specs.Connections.{Change, Net, net, noStation, changeAt
 use Rattle.checking.specs.Question10.{areTables}
 use Rattle.lookup.specs.Lookup.{callsPlace}
 use Rattle.direct.specs.Candidates.{allRead}
-use Rattle.direct.specs.Choosing.{noPoints}
 use Rattle.direct.specs.Shown.{calls-inside}
 use Rattle.riding.specs.Ridden.{read-rides}
 use Rattle.showing.specs.Showing.{Listed}
-use Rattle.showing.specs.Rests.{Rests}
+use Rattle.showing.specs.Rests.{Rests, RestsAt}
 use Rattle.showing.specs.Stepping.{arrived, stepped, rests-before, rests-end}
 use Rattle.showing.specs.Turns.{stepBack}
-use Rattle.showing.proofs.GatherLaws.{emptied}
 
 -- ---- a listed station
 module _ (w : List ℕ) (accepted : isTimetable w ≡ true) where
@@ -99,30 +97,26 @@ module _ (w path : List ℕ) (r v minute : ℕ) (accepted : isTimetable w ≡ tr
   slice-end : (k : ℕ) → k ≡ r → slice k r path ≡ []
   slice-end k e = ap (λ k. slice k r path) e ∙ slice-empty r path
 
-  pub rest-begins : (i : ℕ) (z empty full : List ℕ) → i < r → length z ≡ 2880
-      → empty ≡ replicate 2880 4294967295 ++ drop 2880 z
-      → full ≡ replicate (v + 1) 0 ++ drop (v + 1) empty
-      → Rests n b v minute (slice (r - 1 + 1) r path) (getD path (r - 1) 0) full
-  unfolding arrived
-  rest-begins i z empty full h g e f =
+  pub rest-begins : (i : ℕ) (z : List ℕ) → i < r → z ≡ arrived v → RestsAt w path r v minute (r - 1) z
+  unfolding RestsAt
+  rest-begins i z h is =
       let none : slice (r - 1 + 1) r path ≡ [] = slice-end (r - 1 + 1) (omega arith) in
-      let is = f ∙ ap (λ l. replicate (v + 1) 0 ++ drop (v + 1) l) (e ∙ emptied 2880 z g) in
       let last = rests-end (timetableOf w) (is-valid w accepted) b v minute b refl in
-      subst (λ q. Rests n b v minute q b full) (sym none) (subst (λ z. Rests n b v minute [] b z) (sym is) last)
+      subst (λ q. Rests n b v minute q b z) (sym none) (subst (λ z. Rests n b v minute [] b z) (sym is) last)
 
   pub rest-done : (i j : ℕ) (z : List ℕ) → i ≤ j → j ≤ i
-      → Rests n b v minute (slice (j + 1) r path) (getD path j 0) z
-      → Rests n b v minute (slice (i + 1) r path) (getD path i 0) z
+      → RestsAt w path r v minute j z
+      → RestsAt w path r v minute i z
   rest-done i j z h g s =
       let same : j ≡ i = omega arith in
-      subst (λ k. Rests n b v minute (slice (k + 1) r path) (getD path k 0) z) same s
+      subst (λ k. RestsAt w path r v minute k z) same s
 
   pub rest-more : (lines : List ℕ) (i j : ℕ) (z new : List ℕ) → areTables w lines ≡ true
       → Listed (stationCount w) path r → r ≤ length path → i < j → j < r
-      → Rests n b v minute (slice (j + 1) r path) (getD path j 0) z
+      → RestsAt w path r v minute j z
       → new ≡ stepBack w lines minute path j z
-      → Rests n b v minute (slice (j - 1 + 1) r path) (getD path (j - 1) 0) new
-  unfolding stepBack
+      → RestsAt w path r v minute (j - 1) new
+  unfolding stepBack RestsAt
   rest-more lines i j z new own listed long less inside s is-new =
       subst (λ q. Rests n b v minute q x new) (sym on) (subst (Rests n b v minute (y ∷ slice (j + 1) r path) x) (sym is) whole)
     where

@@ -2,13 +2,15 @@
 -- ride and what is left behind it make a connection, and each connection comes apart so.
 use mathlib.Core.Path.{_≡_, refl, sym, ap, subst, _∙_}
 use mathlib.Core.List.{List, [], _∷_}
-use Prim.Native.Nat.{ℕ, _+_, _≤_, _<_}
+use Prim.Native.Nat.{ℕ, _+_, _-_, _≤_, _<_}
 use native.Mathlib.Omega.{arith}
 use lib.ListN.{length, getD}
+use lib.Seq.{slice}
+use Rattle.timetable.specs.Words.{timetableOf}
 use Rattle.lists.specs.Lists.{_∈_, tail}
 use Rattle.results.specs.Picks.{lead}
 use Rattle.connections.specs.Rides.{Ride}
-use Rattle.connections.specs.Connections.{Change, Net, Connection, direct, onward, Boards, Changes, Feasible}
+use Rattle.connections.specs.Connections.{Change, Net, net, Connection, direct, onward, Boards, Changes, Feasible}
 use Rattle.connections.specs.Connections.{ready, arrival, penalty, stations}
 use Rattle.connections.specs.Feasibility.{has-stations}
 use Rattle.reckoning.specs.Sets.{firstRide}
@@ -107,3 +109,9 @@ module _ (n : Net) (b v : ℕ) where
             };
         total = omega arith;
       }
+
+-- z holds what is left behind station i of a path of r stations, for one who starts at minute t and is to arrive by
+-- minute v
+unfoldable pub RestsAt : (w path : List ℕ) (r v t i : ℕ) (z : List ℕ) → Type 0
+RestsAt w path r v t i z =
+    Rests (net (timetableOf w)) (getD path (r - 1) 0) v t (slice (i + 1) r path) (getD path i 0) z

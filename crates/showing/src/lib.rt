@@ -5,19 +5,17 @@ ghost use mathlib.Core.Bool.{true};
 ghost use mathlib.Core.List.{[], _∷_, _++_};
 ghost use Prim.Native.Nat.{_+_, _-_, _*_, _≤_, _<_, min};
 ghost use lib.ListN.{length, getD, take, drop, replicate};
-ghost use lib.Seq.{slice};
 ghost use Rattle.words.specs.Put.{put};
-ghost use Rattle.timetable.specs.Words.{stationCount, timetableOf, isTimetable};
-ghost use Rattle.connections.specs.Connections.{net};
+ghost use Rattle.timetable.specs.Words.{stationCount, isTimetable};
 ghost use Rattle.lookup.specs.Lookup.{callsPlace};
 ghost use Rattle.checking.specs.Question10.{areTables};
 ghost use Rattle.direct.specs.Candidates.{allRead};
 ghost use Rattle.direct.specs.Choosing.{noPoints, noteAll};
 ghost use Rattle.direct.specs.Turns.{lowered};
 ghost use Rattle.showing.specs.Showing.{Listed};
-ghost use Rattle.showing.specs.Rests.{Rests};
+ghost use Rattle.showing.specs.Rests.{RestsAt};
 ghost use Rattle.showing.specs.Settling.{settled};
-ghost use Rattle.showing.specs.Stepping.{catches};
+ghost use Rattle.showing.specs.Stepping.{arrived, catches};
 ghost use Rattle.showing.specs.Heads.{lateness, headOf};
 ghost use Rattle.showing.specs.Turns.{stepBack, caughtBy, tellsOf, numbersBefore, comesBefore, tried, Sized};
 use riding::Ride;
@@ -192,6 +190,16 @@ fn step(
     settle(z);
 }
 
+// Behind the last station nothing is left, by minute v.
+fn fill_last(z: &mut [u32], v: usize)
+    requires { ⌜ (v ≤ 2879) × (length (now z) ≡ 2880) ⌝ }
+    ensures { λ _. ⌜ now (z .exit) ≡ arrived v ⌝ }
+    ensures { λ _. ⌜ length (now (z .exit)) ≡ length (now (z .entry)) ⌝ }
+{
+    fill(z, MINUTES, NO_POINTS);
+    fill(z, v + 1, 0);
+}
+
 // What is left behind station i of a path of r stations, for one who is to arrive at the last by minute v.
 fn rest(
     words: &[u16],
@@ -213,13 +221,11 @@ fn rest(
         × (v ≤ 2879)
         × (length (now z) ≡ 2880)
         × (length (now spare) ≡ 2880) ⌝ }
-    ensures { λ _. ⌜ Rests (net (timetableOf (now (words .entry)))) (getD (now (path .entry)) (r - 1) 0) v minute
-        (slice (i + 1) r (now (path .entry))) (getD (now (path .entry)) i 0) (now (z .exit)) ⌝ }
+    ensures { λ _. ⌜ RestsAt (now (words .entry)) (now (path .entry)) r v minute i (now (z .exit)) ⌝ }
     ensures { λ _. ⌜ length (now (z .exit)) ≡ length (now (z .entry)) ⌝ }
     ensures { λ _. ⌜ length (now (spare .exit)) ≡ length (now (spare .entry)) ⌝ }
 {
-    fill(z, MINUTES, NO_POINTS);
-    fill(z, v + 1, 0);
+    fill_last(z, v);
     let mut j = r - 1;
     while i < j {
         step(words, lines, minute, path, j, z, spare);
