@@ -3,3 +3,4 @@ pub mod GatherLaws
 pub mod PatternLaws
 pub mod KeyLaws
 pub mod ChooseLaws
+pub mod WayLaws

@@ -23,6 +23,21 @@ use Rattle.reckoning.specs.Greedy.{First, rideNumbers, leaving, first-direct, f
 use Rattle.showing.specs.Showing.{Fitting, Shown}
 use Rattle.showing.specs.Heads.{headKey, Chosen}
 
+-- the rides taken so far tell `done`, and the first of them leaves at minute d
+module _ (timetable : Timetable) (b v : ℕ) (whole : List ℕ) (a t p₀ : ℕ) where
+  -- by q from x at minute u, for p points at the most, some connection fits, and the first of those makes what is
+  -- shown
+  pub record Left (done : List ℕ) (d : ℕ) (q : List ℕ) (x u p : ℕ) : Type 0 where
+    pub some : Connection
+    pub fits : Fitting timetable b v q x u p some
+    pub later : t ≤ u
+    pub complete : (c : Connection) → Fitting timetable b v q x u p c → First (net timetable) (named timetable) b v q x u p c
+        → Shown timetable b v whole a t p₀ (done ++ numbers c) d
+
+  abbrev pub Going : (done : List ℕ) (d : ℕ) (q : List ℕ) (x u p : ℕ) → Type 0
+  Going done d [] x u p = Shown timetable b v whole a t p₀ done d
+  Going done d (y ∷ q) x u p = Left done d (y ∷ q) x u p
+
 module _ (timetable : Timetable) (okay : T (valid timetable)) (b v : ℕ) where
   abbrev n : Net
   n = net timetable
@@ -76,26 +91,12 @@ module _ (timetable : Timetable) (okay : T (valid timetable)) (b v : ℕ) where
                   };
             }
 
-  -- ---- the rides taken so far tell `done`, and the first of them leaves at minute d
+  -- ---- a ride more, and the change behind it
   module _ (whole : List ℕ) (a t p₀ : ℕ) where
-    -- by q from x at minute u, for p points at the most, some connection fits, and the first of those makes what is
-    -- shown
-    pub record Left (done : List ℕ) (d : ℕ) (q : List ℕ) (x u p : ℕ) : Type 0 where
-      pub some : Connection
-      pub fits : Fit q x u p some
-      pub later : t ≤ u
-      pub complete : (c : Connection) → Fit q x u p c → First n (named timetable) b v q x u p c
-          → Shown timetable b v whole a t p₀ (done ++ numbers c) d
-
-    abbrev pub Going : (done : List ℕ) (d : ℕ) (q : List ℕ) (x u p : ℕ) → Type 0
-    Going done d [] x u p = Shown timetable b v whole a t p₀ done d
-    Going done d (y ∷ q) x u p = Left done d (y ∷ q) x u p
-
-    -- a ride more, and the change behind it
     module _ (y x u p : ℕ) (r : Ride) (w : Change) (listed : w ∈ n .changes) (at : w .from ≡ y) where
-      goes : (q : List ℕ) (done : List ℕ) (d : ℕ) → Left done d (y ∷ q) x u p
+      pub goes : (q : List ℕ) (done : List ℕ) (d : ℕ) → Left timetable b v whole a t p₀ done d (y ∷ q) x u p
           → Chosen timetable b v false (y ∷ q) x u p r
-          → Going (done ++ rideNumbers r) d q (w .to) (ready r w) (p - (r .points + w .points))
+          → Going timetable b v whole a t p₀ (done ++ rideNumbers r) d q (w .to) (ready r w) (p - (r .points + w .points))
       goes [] done d l c =
           let f = is-direct y x u p r w listed at (c .starts .connection) (c .starts .fits) (c .starts .begins) in
           l .complete (direct r) f
@@ -123,8 +124,8 @@ module _ (timetable : Timetable) (okay : T (valid timetable)) (b v : ℕ) where
 
   -- the first ride, and the change behind it
   module _ (y x u p : ℕ) (r : Ride) (w : Change) (listed : w ∈ n .changes) (at : w .from ≡ y) where
-    begins : (q : List ℕ) → Chosen timetable b v true (y ∷ q) x u p r
-        → Going (y ∷ q) x u p (rideNumbers r) (r .depart) q (w .to) (ready r w) (p - (r .points + w .points))
+    pub begins : (q : List ℕ) → Chosen timetable b v true (y ∷ q) x u p r
+        → Going timetable b v (y ∷ q) x u p (rideNumbers r) (r .depart) q (w .to) (ready r w) (p - (r .points + w .points))
     begins [] c =
         let f = is-direct y x u p r w listed at (c .starts .connection) (c .starts .fits) (c .starts .begins) in
         record {

@@ -6,3 +6,4 @@ pub mod Foremost
 pub mod Heads
 pub mod Going
 pub mod Turns
+pub mod OnTheWay

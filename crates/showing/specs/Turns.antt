@@ -1,25 +1,21 @@
 -- One turn of each loop of the code, over rides as the code tells them. No reader of the promise needs this file.
 use mathlib.Core.Path.{_≡_, refl, ap, _∙_}
 use mathlib.Core.Bool.{Bool, true, false, cond, _&&_}
-use mathlib.Core.Logic.{_⊎_}
 use mathlib.Core.List.{List, [], _∷_}
 use Prim.Native.Nat.{ℕ, _+_, _-_, _≤_, _<_}
 use lib.Dec.{leb, ltb}
 use lib.ListN.{getD}
-use Rattle.timetable.specs.Timetable.{Timetable}
 use Rattle.timetable.specs.Words.{stationAt}
 use Rattle.lists.specs.Lists.{before, keep, filter}
 use Rattle.connections.specs.Rides.{Ride}
-use Rattle.connections.specs.Connections.{Connection}
 use Rattle.direct.specs.Candidates.{allRead}
 use Rattle.direct.specs.Choosing.{noPoints, noteAll}
 use Rattle.direct.specs.Turns.{lowered}
 use Rattle.riding.specs.declared.Ride.{Ride as RideStruct}
 use Rattle.riding.specs.Riding.{Tells}
-use Rattle.showing.specs.Showing.{Fitting}
 use Rattle.showing.specs.Stepping.{catchable, catches, stepped}
 use Rattle.showing.specs.Foremost.{former, foremost}
-use Rattle.showing.specs.Heads.{lateness, headKey, noRide, takeable, headOf, Chosen}
+use Rattle.showing.specs.Heads.{lateness, headKey, noRide, takeable, headOf}
 
 -- a ride as the code tells it
 abbrev pub tellsOf : Ride → RideStruct
@@ -129,16 +125,3 @@ pub record Sized (s : RideStruct) : Type 0 where
   pub board : s .board ≤ 65536
   pub alight : s .alight ≤ 65536
   pub arrive : s .arrive ≤ 65536
-
--- the ride of the code is the one to take
-pub record Taken (timetable : Timetable) (b v : ℕ) (first : Bool) (q : List ℕ) (x u p : ℕ) (s : RideStruct) : Type 0
-  where
-    pub ride : Ride
-    pub tells : s ≡ tellsOf ride
-    pub chosen : Chosen timetable b v first q x u p ride
-
--- or none, where no connection fits
-unfoldable pub Headed : (timetable : Timetable) (b v : ℕ) (first : Bool) (q : List ℕ) (x u p : ℕ) (s : RideStruct)
-    → Type 0
-Headed timetable b v first q x u p s =
-    ((s .trip ≡ 65536) × ((e : Connection) → ¬ Fitting timetable b v q x u p e)) ⊎ Taken timetable b v first q x u p s

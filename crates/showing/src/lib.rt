@@ -17,6 +17,7 @@ ghost use Rattle.showing.specs.Rests.{RestsAt};
 ghost use Rattle.showing.specs.Settling.{settled};
 ghost use Rattle.showing.specs.Stepping.{arrived, catches};
 ghost use Rattle.showing.specs.Heads.{lateness, headOf};
+ghost use Rattle.showing.specs.OnTheWay.{Headed, Moved};
 ghost use Rattle.showing.specs.Turns.{stepBack, caughtBy, tellsOf, numbersBefore, comesBefore, tried, Sized};
 use riding::Ride;
 use timetable::Station;
@@ -31,6 +32,19 @@ const NO_POINTS: u32 = u32::MAX;
 
 // The trip of no ride: every trip has a lower number.
 const NO_TRIP: usize = 65536;
+
+// Where one is on the way: the station, the minute from which one can leave, and the points left to pay.
+pub struct At {
+    pub from: usize,
+    pub ready: usize,
+    pub left: usize,
+}
+
+// Whether there is a connection, and when it departs.
+pub struct First {
+    pub found: bool,
+    pub depart: usize,
+}
 
 // a - b, or 0 if b is more.
 fn less(a: usize, b: usize) -> usize
@@ -327,4 +341,74 @@ fn choose(
         c = riding::next(lines, from, to, ready, c);
     }
     best
+}
+
+// The ride to take next, from where one is to station i of the path.
+fn take_ride(
+    words: &[u16],
+    lines: &[u16],
+    minute: usize,
+    path: &[u16],
+    i: usize,
+    r: usize,
+    v: usize,
+    at: At,
+    first: bool,
+    z: &mut [u32],
+    spare: &mut [u32],
+) -> Ride
+    requires { ⌜ (16384 ≤ length (now words))
+        × (isTimetable (now words) ≡ true)
+        × (areTables (now words) (now lines) ≡ true)
+        × Listed (stationCount (now words)) (now path) r
+        × (i < r)
+        × (r ≤ length (now path))
+        × (v ≤ 2879)
+        × (1 ≤ at .from)
+        × (at .from ≤ stationCount (now words))
+        × (minute ≤ at .ready)
+        × (length (now z) ≡ 2880)
+        × (length (now spare) ≡ 2880) ⌝ }
+    ensures { λ s. ⌜ Headed (now (words .entry)) (now (path .entry)) r v first i at s × Sized s ⌝ }
+    ensures { λ _. ⌜ length (now (z .exit)) ≡ length (now (z .entry)) ⌝ }
+    ensures { λ _. ⌜ length (now (spare .exit)) ≡ length (now (spare .entry)) ⌝ }
+{
+    rest(words, lines, minute, path, i, r, v, z, spare);
+    choose(lines, at.from, station(path, i), at.ready, first, at.left, z)
+}
+
+// Writes the numbers of ride i.
+fn put_ride(rides: &mut [u32], i: usize, ride: Ride)
+    requires { ⌜ (i < 64) × (3 * i + 3 ≤ length (now rides)) × Sized ride ⌝ }
+    ensures { λ _. ⌜ now (rides .exit)
+        ≡ put (3 * i) (ride .trip ∷ ride .board ∷ ride .alight ∷ []) (now (rides .entry)) ⌝ }
+    ensures { λ _. ⌜ length (now (rides .exit)) ≡ length (now (rides .entry)) ⌝ }
+{
+    let at = 3 * i;
+    words::put_pair(rides, at, ride.trip as u32, ride.board as u32);
+    rides[at + 2] = ride.alight as u32;
+}
+
+// Writes ride i, and changes behind it.
+fn move_on(words: &[u16], path: &[u16], i: usize, left: usize, ride: Ride, rides: &mut [u32]) -> At
+    requires { ⌜ (16384 ≤ length (now words))
+        × (i < length (now path))
+        × (1 ≤ getD (now path) i 0)
+        × (getD (now path) i 0 ≤ 64)
+        × (i < 64)
+        × (3 * i + 3 ≤ length (now rides))
+        × Sized ride ⌝ }
+    ensures { λ r. ⌜ Moved (now (words .entry)) (now (path .entry)) i left ride (now (rides .entry)) (now (rides .exit)) r ⌝ }
+    ensures { λ _. ⌜ length (now (rides .exit)) ≡ length (now (rides .entry)) ⌝ }
+{
+    put_ride(rides, i, ride);
+    let to = station(path, i);
+    let change = timetable::station_at(words, to - 1);
+    let ready = ride.arrive + change.minutes as usize;
+    let paid = ride.points as usize + change.points as usize;
+    At {
+        from: to,
+        ready,
+        left: less(left, paid),
+    }
 }
