@@ -22,13 +22,14 @@ use Rattle.reckoning.specs.Greedy.{rideNumbers}
 use Rattle.riding.specs.declared.Ride.{Ride as RideStruct}
 use Rattle.riding.specs.Ridden.{read-rides}
 use Rattle.showing.specs.declared.At.{At}
+use Rattle.showing.specs.declared.First.{First}
 use Rattle.showing.specs.Showing.{Listed, Fitting, Shown, Found}
 use Rattle.showing.specs.Rests.{RestsAt}
 use Rattle.showing.specs.Heads.{noRide, headOf, Chosen, head-cases}
-use Rattle.showing.specs.Going.{Going, goes, begins}
+use Rattle.showing.specs.Going.{Left, Going, goes, begins}
 use Rattle.showing.specs.Turns.{tellsOf}
-use Rattle.showing.specs.OnTheWay.{Taken, Nothing, Headed, Under, Moved, Rode}
-use Rattle.showing.proofs.PatternLaws.{is-valid, station-inside, ChangeThere, change-there}
+use Rattle.showing.specs.OnTheWay.{Taken, Nothing, Headed, Under, FoundAt, Moved, Rode}
+use Rattle.showing.proofs.PatternLaws.{is-valid, station-few, station-inside, ChangeThere, change-there}
 
 -- ---- one ride
 pub three-put : (i a b c : ℕ) (old mid : List ℕ) → 3 * i + 3 ≤ length old → mid ≡ put (3 * i) (a ∷ b ∷ []) old
@@ -177,3 +178,138 @@ module _ (w path : List ℕ) (r v : ℕ) (accepted : isTimetable w ≡ true) whe
           where
             done : List ℕ
             done = take (3 * i) old ++ rideNumbers ride
+
+    -- a ride more
+    pub rides-on : (a m p₀ d : ℕ) (at next : At) (old new : List ℕ) → r ≤ 63 → r ≤ length path
+        → length old ≡ 192
+        → Under w path r v a m p₀ d i old at
+        → Rode w path r v i at old new next
+        → Under w path r v a m p₀ d (i + 1) new next
+    unfolding Under Headed
+    rides-on a m p₀ d at next old new few long room under rode = go (rode .headed)
+      where
+        here : Left t b v (take r path) a m p₀ (take (3 * i) old) d (y ∷ q) (at .from) (at .ready) (at .left)
+        here =
+            subst
+            (λ q. Going t b v (take r path) a m p₀ (take (3 * i) old) d q (at .from) (at .ready) (at .left))
+            (on i inside long)
+            under
+
+        go : Nothing w path r v i at (rode .ride) ⊎ Taken w path r v false i at (rode .ride)
+            → Going t b v (take r path) a m p₀ (take (3 * (i + 1)) new) d (slice (i + 1) r path) (next .from) (next .ready)
+            (next .left)
+        go (inl h) =
+            absurd
+            (h .none (here .some)
+            (subst (λ q. Fitting t b v q (at .from) (at .ready) (at .left) (here .some)) (sym (on i inside long)) (here .fits)))
+        go (inr h) =
+            let ride = h .ride in
+            let chosen = subst (λ q. Chosen t b v false q (at .from) (at .ready) (at .left) ride) (on i inside long) (h .chosen) in
+            moves a m p₀ d (at .left) (rode .ride) ride (h .tells) old new next (rode .moved) (omega arith) (take r path)
+            (goes t (is-valid w accepted) b v (take r path) a m p₀ y (at .from) (at .ready) (at .left) ride (there .change)
+            (there .listed) (there .at) q (take (3 * i) old) d here chosen)
+
+  -- ---- the first ride
+  module _ (start : At) (s : RideStruct) where
+    abbrev a : ℕ
+    a = start .from
+
+    abbrev m : ℕ
+    m = start .ready
+
+    abbrev p : ℕ
+    p = start .left
+
+    pub starts : (old new : List ℕ) (next : At) → Listed (stationCount w) path r → 1 ≤ r → r ≤ length path
+        → length old ≡ 192
+        → Headed w path r v true 0 start s
+        → ¬ (s .trip ≡ 65536)
+        → Moved w path 0 (start .left) s old new next
+        → Under w path r v (start .from) (start .ready) (start .left) (s .depart) 1 new next
+    unfolding Under Headed
+    starts old new next listed some long room headed found move = go headed
+      where
+        go : Nothing w path r v 0 start s ⊎ Taken w path r v true 0 start s
+            → Going t b v (take r path) a m p (take (3 * 1) new) (s .depart) (slice 1 r path) (next .from) (next .ready)
+            (next .left)
+        go (inl h) = absurd (found (h .trip))
+        go (inr h) =
+            let ride = h .ride in
+            let y = getD path 0 0 in
+            let q = slice 1 r path in
+            let on-way = on 0 (omega arith) long in
+            let c = there listed 0 (omega arith) in
+            let chosen = subst (λ q. Chosen t b v true q a m p ride) on-way (h .chosen) in
+            let first = begins t (is-valid w accepted) b v y a m p ride (c .change) (c .listed) (c .at) q chosen in
+            let goes-on =
+                moves listed 0 (omega arith) a m p (ride .depart) p s ride (h .tells) old new next move (omega arith) (y ∷ q)
+                first
+            in
+            subst
+            (λ d. Going t b v (take r path) a m p (take (3 * 1) new) d q (next .from) (next .ready) (next .left))
+            (sym (ap (λ s. s .depart) (h .tells)))
+            (subst
+            (λ l. Going t b v l a m p (take (3 * 1) new) (ride .depart) q (next .from) (next .ready) (next .left))
+            (sym on-way)
+            goes-on)
+
+    pub none-fits : (rides : List ℕ) → Headed w path r v true 0 start s → s .trip ≡ 65536
+        → FoundAt w path r v start (record { found = false; depart = 0 }) rides
+    unfolding Headed FoundAt
+    none-fits rides headed e = go headed
+      where
+        go : Nothing w path r v 0 start s ⊎ Taken w path r v true 0 start s
+            → (e : Connection) → ¬ Fitting t b v (take r path) a m p e
+        go (inl h) = h .none
+        go (inr h) = absurd (omega (arith, e, ap (λ s. s .trip) (h .tells), h .chosen .few))
+
+  module _ (start : At) (d i : ℕ) (rides : List ℕ) (at : At)
+      (under : Under w path r v (start .from) (start .ready) (start .left) d i rides at)
+    where
+      abbrev Goes : (i : ℕ) (q : List ℕ) → Type 0
+      Goes i q =
+          Going t b v (take r path) (start .from) (start .ready) (start .left) (take (3 * i) rides) d q (at .from) (at .ready)
+          (at .left)
+
+      -- while a station is left, one can leave no earlier than one began
+      pub leaves-later : (minute : ℕ) → start .ready ≡ minute → i < r → r ≤ length path → minute ≤ at .ready
+      unfolding Under
+      leaves-later minute e inside long =
+          let here = subst (Goes i) (on i inside long) under in
+          omega (arith, here .later)
+
+      -- with no station left it is done
+      pub arrives : i ≤ r → r ≤ i → FoundAt w path r v start (record { found = true; depart = d }) rides
+      unfolding Under FoundAt
+      arrives h g =
+          let end : i ≡ r = omega arith in
+          subst (Goes r) (slice-empty r path) (subst (λ i. Goes i (slice i r path)) end under)
+
+-- what was found is said of the numbers lent
+pub found-is : (w path : List ℕ) (r v source minute p : ℕ) (f : First) (rides : List ℕ)
+    → FoundAt w path r v (record { from = source; ready = minute; left = p }) f rides
+    → Found (timetableOf w) (getD path (r - 1) 0) v (f .found) (take r path) source minute p (take (3 * r) rides)
+    (f .depart)
+unfolding FoundAt
+found-is w path r v source minute p f rides h = h
+
+-- ---- the next ride
+pub rode : (w path : List ℕ) (r v i : ℕ) (at next : At) (s : RideStruct) (old new : List ℕ)
+    → Headed w path r v false i at s
+    → Moved w path i (at .left) s old new next
+    → Rode w path r v i at old new next
+rode w path r v i at next s old new h m = record { ride = s; headed = h; moved = m }
+
+module _ (w path : List ℕ) (r i : ℕ) (accepted : isTimetable w ≡ true) (listed : Listed (stationCount w) path r) where
+  pub next-first : i < r → 1 ≤ getD path i 0
+  next-first h = listed .at i h .0
+
+  pub next-few : i < r → getD path i 0 ≤ 64
+  next-few h = station-few w accepted (getD path i 0) (listed .at i h .0) (listed .at i h .1)
+
+  module _ (x : ℕ) (is : x ≡ getD path i 0) (h : i < r) where
+    pub here-first : 1 ≤ x
+    here-first = omega (arith, is, listed .at i h .0)
+
+    pub here-most : x ≤ stationCount w
+    here-most = omega (arith, is, listed .at i h .1)

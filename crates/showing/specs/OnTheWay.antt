@@ -13,7 +13,8 @@ use Rattle.connections.specs.Rides.{Ride}
 use Rattle.connections.specs.Connections.{Connection}
 use Rattle.riding.specs.declared.Ride.{Ride as RideStruct}
 use Rattle.showing.specs.declared.At.{At}
-use Rattle.showing.specs.Showing.{Fitting}
+use Rattle.showing.specs.declared.First.{First}
+use Rattle.showing.specs.Showing.{Fitting, Found}
 use Rattle.showing.specs.Heads.{Chosen}
 use Rattle.showing.specs.Going.{Going}
 use Rattle.showing.specs.Turns.{tellsOf}
@@ -42,6 +43,12 @@ module _ (w path : List ℕ) (r v : ℕ) where
   Under a t p d i rides at =
       Going (timetableOf w) b v (take r path) a t p (take (3 * i) rides) d (slice i r path) (at .from) (at .ready)
       (at .left)
+
+  -- what the code found, from where one starts
+  unfoldable pub FoundAt : (start : At) (f : First) (rides : List ℕ) → Type 0
+  FoundAt start f rides =
+      Found (timetableOf w) b v (f .found) (take r path) (start .from) (start .ready) (start .left) (take (3 * r) rides)
+      (f .depart)
 
 -- ride s to station i of the path is written, and one has changed behind it
 pub record Moved (w path : List ℕ) (i left : ℕ) (s : RideStruct) (old new : List ℕ) (next : At) : Type 0 where

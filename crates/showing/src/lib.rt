@@ -6,18 +6,18 @@ ghost use mathlib.Core.List.{[], _∷_, _++_};
 ghost use Prim.Native.Nat.{_+_, _-_, _*_, _≤_, _<_, min};
 ghost use lib.ListN.{length, getD, take, drop, replicate};
 ghost use Rattle.words.specs.Put.{put};
-ghost use Rattle.timetable.specs.Words.{stationCount, isTimetable};
+ghost use Rattle.timetable.specs.Words.{stationCount, timetableOf, isTimetable};
 ghost use Rattle.lookup.specs.Lookup.{callsPlace};
 ghost use Rattle.checking.specs.Question10.{areTables};
 ghost use Rattle.direct.specs.Candidates.{allRead};
 ghost use Rattle.direct.specs.Choosing.{noPoints, noteAll};
 ghost use Rattle.direct.specs.Turns.{lowered};
-ghost use Rattle.showing.specs.Showing.{Listed};
+ghost use Rattle.showing.specs.Showing.{Listed, Found};
 ghost use Rattle.showing.specs.Rests.{RestsAt};
 ghost use Rattle.showing.specs.Settling.{settled};
 ghost use Rattle.showing.specs.Stepping.{arrived, catches};
 ghost use Rattle.showing.specs.Heads.{lateness, headOf};
-ghost use Rattle.showing.specs.OnTheWay.{Headed, Moved};
+ghost use Rattle.showing.specs.OnTheWay.{Headed, Moved, Rode, FoundAt};
 ghost use Rattle.showing.specs.Turns.{stepBack, caughtBy, tellsOf, numbersBefore, comesBefore, tried, Sized};
 use riding::Ride;
 use timetable::Station;
@@ -398,7 +398,8 @@ fn move_on(words: &[u16], path: &[u16], i: usize, left: usize, ride: Ride, rides
         × (i < 64)
         × (3 * i + 3 ≤ length (now rides))
         × Sized ride ⌝ }
-    ensures { λ r. ⌜ Moved (now (words .entry)) (now (path .entry)) i left ride (now (rides .entry)) (now (rides .exit)) r ⌝ }
+    ensures { λ r. ⌜ Moved (now (words .entry)) (now (path .entry)) i left ride (now (rides .entry)) (now (rides .exit)) r
+        × (r .from ≡ getD (now (path .entry)) i 0) ⌝ }
     ensures { λ _. ⌜ length (now (rides .exit)) ≡ length (now (rides .entry)) ⌝ }
 {
     put_ride(rides, i, ride);
@@ -411,4 +412,131 @@ fn move_on(words: &[u16], path: &[u16], i: usize, left: usize, ride: Ride, rides
         ready,
         left: less(left, paid),
     }
+}
+
+// Takes the next ride, to station i of the path.
+fn ride_on(
+    words: &[u16],
+    lines: &[u16],
+    minute: usize,
+    path: &[u16],
+    i: usize,
+    r: usize,
+    v: usize,
+    at: At,
+    z: &mut [u32],
+    spare: &mut [u32],
+    rides: &mut [u32],
+) -> At
+    requires { ⌜ (16384 ≤ length (now words))
+        × (isTimetable (now words) ≡ true)
+        × (areTables (now words) (now lines) ≡ true)
+        × Listed (stationCount (now words)) (now path) r
+        × (i < r)
+        × (r ≤ 63)
+        × (r ≤ length (now path))
+        × (v ≤ 2879)
+        × (1 ≤ at .from)
+        × (at .from ≤ stationCount (now words))
+        × (minute ≤ at .ready)
+        × (length (now z) ≡ 2880)
+        × (length (now spare) ≡ 2880)
+        × (length (now rides) ≡ 192) ⌝ }
+    ensures { λ n. ⌜ Rode (now (words .entry)) (now (path .entry)) r v i at (now (rides .entry)) (now (rides .exit)) n
+        × (n .from ≡ getD (now (path .entry)) i 0) ⌝ }
+    ensures { λ _. ⌜ length (now (z .exit)) ≡ length (now (z .entry)) ⌝ }
+    ensures { λ _. ⌜ length (now (spare .exit)) ≡ length (now (spare .entry)) ⌝ }
+    ensures { λ _. ⌜ length (now (rides .exit)) ≡ length (now (rides .entry)) ⌝ }
+{
+    let ride = take_ride(words, lines, minute, path, i, r, v, at, false, z, spare);
+    move_on(words, path, i, at.left, ride, rides)
+}
+
+// The connection along a path, with two arrays to work in.
+fn first_within(
+    words: &[u16],
+    lines: &[u16],
+    minute: usize,
+    path: &[u16],
+    r: usize,
+    v: usize,
+    start: At,
+    z: &mut [u32],
+    spare: &mut [u32],
+    rides: &mut [u32],
+) -> First
+    requires { ⌜ (16384 ≤ length (now words))
+        × (isTimetable (now words) ≡ true)
+        × (areTables (now words) (now lines) ≡ true)
+        × Listed (stationCount (now words)) (now path) r
+        × (1 ≤ r)
+        × (r ≤ 63)
+        × (r ≤ length (now path))
+        × (v ≤ 2879)
+        × (1 ≤ start .from)
+        × (start .from ≤ stationCount (now words))
+        × (start .ready ≡ minute)
+        × (length (now z) ≡ 2880)
+        × (length (now spare) ≡ 2880)
+        × (length (now rides) ≡ 192) ⌝ }
+    ensures { λ f. ⌜ FoundAt (now (words .entry)) (now (path .entry)) r v start f (now (rides .exit)) ⌝ }
+    ensures { λ _. ⌜ length (now (z .exit)) ≡ length (now (z .entry)) ⌝ }
+    ensures { λ _. ⌜ length (now (spare .exit)) ≡ length (now (spare .entry)) ⌝ }
+    ensures { λ _. ⌜ length (now (rides .exit)) ≡ length (now (rides .entry)) ⌝ }
+{
+    let head = take_ride(words, lines, minute, path, 0, r, v, start, true, z, spare);
+    if head.trip == NO_TRIP {
+        return First {
+            found: false,
+            depart: 0,
+        };
+    }
+    let mut at = move_on(words, path, 0, start.left, head, rides);
+    let mut i = 1;
+    while i < r {
+        at = ride_on(words, lines, minute, path, i, r, v, at, z, spare, rides);
+        i += 1;
+    }
+    First {
+        found: true,
+        depart: head.depart,
+    }
+}
+
+// The connection along a path of r stations, from the source at the minute, that is shown for a row: there by minute v,
+// for p points at the most. Its rides are written.
+pub fn first_of_pattern(
+    words: &[u16],
+    lines: &[u16],
+    source: usize,
+    minute: usize,
+    path: &[u16],
+    r: usize,
+    v: usize,
+    p: u32,
+    rides: &mut [u32],
+) -> First
+    requires { ⌜ (16384 ≤ length (now words))
+        × (isTimetable (now words) ≡ true)
+        × (areTables (now words) (now lines) ≡ true)
+        × (1 ≤ source)
+        × (source ≤ stationCount (now words))
+        × Listed (stationCount (now words)) (now path) r
+        × (1 ≤ r)
+        × (r ≤ 63)
+        × (r ≤ length (now path))
+        × (v ≤ 2879)
+        × (length (now rides) ≡ 192) ⌝ }
+    ensures { λ f. ⌜ Found (timetableOf (now (words .entry))) (getD (now (path .entry)) (r - 1) 0) v (f .found)
+        (take r (now (path .entry))) source minute p (take (3 * r) (now (rides .exit))) (f .depart) ⌝ }
+    ensures { λ _. ⌜ length (now (rides .exit)) ≡ length (now (rides .entry)) ⌝ }
+{
+    let mut z = [0u32; 2880];
+    let mut spare = [0u32; 2880];
+    let start = At {
+        from: source,
+        ready: minute,
+        left: p as usize,
+    };
+    first_within(words, lines, minute, path, r, v, start, &mut z, &mut spare, rides)
 }
