@@ -1,0 +1,315 @@
+-- From ride to ride along a path: the ride to take, what is written of it, and where one is behind it.
+use mathlib.Core.Path.{_≡_, refl, sym, ap, subst, _∙_}
+use mathlib.Core.Bool.{Bool, true, false}
+use mathlib.Core.Logic.{_⊎_, inl, inr, _↔_}
+use mathlib.Core.List.{List, [], _∷_, _++_}
+use Prim.Native.Nat.{ℕ, suc, _+_, _-_, _*_, _≤_, _<_}
+use native.Mathlib.Numerals.{add-one}
+use native.Mathlib.Omega.{arith}
+use lib.Dec.{T}
+use lib.ListN.{length, getD, set, take, drop, length-append, length-take}
+use lib.Seq.{slice, slice-empty, slice-cons, take-at, length-take-le}
+use Rattle.words.specs.Put.{put, put-more}
+use Rattle.timetable.specs.Timetable.{Timetable, Station}
+use Rattle.timetable.specs.Words.{stationCount, stationAt, timetableOf, isTimetable}
+use Rattle.connections.specs.Rides.{Ride}
+use Rattle.connections.specs.Connections.{Change, net, Connection, Boards, ready}
+use Rattle.lists.specs.Lists.{_∈_}
+use Rattle.connections.specs.Sound.{sound}
+use Rattle.checking.specs.Question10.{areTables}
+use Rattle.direct.specs.Candidates.{allRead}
+use Rattle.reckoning.specs.Greedy.{rideNumbers}
+use Rattle.riding.specs.declared.Ride.{Ride as RideStruct}
+use Rattle.riding.specs.Ridden.{read-rides}
+use Rattle.showing.specs.declared.At.{At}
+use Rattle.showing.specs.declared.First.{First}
+use Rattle.showing.specs.Showing.{Listed, Fitting, Shown, Found}
+use Rattle.showing.specs.Rests.{RestsAt}
+use Rattle.showing.specs.Heads.{noRide, headOf, Chosen, head-cases}
+use Rattle.showing.specs.Going.{Left, Going, goes, begins}
+use Rattle.showing.specs.Turns.{tellsOf}
+use Rattle.showing.specs.OnTheWay.{Taken, Nothing, Headed, Under, FoundAt, Moved, Rode}
+use Rattle.showing.proofs.PatternLaws.{is-valid, station-few, station-inside, ChangeThere, change-there}
+
+-- ---- one ride
+pub three-put : (i a b c : ℕ) (old mid : List ℕ) → 3 * i + 3 ≤ length old → mid ≡ put (3 * i) (a ∷ b ∷ []) old
+    → set mid (3 * i + 2) c ≡ put (3 * i) (a ∷ b ∷ c ∷ []) old
+three-put i a b c old mid h e =
+    ap (λ l. set l (3 * i + 2) c) e ∙ put-more (3 * i) 2 (a ∷ b ∷ []) old c refl (omega arith)
+
+take-three : (i : ℕ) (ws old : List ℕ) → length ws ≡ 3 → 3 * i + 3 ≤ length old
+    → take (3 * (i + 1)) (put (3 * i) ws old) ≡ take (3 * i) old ++ ws
+unfolding put
+take-three i ws old e h =
+    let long : length (take (3 * i) old ++ ws) ≡ 3 * (i + 1) = simp (length-append, length-take) (omega arith) in
+    take-at (take (3 * i) old ++ ws) (drop (3 * i + length ws) old) (3 * (i + 1)) long
+
+pub moved : (w path : List ℕ) (i left to paid : ℕ) (s : RideStruct) (x : Station) (old new : List ℕ)
+    → new ≡ put (3 * i) (s .trip ∷ s .board ∷ s .alight ∷ []) old
+    → to ≡ getD path i 0
+    → x ≡ stationAt w (to - 1)
+    → paid ≡ left - (s .points + x .points)
+    → Moved w path i left s old new (record { from = to; ready = s .arrive + x .minutes; left = paid })
+moved w path i left to paid s x old new e f g h =
+    let there : x ≡ stationAt w (getD path i 0 - 1) = g ∙ ap (λ k. stationAt w (k - 1)) f in
+    record {
+      wrote = e;
+      from = f;
+      ready = ap (λ x. s .arrive + x .minutes) there;
+      left-then = h ∙ ap (λ x. left - (s .points + x .points)) there;
+    }
+
+-- ---- along the path
+module _ (w path : List ℕ) (r v : ℕ) (accepted : isTimetable w ≡ true) where
+  abbrev t : Timetable
+  t = timetableOf w
+
+  abbrev b : ℕ
+  b = getD path (r - 1) 0
+
+  on : (i : ℕ) → i < r → r ≤ length path → slice i r path ≡ getD path i 0 ∷ slice (i + 1) r path
+  on i h long = slice-cons i r path 0 h long ∙ ap (λ k. getD path i 0 ∷ slice k r path) (sym (add-one i))
+
+  pub head-taken : (lines : List ℕ) (minute i to : ℕ) (at : At) (first : Bool) (z : List ℕ) (s : RideStruct)
+      → areTables w lines ≡ true → i < r → r ≤ length path → 1 ≤ at .from → at .from ≤ stationCount w
+      → minute ≤ at .ready
+      → RestsAt w path r v minute i z
+      → to ≡ getD path i 0
+      → s ≡ tellsOf (headOf first z (at .left) (allRead lines (at .from) (at .ready) to))
+      → Headed w path r v first i at s
+  unfolding RestsAt Headed
+  head-taken lines minute i to at first z s own inside long least most later rests is-to is =
+      go (head-cases t (is-valid w accepted) b v minute q y x u p later rides told z rests first)
+    where
+      y : ℕ
+      y = getD path i 0
+
+      q : List ℕ
+      q = slice (i + 1) r path
+
+      x : ℕ
+      x = at .from
+
+      u : ℕ
+      u = at .ready
+
+      p : ℕ
+      p = at .left
+
+      rides : List Ride
+      rides = allRead lines x u y
+
+      told : (g : Ride) → g ∈ rides ↔ (Boards (net t) x u g × (g .to ≡ y))
+      told = read-rides w lines x y u accepted own least (station-inside w accepted x least most)
+
+      one : Ride
+      one = headOf first z p rides
+
+      tells : s ≡ tellsOf one
+      tells = is ∙ ap (λ y. tellsOf (headOf first z p (allRead lines x u y))) is-to
+
+      go : ((one ≡ noRide) × ((e : Connection) → ¬ Fitting t b v (y ∷ q) x u p e)) ⊎ Chosen t b v first (y ∷ q) x u p one
+          → Nothing w path r v i at s ⊎ Taken w path r v first i at s
+      go (inl h) =
+          inl (record {
+            trip = ap (λ s. s .trip) (tells ∙ ap tellsOf (h .0));
+            none = λ e f. h .1 e (subst (λ q. Fitting t b v q x u p e) (on i inside long) f);
+          })
+      go (inr c) =
+          inr (record {
+            ride = one;
+            tells = tells;
+            chosen = subst (λ q. Chosen t b v first q x u p one) (sym (on i inside long)) c;
+          })
+
+  -- ---- the ride to station i is written, and one has changed there
+  module _ (listed : Listed (stationCount w) path r) (i : ℕ) (inside : i < r) where
+    abbrev y : ℕ
+    y = getD path i 0
+
+    abbrev q : List ℕ
+    q = slice (i + 1) r path
+
+    there : ChangeThere w accepted y (listed .at i inside .0) (listed .at i inside .1)
+    there = change-there w accepted y (listed .at i inside .0) (listed .at i inside .1)
+
+    -- what goes on behind a ride and the change there goes on where one is
+    module _
+        (a m p₀ d left : ℕ)
+        (s : RideStruct)
+        (ride : Ride)
+        (tells : s ≡ tellsOf ride)
+        (old new : List ℕ)
+        (next : At)
+        (move : Moved w path i left s old new next)
+        (room : 3 * i + 3 ≤ length old)
+      where
+        abbrev w′ : Change
+        w′ = there .change
+
+        written : take (3 * i) old ++ rideNumbers ride ≡ take (3 * (i + 1)) new
+        written =
+            sym
+            (ap (take (3 * (i + 1))) (move .wrote)
+            ∙ take-three i (s .trip ∷ s .board ∷ s .alight ∷ []) old refl room
+            ∙ ap (λ s. take (3 * i) old ++ (s .trip ∷ s .board ∷ s .alight ∷ [])) tells)
+
+        station : w′ .to ≡ next .from
+        station = sound t (is-valid w accepted) .stays w′ (there .listed) ∙ there .at ∙ sym (move .from)
+
+        minute : ready ride w′ ≡ next .ready
+        minute = omega (arith, ap (λ s. s .arrive) tells, there .minutes, move .ready)
+
+        points : left - (ride .points + w′ .points) ≡ next .left
+        points =
+            ap (λ s. left - (s .points + w′ .points)) (sym tells)
+            ∙ ap (λ k. left - (s .points + k)) (there .points)
+            ∙ sym (move .left-then)
+
+        moves : (whole : List ℕ)
+            → Going t b v whole a m p₀ (take (3 * i) old ++ rideNumbers ride) d q (w′ .to) (ready ride w′)
+            (left - (ride .points + w′ .points))
+            → Going t b v whole a m p₀ (take (3 * (i + 1)) new) d q (next .from) (next .ready) (next .left)
+        moves whole g =
+            subst (λ k. Going t b v whole a m p₀ k d q (next .from) (next .ready) (next .left)) written
+            (subst (λ x. Going t b v whole a m p₀ done d q x (next .ready) (next .left)) station
+            (subst (λ u. Going t b v whole a m p₀ done d q (w′ .to) u (next .left)) minute
+            (subst (λ p. Going t b v whole a m p₀ done d q (w′ .to) (ready ride w′) p) points g)))
+          where
+            done : List ℕ
+            done = take (3 * i) old ++ rideNumbers ride
+
+    -- a ride more
+    pub rides-on : (a m p₀ d : ℕ) (at next : At) (old new : List ℕ) → r ≤ 63 → r ≤ length path
+        → length old ≡ 192
+        → Under w path r v a m p₀ d i old at
+        → Rode w path r v i at old new next
+        → Under w path r v a m p₀ d (i + 1) new next
+    unfolding Under Headed
+    rides-on a m p₀ d at next old new few long room under rode = go (rode .headed)
+      where
+        here : Left t b v (take r path) a m p₀ (take (3 * i) old) d (y ∷ q) (at .from) (at .ready) (at .left)
+        here =
+            subst
+            (λ q. Going t b v (take r path) a m p₀ (take (3 * i) old) d q (at .from) (at .ready) (at .left))
+            (on i inside long)
+            under
+
+        go : Nothing w path r v i at (rode .ride) ⊎ Taken w path r v false i at (rode .ride)
+            → Going t b v (take r path) a m p₀ (take (3 * (i + 1)) new) d (slice (i + 1) r path) (next .from) (next .ready)
+            (next .left)
+        go (inl h) =
+            absurd
+            (h .none (here .some)
+            (subst (λ q. Fitting t b v q (at .from) (at .ready) (at .left) (here .some)) (sym (on i inside long)) (here .fits)))
+        go (inr h) =
+            let ride = h .ride in
+            let chosen = subst (λ q. Chosen t b v false q (at .from) (at .ready) (at .left) ride) (on i inside long) (h .chosen) in
+            moves a m p₀ d (at .left) (rode .ride) ride (h .tells) old new next (rode .moved) (omega arith) (take r path)
+            (goes t (is-valid w accepted) b v (take r path) a m p₀ y (at .from) (at .ready) (at .left) ride (there .change)
+            (there .listed) (there .at) q (take (3 * i) old) d here chosen)
+
+  -- ---- the first ride
+  module _ (start : At) (s : RideStruct) where
+    abbrev a : ℕ
+    a = start .from
+
+    abbrev m : ℕ
+    m = start .ready
+
+    abbrev p : ℕ
+    p = start .left
+
+    pub starts : (old new : List ℕ) (next : At) → Listed (stationCount w) path r → 1 ≤ r → r ≤ length path
+        → length old ≡ 192
+        → Headed w path r v true 0 start s
+        → ¬ (s .trip ≡ 65536)
+        → Moved w path 0 (start .left) s old new next
+        → Under w path r v (start .from) (start .ready) (start .left) (s .depart) 1 new next
+    unfolding Under Headed
+    starts old new next listed some long room headed found move = go headed
+      where
+        go : Nothing w path r v 0 start s ⊎ Taken w path r v true 0 start s
+            → Going t b v (take r path) a m p (take (3 * 1) new) (s .depart) (slice 1 r path) (next .from) (next .ready)
+            (next .left)
+        go (inl h) = absurd (found (h .trip))
+        go (inr h) =
+            let ride = h .ride in
+            let y = getD path 0 0 in
+            let q = slice 1 r path in
+            let on-way = on 0 (omega arith) long in
+            let c = there listed 0 (omega arith) in
+            let chosen = subst (λ q. Chosen t b v true q a m p ride) on-way (h .chosen) in
+            let first = begins t (is-valid w accepted) b v y a m p ride (c .change) (c .listed) (c .at) q chosen in
+            let goes-on =
+                moves listed 0 (omega arith) a m p (ride .depart) p s ride (h .tells) old new next move (omega arith) (y ∷ q)
+                first
+            in
+            subst
+            (λ d. Going t b v (take r path) a m p (take (3 * 1) new) d q (next .from) (next .ready) (next .left))
+            (sym (ap (λ s. s .depart) (h .tells)))
+            (subst
+            (λ l. Going t b v l a m p (take (3 * 1) new) (ride .depart) q (next .from) (next .ready) (next .left))
+            (sym on-way)
+            goes-on)
+
+    pub none-fits : (rides : List ℕ) → Headed w path r v true 0 start s → s .trip ≡ 65536
+        → FoundAt w path r v start (record { found = false; depart = 0 }) rides
+    unfolding Headed FoundAt
+    none-fits rides headed e = go headed
+      where
+        go : Nothing w path r v 0 start s ⊎ Taken w path r v true 0 start s
+            → (e : Connection) → ¬ Fitting t b v (take r path) a m p e
+        go (inl h) = h .none
+        go (inr h) = absurd (omega (arith, e, ap (λ s. s .trip) (h .tells), h .chosen .few))
+
+  module _ (start : At) (d i : ℕ) (rides : List ℕ) (at : At)
+      (under : Under w path r v (start .from) (start .ready) (start .left) d i rides at)
+    where
+      abbrev Goes : (i : ℕ) (q : List ℕ) → Type 0
+      Goes i q =
+          Going t b v (take r path) (start .from) (start .ready) (start .left) (take (3 * i) rides) d q (at .from) (at .ready)
+          (at .left)
+
+      -- while a station is left, one can leave no earlier than one began
+      pub leaves-later : (minute : ℕ) → start .ready ≡ minute → i < r → r ≤ length path → minute ≤ at .ready
+      unfolding Under
+      leaves-later minute e inside long =
+          let here = subst (Goes i) (on i inside long) under in
+          omega (arith, here .later)
+
+      -- with no station left it is done
+      pub arrives : i ≤ r → r ≤ i → FoundAt w path r v start (record { found = true; depart = d }) rides
+      unfolding Under FoundAt
+      arrives h g =
+          let end : i ≡ r = omega arith in
+          subst (Goes r) (slice-empty r path) (subst (λ i. Goes i (slice i r path)) end under)
+
+-- what was found is said of the numbers lent
+pub found-is : (w path : List ℕ) (r v source minute p : ℕ) (f : First) (rides : List ℕ)
+    → FoundAt w path r v (record { from = source; ready = minute; left = p }) f rides
+    → Found (timetableOf w) (getD path (r - 1) 0) v (f .found) (take r path) source minute p (take (3 * r) rides)
+    (f .depart)
+unfolding FoundAt
+found-is w path r v source minute p f rides h = h
+
+-- ---- the next ride
+pub rode : (w path : List ℕ) (r v i : ℕ) (at next : At) (s : RideStruct) (old new : List ℕ)
+    → Headed w path r v false i at s
+    → Moved w path i (at .left) s old new next
+    → Rode w path r v i at old new next
+rode w path r v i at next s old new h m = record { ride = s; headed = h; moved = m }
+
+module _ (w path : List ℕ) (r i : ℕ) (accepted : isTimetable w ≡ true) (listed : Listed (stationCount w) path r) where
+  pub next-first : i < r → 1 ≤ getD path i 0
+  next-first h = listed .at i h .0
+
+  pub next-few : i < r → getD path i 0 ≤ 64
+  next-few h = station-few w accepted (getD path i 0) (listed .at i h .0) (listed .at i h .1)
+
+  module _ (x : ℕ) (is : x ≡ getD path i 0) (h : i < r) where
+    pub here-first : 1 ≤ x
+    here-first = omega (arith, is, listed .at i h .0)
+
+    pub here-most : x ≤ stationCount w
+    here-most = omega (arith, is, listed .at i h .1)
