@@ -7,3 +7,4 @@ pub mod Leading
 pub mod Granted
 pub mod Arcs
 pub mod Shown
+pub mod Trying

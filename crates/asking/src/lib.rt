@@ -5,12 +5,13 @@ ghost use Prim.Native.Nat.{_+_, _-_, _*_, _≤_, _<_};
 ghost use lib.ListN.{length, take};
 ghost use Rattle.words.specs.Put.{put};
 ghost use Rattle.lists.specs.Lists.{before};
-ghost use Rattle.wellmade.specs.Entries.{arcCount};
+ghost use Rattle.wellmade.specs.Entries.{arcCount, arcTarget};
 ghost use Rattle.asking.specs.Asking.{kept, rows, rowWords, askReply, askWords};
 ghost use Rattle.asking.specs.Keys.{keyWords};
 ghost use Rattle.asking.specs.Rowed.{LeastKept};
 ghost use Rattle.asking.specs.Arcs.{Noted};
 ghost use Rattle.asking.specs.Granted.{Granted, Leading, Winning, Counted, Written, Room};
+ghost use Rattle.asking.specs.Trying.{Sized, winsTest, ArcTried, Tried};
 ghost use Rattle.asking.specs.Shown.{shownReply, shownWords};
 use replies::Reply;
 
@@ -132,7 +133,99 @@ fn note_arcs(
     }
 }
 
-// The connection that is shown for an arrival minute and a penalty.
+// The connection of arc k that goes before all others of the arc with an arrival minute and a penalty, if there is one.
+// The numbers of its rides are written.
+fn find_arc(
+    words: &[u16],
+    lines: &[u16],
+    store: &[u16],
+    from: usize,
+    to: usize,
+    minute: usize,
+    k: usize,
+    arrive: usize,
+    points: u32,
+    tried: &mut [u32],
+) -> Winner
+    requires { ⌜ Granted (now words) (now lines) (now store) from to minute
+        × Leading (now words) (now store) from to minute arrive points
+        × (arrive < 2880)
+        × (k < arcCount (now store))
+        × (arcTarget (now store) k ≡ to)
+        × (length (now tried) ≡ 192) ⌝ }
+    ensures { λ r. ⌜ ArcTried
+        (now (words .entry))
+        (now (store .entry))
+        from
+        to
+        minute
+        arrive
+        points
+        k
+        r
+        (now (tried .exit))
+        × Sized r ⌝ }
+    ensures { λ _. ⌜ length (now (tried .exit)) ≡ length (now (tried .entry)) ⌝ }
+{
+    Winner {
+        found: false,
+        depart: 0,
+        rides: 0,
+    }
+}
+
+// Whether what was tried goes before the winner so far, or is the first that was found.
+fn wins(f: Winner, tried: &[u32], x: Winner, shown: &[u32]) -> bool
+    requires { ⌜ Sized f × Sized x × (length (now tried) ≡ 192) × (length (now shown) ≡ 192) ⌝ }
+    ensures { λ r. ⌜ r ≡ winsTest f (now (tried .entry)) x (now (shown .entry)) ⌝ }
+{
+    if !f.found {
+        return false;
+    }
+    if !x.found {
+        return true;
+    }
+    goes_before(f, tried, x, shown)
+}
+
+// The winner once arc k is tried too: what is found along it, if that goes before the winner so far.
+fn try_arc(
+    words: &[u16],
+    lines: &[u16],
+    store: &[u16],
+    from: usize,
+    to: usize,
+    minute: usize,
+    k: usize,
+    arrive: usize,
+    points: u32,
+    x: Winner,
+    tried: &mut [u32],
+    shown: &mut [u32],
+) -> Winner
+    requires { ⌜ Granted (now words) (now lines) (now store) from to minute
+        × Leading (now words) (now store) from to minute arrive points
+        × (arrive < 2880)
+        × (k < arcCount (now store))
+        × (arcTarget (now store) k ≡ to)
+        × Sized x
+        × Tried (now words) (now store) from to minute arrive points k x (now shown)
+        × (length (now tried) ≡ 192)
+        × (length (now shown) ≡ 192) ⌝ }
+    ensures { λ r. ⌜ Tried (now (words .entry)) (now (store .entry)) from to minute arrive points (k + 1) r (now (shown .exit))
+        × Sized r ⌝ }
+    ensures { λ _. ⌜ (length (now (tried .exit)) ≡ length (now (tried .entry)))
+        × (length (now (shown .exit)) ≡ length (now (shown .entry))) ⌝ }
+{
+    let f = find_arc(words, lines, store, from, to, minute, k, arrive, points, tried);
+    if !wins(f, tried, x, shown) {
+        return x;
+    }
+    words::copy_long(shown, 0, tried, 3 * f.rides);
+    f
+}
+
+// The connection that is shown for an arrival minute and a penalty. The numbers of its rides are written.
 fn choose(
     words: &[u16],
     lines: &[u16],
@@ -146,14 +239,27 @@ fn choose(
 ) -> Winner
     requires { ⌜ Granted (now words) (now lines) (now store) from to minute
         × Leading (now words) (now store) from to minute arrive points
+        × (arrive < 2880)
         × (length (now shown) ≡ 192) ⌝ }
     ensures { λ r. ⌜ Winning (now (words .entry)) (now (store .entry)) from to minute arrive points r (now (shown .exit)) ⌝ }
 {
-    Winner {
+    let mut tried = [0u32; NUMBERS_MOST];
+    let mut x = Winner {
         found: false,
         depart: 0,
         rides: 0,
+    };
+    let arcs = wellmade::arc_count(store);
+    let mut k = 0;
+    'arcs: while k < arcs {
+        let arc = k;
+        k += 1;
+        if wellmade::arc_target(store, arc) != to {
+            continue 'arcs;
+        }
+        x = try_arc(words, lines, store, from, to, minute, arc, arrive, points, x, &mut tried, shown);
     }
+    x
 }
 
 // How many words the row for an arrival minute and a penalty has.
@@ -168,7 +274,8 @@ fn row_length(
     points: u32,
 ) -> usize
     requires { ⌜ Granted (now words) (now lines) (now store) from to minute
-        × Leading (now words) (now store) from to minute arrive points ⌝ }
+        × Leading (now words) (now store) from to minute arrive points
+        × (arrive < 2880) ⌝ }
     ensures { λ r. ⌜ Counted (now (words .entry)) (now (store .entry)) from to minute arrive points r × (r ≤ 192) ⌝ }
 {
     let mut shown = [0u32; NUMBERS_MOST];

@@ -43,7 +43,7 @@ minutes-again c = (search needs, search needs, search going-skip)
 
 -- src/lib.rt:151:18
 row-length-requires : tie.Need-row-length-requires Inv-minutes μ-minutes
-row-length-requires c κs = (search needs, search now-leading)
+row-length-requires c κs = (search needs, search now-leading, search needs)
 
 -- src/lib.rt:151:9
 add-count : tie.Need-add-count Inv-minutes μ-minutes
