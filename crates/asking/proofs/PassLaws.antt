@@ -1,8 +1,8 @@
--- One pass over the arrival minutes: the rows of those that lead so far are counted or written, and those of the minutes
--- that are left are the rest.
+-- One pass over the arrival minutes: the rows of those that lead so far are counted or written, and those of the
+-- minutes that are left are the rest.
 use mathlib.Core.Path.{_≡_, refl, sym, ap, subst, _∙_}
 use mathlib.Core.List.{List, [], _∷_, _++_, List·Memᴰ·head as here-first, Memᴰ·append-right}
-use Prim.Native.Nat.{ℕ, suc, _+_, _-_, _*_, _≤_, _<_, min}
+use Prim.Native.Nat.{ℕ, _+_, _-_, _≤_, _<_, min}
 use native.Mathlib.Nat.{add-zero, zero-add}
 use native.Mathlib.Numerals.{add-one}
 use native.Mathlib.Omega.{arith}
@@ -140,7 +140,8 @@ module _
               → put here row out ≡ put 0 (take (here + length row) (rowWords rs)) old
           written-row old out room held =
               ap (λ i. put i row out) (sym (zero-add here))
-              ∙ write-some (rowWords rs) old out 0 here held (omega arith) row (rowWords (drop (k .place + 1) rs)) (k .within)
+              ∙ write-some (rowWords rs) old out 0 here held (omega arith) row (rowWords (drop (k .place + 1) rs))
+              (k .within)
               words-next
 
         -- counted
@@ -180,7 +181,8 @@ module _
       pub all-written : (old out : List ℕ) → length (rowWords (rows w s a b u)) ≤ length old
           → out ≡ put 0 (take here (rowWords (rows w s a b u))) old
           → out ≡ put 0 (rowWords (rows w s a b u)) old
-      all-written old out room held = write-done (rowWords rs) old out 0 here held (omega arith) (omega (arith, all-counted))
+      all-written old out room held =
+          write-done (rowWords rs) old out 0 here held (omega arith) (omega (arith, all-counted))
 
 pub put-nothing : (old whole : List ℕ) → old ≡ put 0 (take 0 whole) old
 put-nothing old whole = sym (put-none 0 old)

@@ -1,13 +1,11 @@
 -- One row: its words are the cost, the number of rides and the words that the winner told.
-use mathlib.Core.Path.{_≡_, refl, sym, ap, subst, _∙_}
-use mathlib.Core.List.{List, [], _∷_, _++_}
-use Prim.Native.Nat.{ℕ, _+_, _-_, _*_, _≤_, _<_}
+use mathlib.Core.Path.{_≡_, refl, sym, ap, _∙_}
+use mathlib.Core.List.{List, [], _∷_}
+use Prim.Native.Nat.{ℕ, _+_, _-_, _*_, _≤_}
 use native.Mathlib.Omega.{arith}
 use lib.ListN.{length, take, set, length-set}
 use lib.Seq.{length-take-le}
 use Rattle.words.specs.Put.{put, put-more, put-append}
-use Rattle.connections.specs.Connections.{duration, penalty}
-use Rattle.connections.specs.Planner.{rideCount, numbers, measure}
 use Rattle.results.specs.Results.{row}
 use Rattle.asking.specs.Asking.{kept}
 use Rattle.asking.specs.Rowed.{RowFor}

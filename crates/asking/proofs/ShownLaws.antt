@@ -2,7 +2,7 @@
 use mathlib.Core.Path.{_≡_, refl, sym, ap, _∙_}
 use mathlib.Core.Bool.{Bool, true, false}
 use mathlib.Core.List.{List, [], _∷_}
-use Prim.Native.Nat.{ℕ, zero, suc, _≤_, _<_}
+use Prim.Native.Nat.{ℕ, _≤_, _<_}
 use native.Mathlib.Omega.{arith}
 use borrow.Author.Tests.{le-leb, lt-leb}
 use lib.Dec.{leb}
@@ -11,7 +11,7 @@ use lib.Seq.{length-take-le}
 use Rattle.words.specs.Put.{put}
 use Rattle.questions.specs.Question.{ask, firstNo}
 use Rattle.replies.specs.declared.Reply.the-variants.{Done, Refused}
-use Rattle.replies.specs.Replies.{replyOf, wordsAfter, reply-done, reply-refused, words-done, words-kept}
+use Rattle.replies.specs.Replies.{reply-done, reply-refused, words-done, words-kept}
 use Rattle.checking.specs.Asked.{queryNumber}
 use Rattle.checking.specs.Yes.{yes-all}
 use Rattle.direct.specs.Choosing.{noPoints, leads}
@@ -19,7 +19,7 @@ use Rattle.asking.specs.Asking.{kept, rows, rowWords}
 use Rattle.asking.specs.Rowed.{LeastKept}
 use Rattle.asking.specs.Leading.{leads-count, leads-none, leads-some}
 use Rattle.asking.specs.Granted.{Granted, all-bounds}
-use Rattle.asking.specs.Shown.{twoQuestions, shownNumber, shownReply, shownWords}
+use Rattle.asking.specs.Shown.{shownNumber, shownReply, shownWords}
 use Rattle.asking.proofs.PassLaws.{rows-are}
 
 module _
@@ -94,7 +94,9 @@ module _
             → new ≡ shownWords w s a b u old
         unfolding shownWords
         done-words old new room e =
-            e ∙ words-done (shownNumber w s a b u (length old)) (rowWords (rows w s a b u)) old (enough (length old) room)
+            e
+            ∙ words-done (shownNumber w s a b u (length old)) (rowWords (rows w s a b u)) old
+            (enough (length old) room)
 
 -- working space is as long as the questions asked for
 module _ (w v work after : List ℕ) (a b u number : ℕ)

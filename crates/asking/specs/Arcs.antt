@@ -7,7 +7,7 @@ use native.Mathlib.Numerals.{add-one}
 use native.Mathlib.Omega.{arith}
 use lib.ListN.{length, getD, take, length-append, length-take}
 use lib.Seq.{take-suc, getD-take, getD-append-seam}
-use Rattle.timetable.specs.Words.{timetableOf, stationCount}
+use Rattle.timetable.specs.Words.{timetableOf}
 use Rattle.timetable.specs.Check.{length-stations}
 use Rattle.connections.specs.Connections.{net}
 use Rattle.connections.specs.Sound.{Sound}
@@ -140,7 +140,8 @@ module _ (w s best : List ℕ) (a b u k arcs : ℕ) (all : arcs ≡ arcCount s) 
     inside : k < length (readable s)
     inside = omega (arith, length-readable s)
 
-    next : (new : List ℕ) → ((ok : Sound (net (timetableOf w))) → Collected (net (timetableOf w)) ok s a u b (suc k) new)
+    next : (new : List ℕ)
+        → ((ok : Sound (net (timetableOf w))) → Collected (net (timetableOf w)) ok s a u b (suc k) new)
         → NotedAll w s a b u (k + 1) new
     next new f =
         record {

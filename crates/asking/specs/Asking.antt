@@ -1,6 +1,6 @@
 -- What the query from a store answers and writes. Document 01: "Given any well-made store, a query's rows are the
--- undominated costs among the feasible connections whose pattern it holds, and ties are settled among those."; "An answer
--- is in 32-bit words, rows in rising duration [..]. The row count is returned."
+-- undominated costs among the feasible connections whose pattern it holds, and ties are settled among those."; "An
+-- answer is in 32-bit words, rows in rising duration [..]. The row count is returned."
 use mathlib.Core.List.{List, [], _∷_, _++_}
 use Prim.Native.Nat.{ℕ}
 use lib.Dec.{leb}
@@ -24,8 +24,8 @@ rows w s a b u = answer (net (timetableOf w)) s a u b
 abbrev pub rowWords : List (List ℕ) → List ℕ
 rowWords l = concatMap (λ r. r) l
 
--- "Is the store well made ..? 13", "Is there a feasible connection, with a stored pattern ..? 14", and "Is the answer ..
--- slice long enough ..? 15" for m words, which is asked of the result
+-- "Is the store well made ..? 13", "Is there a feasible connection, with a stored pattern ..? 14", and "Is the
+-- answer .. slice long enough ..? 15" for m words, which is asked of the result
 abbrev pub lastQuestions : (w s : List ℕ) (a b u m : ℕ) → List Question
 lastQuestions w s a b u m =
     ask 13 (wellMade (length ((timetableOf w) .stations)) s)

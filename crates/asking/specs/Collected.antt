@@ -1,13 +1,12 @@
 -- The least penalties of a store's sequences, collected arc by arc: after k arcs the array has, for each minute, the
 -- least penalty of those who arrive then by one of the first k sequences; after all arcs it has that of the list kept.
 use mathlib.Core.Path.{_≡_, refl, sym, ap, subst, _∙_}
-use mathlib.Core.Logic.{_≢_, _⊎_, inl, inr}
+use mathlib.Core.Logic.{_≢_, inl, inr}
 use mathlib.Core.List.{List, [], _∷_, _++_, reverseAux, List·Memᴰ·head as here, Memᴰ·append-left, Memᴰ·append-right}
 use Prim.Native.Nat.{ℕ, zero, suc, _+_, _≤_, _<_}
 use native.Mathlib.Omega.{arith, by-contra}
 use lib.ListN.{length, getD, take, replicate, length-replicate, List·getD-eq-default}
 use lib.Seq.{take-suc, take-all}
-use Rattle.timetable.specs.Timetable.{lastMinute}
 use Rattle.lists.specs.Lists.{_∈_}
 use Rattle.lists.specs.Members.{none, append-cases, cons-cases}
 use Rattle.results.specs.Picks.{lead}
@@ -87,7 +86,8 @@ module _ (n : Net) (ok : Sound n) (s : List ℕ) (a u b : ℕ) where
           pays = h .pays;
         }
 
-    cases : {G : Type 0} (q : List ℕ) → q ∈ take (suc k) (readable s) → (q ∈ take k (readable s) → G) → (q ≡ this → G) → G
+    cases : {G : Type 0} (q : List ℕ) → q ∈ take (suc k) (readable s) → (q ∈ take k (readable s) → G)
+        → (q ≡ this → G) → G
     cases q i f g =
         append-cases (take k (readable s)) (subst (λ l. q ∈ l) next i) f (λ j. cons-cases j g (λ z. none z))
 
@@ -115,7 +115,7 @@ module _ (n : Net) (ok : Sound n) (s : List ℕ) (a u b : ℕ) where
       attained m h g = elim (l .stems m) [
         | inl z ↦ old (sym (after-is m h) ∙ z ∙ before-is m h)
         | inr z ↦
-          fresh (sequence-ends n a u rev b m (getD new m 0) .0 (subst (Ends n a u rev b m) (after-is m h) z))
+            fresh (sequence-ends n a u rev b m (getD new m 0) .0 (subst (Ends n a u rev b m) (after-is m h) z))
       ]
         where
           old : getD new m 0 ≡ getD w m 0 → Held (suc k) m (getD new m 0)

@@ -1,9 +1,9 @@
--- What the code takes for granted once questions 8 to 13 have their yes, and what it keeps and tells on the way from the
--- least penalties to the rows.
+-- What the code takes for granted once questions 8 to 13 have their yes, and what it keeps and tells on the way from
+-- the least penalties to the rows.
 use mathlib.Core.Path.{_≡_, sym, subst}
 use mathlib.Core.Bool.{true}
 use mathlib.Core.List.{List}
-use Prim.Native.Nat.{ℕ, _+_, _-_, _*_, _≤_, _<_}
+use Prim.Native.Nat.{ℕ, _+_, _-_, _*_, _≤_}
 use native.Mathlib.Omega.{arith}
 use lib.Dec.{T}
 use lib.ListN.{length, take}
@@ -13,7 +13,7 @@ use Rattle.timetable.specs.Words.{timetableOf, isTimetable, stationCount}
 use Rattle.timetable.specs.Access.{spelled-valid}
 use Rattle.lists.specs.Lists.{_∈_}
 use Rattle.results.specs.Results.{Cost}
-use Rattle.connections.specs.Connections.{net, Connection, Feasible, departure, penalty}
+use Rattle.connections.specs.Connections.{net, Connection, departure}
 use Rattle.connections.specs.Planner.{rideCount, numbers}
 use Rattle.connections.specs.Sound.{Sound, sound}
 use Rattle.connections.specs.Feasibility.{penalty-most}

@@ -8,3 +8,5 @@ pub mod Granted
 pub mod Arcs
 pub mod Shown
 pub mod Trying
+pub mod Found
+pub mod Demand

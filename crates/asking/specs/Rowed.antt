@@ -205,7 +205,10 @@ module _ (u : ℕ) (d : List Connection) where
           every =
               λ x i.
               cons-cases i
-              (λ z. (f .one, here refl, s .arrives ∙ ap (λ y. y .minutes) (sym z), s .pays ∙ ap (λ y. y .points) (sym z)))
+              (λ z.
+              let m = ap (λ y. y .minutes) (sym z) in
+              let p = ap (λ y. y .points) (sym z) in
+              (f .one, here refl, s .arrives ∙ m, s .pays ∙ p))
               (λ k. let l = o .every x k in (l .0, there (l .1), l .2, l .3));
         }
       where

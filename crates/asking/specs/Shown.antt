@@ -1,9 +1,9 @@
 -- The query's reply part by part: questions 14 and 15 for a store that is well made, and before them 13 and those of
 -- every query.
-use mathlib.Core.Path.{_≡_, refl, sym, ap, subst, _∙_}
+use mathlib.Core.Path.{_≡_, refl, sym, ap, _∙_}
 use mathlib.Core.Bool.{Bool, true, false, not}
 use mathlib.Core.List.{List, [], _∷_}
-use Prim.Native.Nat.{ℕ, zero, suc, _≤_, _<_}
+use Prim.Native.Nat.{ℕ, zero, suc}
 use native.Mathlib.Omega.{arith}
 use borrow.Author.Tests.{not-true, not-false}
 use lib.Dec.{leb}
@@ -123,7 +123,7 @@ module _
             minute = answers .minute;
           }
 
-      same-number : (m : ℕ) → shownNumber w s a b u m ≡ askNumber w v s n a b u m
+      pub same-number : (m : ℕ) → shownNumber w s a b u m ≡ askNumber w v s n a b u m
       unfolding shownNumber
       same-number m = sym (last-number m ∙ ap (λ t. firstNo (ask 13 t ∷ twoQuestions w s a b u m)) good)
 

@@ -2,7 +2,7 @@
 -- along the next arc in another.
 use mathlib.Core.Path.{_≡_, refl, sym, ap, subst, _∙_}
 use mathlib.Core.Bool.{Bool, true, false, not, cond}
-use mathlib.Core.List.{List, [], _∷_, reverseAux}
+use mathlib.Core.List.{List, [], reverseAux}
 use Prim.Native.Nat.{ℕ, suc, _+_, _*_, _≤_, _<_}
 use native.Mathlib.Numerals.{add-one}
 use native.Mathlib.Omega.{arith}
@@ -14,8 +14,8 @@ use Rattle.words.specs.Put.{put, take-put}
 use Rattle.lists.specs.Lists.{before}
 use Rattle.timetable.specs.Words.{timetableOf}
 use Rattle.results.specs.Results.{Cost}
-use Rattle.connections.specs.Connections.{Net, net, Connection, departure}
-use Rattle.connections.specs.Planner.{rideCount, numbers, tieKey}
+use Rattle.connections.specs.Connections.{Net, net, Connection}
+use Rattle.connections.specs.Planner.{tieKey}
 use Rattle.connections.specs.Sound.{Sound}
 use Rattle.stores.specs.Words.{readable}
 use Rattle.wellmade.specs.Entries.{arcCount, arcTarget, arcBefore}
@@ -153,118 +153,120 @@ module _ (w s : List ℕ) (a b u m p : ℕ) where
           other
           e)
 
-      module _ (f : Winner) (tried : List ℕ) (z : ArcTried k f tried) (r : Bool) (is : r ≡ winsTest f tried x shown) where
-        -- the keys are those of the connections
-        tried-key : (y : ArcWon k f tried)
-            → keyWords (f .depart) (f .rides) (take (3 * f .rides) tried) ≡ tieKey (y .one)
-        tried-key y =
-            (λ i. keyWords (y .holds .depart i) (y .holds .rides i) (y .holds .told i)) ∙ sym (key-is (y .one))
+      module _ (f : Winner) (tried : List ℕ) (z : ArcTried k f tried) (r : Bool) (is : r ≡ winsTest f tried x shown)
+        where
+          -- the keys are those of the connections
+          tried-key : (y : ArcWon k f tried)
+              → keyWords (f .depart) (f .rides) (take (3 * f .rides) tried) ≡ tieKey (y .one)
+          tried-key y =
+              (λ i. keyWords (y .holds .depart i) (y .holds .rides i) (y .holds .told i)) ∙ sym (key-is (y .one))
 
-        shown-key : (y : WonSo k x shown)
-            → keyWords (x .depart) (x .rides) (take (3 * x .rides) shown) ≡ tieKey (y .one)
-        shown-key y =
-            (λ i. keyWords (y .holds .depart i) (y .holds .rides i) (y .holds .told i)) ∙ sym (key-is (y .one))
+          shown-key : (y : WonSo k x shown)
+              → keyWords (x .depart) (x .rides) (take (3 * x .rides) shown) ≡ tieKey (y .one)
+          shown-key y =
+              (λ i. keyWords (y .holds .depart i) (y .holds .rides i) (y .holds .told i)) ∙ sym (key-is (y .one))
 
-        key-test : (y : ArcWon k f tried) (o : WonSo k x shown) → f .found ≡ true → x .found ≡ true
-            → r ≡ before (tieKey (y .one)) (tieKey (o .one))
-        unfolding winsTest
-        key-test y o e g = is ∙ rw (e, g) (λ i. before (tried-key y i) (shown-key o i))
+          key-test : (y : ArcWon k f tried) (o : WonSo k x shown) → f .found ≡ true → x .found ≡ true
+              → r ≡ before (tieKey (y .one)) (tieKey (o .one))
+          unfolding winsTest
+          key-test y o e g = is ∙ rw (e, g) (λ i. before (tried-key y i) (shown-key o i))
 
-        -- it does not win
-        module _ (lost : not r ≡ true) where
-          keep : (q h : Bool) → f .found ≡ q → x .found ≡ h → Tried (k + 1) x shown
-          unfolding winsTest arcPath
-          keep false h e g = empty (z .none e)
-          keep true false e g =
-              let won : r ≡ true = is ∙ rw (e, g) in
-              absurd (subst T (sym won ∙ not-true r lost) tt)
-          keep true true e g =
-              let y = z .won e in
-              let o = so-far .won g in
-              let no : before (tieKey (y .one)) (tieKey (o .one)) ≡ false =
-              sym (key-test y o e g) ∙ not-true r lost in
-              next x shown
-              (record {
-                none = λ i. unknown x i g;
-                won =
-                    λ i.
-                    record {
-                      one = o .one;
-                      holds = o .holds;
-                      won =
-                          λ ok.
-                          won-keep n ok s a u b c k inside (o .one) (y .one) (o .won ok) (y .own ok)
-                          (λ t. subst T no t);
-                    };
-              })
+          -- it does not win
+          module _ (lost : not r ≡ true) where
+            keep : (q h : Bool) → f .found ≡ q → x .found ≡ h → Tried (k + 1) x shown
+            unfolding winsTest arcPath
+            keep false h e g = empty (z .none e)
+            keep true false e g =
+                let won : r ≡ true = is ∙ rw (e, g) in
+                absurd (subst T (sym won ∙ not-true r lost) tt)
+            keep true true e g =
+                let y = z .won e in
+                let o = so-far .won g in
+                let no : before (tieKey (y .one)) (tieKey (o .one)) ≡ false =
+                sym (key-test y o e g) ∙ not-true r lost in
+                next x shown
+                (record {
+                  none = λ i. unknown x i g;
+                  won =
+                      λ i.
+                      record {
+                        one = o .one;
+                        holds = o .holds;
+                        won =
+                            λ ok.
+                            won-keep n ok s a u b c k inside (o .one) (y .one) (o .won ok) (y .own ok)
+                            (λ t. subst T no t);
+                      };
+                })
 
-          pub tried-keep : Tried (k + 1) x shown
-          tried-keep = keep (f .found) (x .found) refl refl
+            pub tried-keep : Tried (k + 1) x shown
+            tried-keep = keep (f .found) (x .found) refl refl
 
-        -- it wins, and its words are copied
-        module _ (best : not r ≡ false) (sized : Sized f) (was new : List ℕ) (long : length was ≡ 192)
-            (same : length tried ≡ length was) (copied : new ≡ put 0 (take (3 * f .rides) tried) shown)
-          where
-          same-words : take (3 * f .rides) new ≡ take (3 * f .rides) tried
-          same-words =
-              let ws : List ℕ = take (3 * f .rides) tried in
-              let size : length ws ≡ 3 * f .rides =
-              length-take-le (3 * f .rides) tried (omega (arith, sized .few, long, same)) in
-              ap (take (3 * f .rides)) copied
-              ∙ ap (λ i. take i (put 0 ws shown)) (sym size)
-              ∙ take-put ws shown
+          -- it wins, and its words are copied
+          module _ (best : not r ≡ false) (sized : Sized f) (was new : List ℕ) (long : length was ≡ 192)
+              (same : length tried ≡ length was) (copied : new ≡ put 0 (take (3 * f .rides) tried) shown)
+            where
+              same-words : take (3 * f .rides) new ≡ take (3 * f .rides) tried
+              same-words =
+                  let ws : List ℕ = take (3 * f .rides) tried in
+                  let size : length ws ≡ 3 * f .rides =
+                  length-take-le (3 * f .rides) tried (omega (arith, sized .few, long, same)) in
+                  ap (take (3 * f .rides)) copied
+                  ∙ ap (λ i. take i (put 0 ws shown)) (sym size)
+                  ∙ take-put ws shown
 
-          held : (y : ArcWon k f tried) → Holds f new (y .one)
-          held y =
-              record { told = same-words ∙ y .holds .told; rides = y .holds .rides; depart = y .holds .depart }
+              held : (y : ArcWon k f tried) → Holds f new (y .one)
+              held y =
+                  record { told = same-words ∙ y .holds .told; rides = y .holds .rides; depart = y .holds .depart }
 
-          turn : (q h : Bool) → f .found ≡ q → x .found ≡ h → Tried (k + 1) f new
-          unfolding winsTest arcPath
-          turn false h e g =
-              let lost : r ≡ false = is ∙ rw e in
-              absurd (subst (λ t. T (not t)) (sym lost ∙ not-false r best) tt)
-          turn true false e g =
-              let y = z .won e in
-              next f new
-              (record {
-                none = λ i. unknown f i e;
-                won =
-                    λ i.
-                    record {
-                      one = y .one;
-                      holds = held y;
-                      won = λ ok. won-new n ok s a u b c k inside (y .one) (so-far .none g ok) (y .own ok);
-                    };
-              })
-          turn true true e g =
-              let y = z .won e in
-              let o = so-far .won g in
-              let better : before (tieKey (y .one)) (tieKey (o .one)) ≡ true =
-              sym (key-test y o e g) ∙ not-false r best in
-              next f new
-              (record {
-                none = λ i. unknown f i e;
-                won =
-                    λ i.
-                    record {
-                      one = y .one;
-                      holds = held y;
-                      won =
-                          λ ok.
-                          won-better n ok s a u b c k inside (o .one) (y .one) (o .won ok) (y .own ok)
-                          (subst T (sym better) tt);
-                    };
-              })
+              turn : (q h : Bool) → f .found ≡ q → x .found ≡ h → Tried (k + 1) f new
+              unfolding winsTest arcPath
+              turn false h e g =
+                  let lost : r ≡ false = is ∙ rw e in
+                  absurd (subst (λ t. T (not t)) (sym lost ∙ not-false r best) tt)
+              turn true false e g =
+                  let y = z .won e in
+                  next f new
+                  (record {
+                    none = λ i. unknown f i e;
+                    won =
+                        λ i.
+                        record {
+                          one = y .one;
+                          holds = held y;
+                          won = λ ok. won-new n ok s a u b c k inside (y .one) (so-far .none g ok) (y .own ok);
+                        };
+                  })
+              turn true true e g =
+                  let y = z .won e in
+                  let o = so-far .won g in
+                  let better : before (tieKey (y .one)) (tieKey (o .one)) ≡ true =
+                  sym (key-test y o e g) ∙ not-false r best in
+                  next f new
+                  (record {
+                    none = λ i. unknown f i e;
+                    won =
+                        λ i.
+                        record {
+                          one = y .one;
+                          holds = held y;
+                          won =
+                              λ ok.
+                              won-better n ok s a u b c k inside (o .one) (y .one) (o .won ok) (y .own ok)
+                              (subst T (sym better) tt);
+                        };
+                  })
 
-          pub tried-turn : Tried (k + 1) f new
-          tried-turn = turn (f .found) (x .found) refl refl
+              pub tried-turn : Tried (k + 1) f new
+              tried-turn = turn (f .found) (x .found) refl refl
 
     pub tried-skip : (arcs t : ℕ) → arcs ≡ arcCount s → t ≡ arcTarget s k → k < arcs → (t ≡ b → ⊥)
         → Tried (k + 1) x shown
     tried-skip arcs t all target more other = elsewhere (omega arith) (λ e. other (target ∙ e))
 
     -- all arcs are tried
-    pub tried-all : (v : List ℕ) (arcs : ℕ) → arcs ≡ arcCount s → Granted w v s a b u → Leading w s a b u m p → Sized x → length shown ≡ 192 → arcs ≤ k
+    pub tried-all : (v : List ℕ) (arcs : ℕ) → arcs ≡ arcCount s → Granted w v s a b u → Leading w s a b u m p
+        → Sized x → length shown ≡ 192 → arcs ≤ k
         → Winning w s a b u m p x shown
     tried-all v arcs all g l sized long past = go (x .found) refl
       where

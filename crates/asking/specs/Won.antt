@@ -1,5 +1,5 @@
--- The connection that a row shows, arc by arc: of those of its cost that go by one of the first k sequences the one that
--- the rule for equal cost picks, or none; after all arcs it is the one picked from the list kept.
+-- The connection that a row shows, arc by arc: of those of its cost that go by one of the first k sequences the one
+-- that the rule for equal cost picks, or none; after all arcs it is the one picked from the list kept.
 use mathlib.Core.Path.{_≡_, refl, sym, ap, subst, _∙_}
 use mathlib.Core.Logic.{_≢_, _⊎_, inl, inr}
 use mathlib.Core.Bool.{not}
@@ -140,7 +140,8 @@ module _ (n : Net) (ok : Sound n) (s : List ℕ) (a u b : ℕ) (c : Cost) where
         }
 
     -- a sequence that ends elsewhere has no connection to b
-    pub none-elsewhere : (rev : List ℕ) (y : ℕ) → this ≡ reverseAux rev (y ∷ []) → y ≢ b → (e : Connection) → By this e → ⊥
+    pub none-elsewhere : (rev : List ℕ) (y : ℕ) → this ≡ reverseAux rev (y ∷ []) → y ≢ b → (e : Connection)
+        → By this e → ⊥
     none-elsewhere rev y e other x o = other (sym (sequence-end n a u b x rev y (o .feasible) (o .is ∙ e)))
 
   -- ---- all arcs
@@ -181,54 +182,56 @@ module _ (n : Net) (ok : Sound n) (s : List ℕ) (a u b : ℕ) (c : Cost) where
         gone (x .one) (kept-of (x .one) (x .listed) at (x .pays ∙ l .is))
 
   -- ---- who fits a cost that leads has that cost
-  module _ (known : Named n) (w : List ℕ) (least : LeastKept u (keptList n s a u b) w) (i : c ∈ leads noPoints 0 w) where
-    pub fits-by : (q : List ℕ) (e : Connection) → q ∈ readable s → Fits n known b (c .minutes) q a u (c .points) e → By q e
-    fits-by q e m f =
-        record {
-          feasible = f .feasible;
-          is = f .is;
-          arrives = at;
-          pays = omega (arith, low, f .cheap, l .is, place, ap (λ z. getD w z noPoints) at);
-        }
-      where
-        l : Led noPoints noPoints 0 w c
-        l = led-exactly noPoints w noPoints 0 c .0 i
+  module _ (known : Named n) (w : List ℕ) (least : LeastKept u (keptList n s a u b) w) (i : c ∈ leads noPoints 0 w)
+    where
+      pub fits-by : (q : List ℕ) (e : Connection) → q ∈ readable s
+          → Fits n known b (c .minutes) q a u (c .points) e → By q e
+      fits-by q e m f =
+          record {
+            feasible = f .feasible;
+            is = f .is;
+            arrives = at;
+            pays = omega (arith, low, f .cheap, l .is, place, ap (λ z. getD w z noPoints) at);
+          }
+        where
+          l : Led noPoints noPoints 0 w c
+          l = led-exactly noPoints w noPoints 0 c .0 i
 
-        place : getD w (c .minutes) noPoints ≡ c .points
-        place = ap (λ z. getD w z noPoints) (omega (arith, l .at)) ∙ l .is
+          place : getD w (c .minutes) noPoints ≡ c .points
+          place = ap (λ z. getD w z noPoints) (omega (arith, l .at)) ∙ l .is
 
-        listed : e ∈ keptList n s a u b
-        listed =
-            kept-exactly n ok s a u b e .1
-            (record { feasible = f .feasible; held = subst (λ z. z ∈ readable s) (sym (f .is)) m })
+          listed : e ∈ keptList n s a u b
+          listed =
+              kept-exactly n ok s a u b e .1
+              (record { feasible = f .feasible; held = subst (λ z. z ∈ readable s) (sym (f .is)) m })
 
-        low : getD w (arrival e) noPoints ≤ penalty e
-        low = least .low e listed
+          low : getD w (arrival e) noPoints ≤ penalty e
+          low = least .low e listed
 
-        at : arrival e ≡ c .minutes
-        at =
-            let late = by-contra (c .minutes) (arrival e) early in
-            omega (arith, f .timely, late)
-          where
-            early : arrival e < c .minutes → ⊥
-            early h = omega (arith, l .first (arrival e) (omega (arith, l .at)), low, f .cheap)
+          at : arrival e ≡ c .minutes
+          at =
+              let late = by-contra (c .minutes) (arrival e) early in
+              omega (arith, f .timely, late)
+            where
+              early : arrival e < c .minutes → ⊥
+              early h = omega (arith, l .first (arrival e) (omega (arith, l .at)), low, f .cheap)
 
-    by-fits : (q : List ℕ) (e : Connection) → By q e → Fits n known b (c .minutes) q a u (c .points) e
-    by-fits q e o =
-        record {
-          feasible = o .feasible;
-          is = o .is;
-          timely = omega (arith, o .arrives);
-          cheap = omega (arith, o .pays);
-        }
+      by-fits : (q : List ℕ) (e : Connection) → By q e → Fits n known b (c .minutes) q a u (c .points) e
+      by-fits q e o =
+          record {
+            feasible = o .feasible;
+            is = o .is;
+            timely = omega (arith, o .arrives);
+            cheap = omega (arith, o .pays);
+          }
 
-    -- what is found along one sequence, by the cost
-    pub found-own : (q : List ℕ) (one : Connection) → q ∈ readable s
-        → Fits n known b (c .minutes) q a u (c .points) one
-        → ((e : Connection) → Fits n known b (c .minutes) q a u (c .points) e → ¬ T (before (tieKey e) (tieKey one)))
-        → Own q one
-    found-own q one m f first = record { by = fits-by q one m f; first = λ e o. first e (by-fits q e o) }
+      -- what is found along one sequence, by the cost
+      pub found-own : (q : List ℕ) (one : Connection) → q ∈ readable s
+          → Fits n known b (c .minutes) q a u (c .points) one
+          → ((e : Connection) → Fits n known b (c .minutes) q a u (c .points) e → ¬ T (before (tieKey e) (tieKey one)))
+          → Own q one
+      found-own q one m f first = record { by = fits-by q one m f; first = λ e o. first e (by-fits q e o) }
 
-    pub found-none : (q : List ℕ) → ((e : Connection) → Fits n known b (c .minutes) q a u (c .points) e → ⊥)
-        → (e : Connection) → By q e → ⊥
-    found-none q gone e o = gone e (by-fits q e o)
+      pub found-none : (q : List ℕ) → ((e : Connection) → Fits n known b (c .minutes) q a u (c .points) e → ⊥)
+          → (e : Connection) → By q e → ⊥
+      found-none q gone e o = gone e (by-fits q e o)

@@ -98,7 +98,14 @@ fn note_arc(
     requires { ⌜ Granted (now words) (now lines) (now store) from to minute
         × (k < arcCount (now store))
         × (length (now best) ≡ 2880) ⌝ }
-    ensures { λ _. ⌜ Noted (now (words .entry)) (now (store .entry)) from minute k (now (best .entry)) (now (best .exit)) ⌝ }
+    ensures { λ _. ⌜ Noted
+        (now (words .entry))
+        (now (store .entry))
+        from
+        minute
+        k
+        (now (best .entry))
+        (now (best .exit)) ⌝ }
     ensures { λ _. ⌜ length (now (best .exit)) ≡ length (now (best .entry)) ⌝ }
 {
     let mut path = [0u16; STATIONS_MOST];
@@ -167,10 +174,13 @@ fn find_arc(
         × Sized r ⌝ }
     ensures { λ _. ⌜ length (now (tried .exit)) ≡ length (now (tried .entry)) ⌝ }
 {
+    let mut path = [0u16; STATIONS_MOST];
+    let r = wellmade::arc_pattern(store, k, &mut path);
+    let f = showing::first_of_pattern(words, lines, from, minute, &path, r, arrive, points, tried);
     Winner {
-        found: false,
-        depart: 0,
-        rides: 0,
+        found: f.found,
+        depart: f.depart,
+        rides: r,
     }
 }
 
@@ -212,12 +222,33 @@ fn try_arc(
         × Tried (now words) (now store) from to minute arrive points k x (now shown)
         × (length (now tried) ≡ 192)
         × (length (now shown) ≡ 192) ⌝ }
-    ensures { λ r. ⌜ Tried (now (words .entry)) (now (store .entry)) from to minute arrive points (k + 1) r (now (shown .exit))
+    ensures { λ r. ⌜ Tried
+        (now (words .entry))
+        (now (store .entry))
+        from
+        to
+        minute
+        arrive
+        points
+        (k + 1)
+        r
+        (now (shown .exit))
         × Sized r ⌝ }
     ensures { λ _. ⌜ (length (now (tried .exit)) ≡ length (now (tried .entry)))
         × (length (now (shown .exit)) ≡ length (now (shown .entry))) ⌝ }
 {
-    let f = find_arc(words, lines, store, from, to, minute, k, arrive, points, tried);
+    let f = find_arc(
+        words,
+        lines,
+        store,
+        from,
+        to,
+        minute,
+        k,
+        arrive,
+        points,
+        tried,
+    );
     if !wins(f, tried, x, shown) {
         return x;
     }
@@ -241,7 +272,16 @@ fn choose(
         × Leading (now words) (now store) from to minute arrive points
         × (arrive < 2880)
         × (length (now shown) ≡ 192) ⌝ }
-    ensures { λ r. ⌜ Winning (now (words .entry)) (now (store .entry)) from to minute arrive points r (now (shown .exit)) ⌝ }
+    ensures { λ r. ⌜ Winning
+        (now (words .entry))
+        (now (store .entry))
+        from
+        to
+        minute
+        arrive
+        points
+        r
+        (now (shown .exit)) ⌝ }
 {
     let mut tried = [0u32; NUMBERS_MOST];
     let mut x = Winner {
@@ -257,7 +297,20 @@ fn choose(
         if wellmade::arc_target(store, arc) != to {
             continue 'arcs;
         }
-        x = try_arc(words, lines, store, from, to, minute, arc, arrive, points, x, &mut tried, shown);
+        x = try_arc(
+            words,
+            lines,
+            store,
+            from,
+            to,
+            minute,
+            arc,
+            arrive,
+            points,
+            x,
+            &mut tried,
+            shown,
+        );
     }
     x
 }
@@ -279,7 +332,17 @@ fn row_length(
     ensures { λ r. ⌜ Counted (now (words .entry)) (now (store .entry)) from to minute arrive points r × (r ≤ 192) ⌝ }
 {
     let mut shown = [0u32; NUMBERS_MOST];
-    let x = choose(words, lines, store, from, to, minute, arrive, points, &mut shown);
+    let x = choose(
+        words,
+        lines,
+        store,
+        from,
+        to,
+        minute,
+        arrive,
+        points,
+        &mut shown,
+    );
     ROW_WORDS + 3 * x.rides
 }
 
@@ -327,7 +390,14 @@ fn minutes_between(minute: usize, arrive: usize) -> u32
 
 // Writes a row from index at on: duration, penalty, number of rides and the numbers of the rides. Answers the index
 // behind it.
-fn put_row(answer: &mut [u32], at: usize, duration: u32, points: u32, rides: usize, shown: &[u32]) -> usize
+fn put_row(
+    answer: &mut [u32],
+    at: usize,
+    duration: u32,
+    points: u32,
+    rides: usize,
+    shown: &[u32],
+) -> usize
     requires { ⌜ (rides ≤ 63) × (length (now shown) ≡ 192) × (at + (3 + 3 * rides) ≤ length (now answer)) ⌝ }
     ensures { λ _. ⌜ now (answer .exit)
         ≡ put at (duration ∷ points ∷ rides ∷ take (3 * rides) (now (shown .entry))) (now (answer .entry)) ⌝ }
@@ -371,7 +441,17 @@ fn write_row(
     ensures { λ r. ⌜ length (now (answer .exit)) ≡ length (now (answer .entry)) ⌝ }
 {
     let mut shown = [0u32; NUMBERS_MOST];
-    let x = choose(words, lines, store, from, to, minute, arrive, points, &mut shown);
+    let x = choose(
+        words,
+        lines,
+        store,
+        from,
+        to,
+        minute,
+        arrive,
+        points,
+        &mut shown,
+    );
     let duration = minutes_between(minute, arrive);
     put_row(answer, at, duration, points, x.rides, &shown)
 }
@@ -406,7 +486,18 @@ fn write_rows(
             continue 'minutes;
         }
         least = points;
-        here = write_row(words, lines, store, from, to, minute, arrive, points, answer, here);
+        here = write_row(
+            words,
+            lines,
+            store,
+            from,
+            to,
+            minute,
+            arrive,
+            points,
+            answer,
+            here,
+        );
     }
 }
 
@@ -422,8 +513,16 @@ fn show(
     answer: &mut [u32],
 ) -> Reply
     requires { ⌜ Granted (now words) (now lines) (now store) from to minute × (length (now best) ≡ 2880) ⌝ }
-    ensures { λ r. ⌜ r ≡ shownReply (now (words .entry)) (now (store .entry)) from to minute (length (now (answer .entry))) ⌝ }
-    ensures { λ _. ⌜ now (answer .exit) ≡ shownWords (now (words .entry)) (now (store .entry)) from to minute (now (answer .entry)) ⌝ }
+    ensures { λ r. ⌜ r
+        ≡ shownReply
+        (now (words .entry))
+        (now (store .entry))
+        from
+        to
+        minute
+        (length (now (answer .entry))) ⌝ }
+    ensures { λ _. ⌜ now (answer .exit)
+        ≡ shownWords (now (words .entry)) (now (store .entry)) from to minute (now (answer .entry)) ⌝ }
 {
     note_arcs(words, lines, store, from, to, minute, best);
     let count = direct::count_rows(best);

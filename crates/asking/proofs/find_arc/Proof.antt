@@ -1,11 +1,38 @@
+-- The pattern of the arc is read, and what is found along it is told.
+use Rattle.asking.specs.Arcs.{store-made}
+use Rattle.asking.specs.Found.{path-listed, found-arc, found-sized}
+use borrow.Author.Needs.{needs}
 use Rattle.asking.proofs.find_arc.Statement.{statement}
 use Rattle.asking.proofs.find_arc.Tie as tie
-use Rattle.asking.proofs.find_arc.Reads as reads
-use Rattle.asking.proofs.find_arc.Lts as lts
 
--- src/lib.rt:138:1
+arc-pattern-requires : tie.Need-arc-pattern-requires
+arc-pattern-requires c κs = (search store-made, (search needs, search needs))
+
+first-of-pattern-requires : tie.Need-first-of-pattern-requires
+first-of-pattern-requires c κs = (
+  search needs,
+  search needs,
+  search needs,
+  search needs,
+  search needs,
+  search path-listed,
+  search needs,
+  search needs,
+  search needs,
+  search needs,
+  search needs,
+)
+
 returns : tie.Need-returns
-returns c = ?
+returns c = ((search found-arc, search found-sized), search needs)
 
 pub find-arc-spec : {M : Type 1} → statement M
-find-arc-spec = tie.close (tie.spec returns)
+find-arc-spec =
+    tie.close
+    (tie.spec
+    (λ c. search needs)
+    arc-pattern-requires
+    (λ c. search needs)
+    first-of-pattern-requires
+    (λ c. search needs)
+    returns)

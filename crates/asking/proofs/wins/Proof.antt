@@ -1,24 +1,18 @@
+-- What was not found does not win, the first found does, and else the keys decide.
 use Rattle.asking.specs.Trying.{wins-none, wins-first, in-time, wins-key}
 use borrow.Author.Needs.{needs}
 use Rattle.asking.proofs.wins.Statement.{statement}
 use Rattle.asking.proofs.wins.Tie as tie
-use Rattle.asking.proofs.wins.Reads as reads
-use Rattle.asking.proofs.wins.Lts as lts
-use Rattle.asking.proofs.goes_before.Reads as goes-before-reads
 
--- src/lib.rt:183:9
 returns : tie.Need-returns
 returns c = search wins-none
 
--- src/lib.rt:186:9
 returns-2 : tie.Need-returns-2
 returns-2 c = search wins-first
 
--- src/lib.rt:188:5
 goes-before-requires : tie.Need-goes-before-requires
 goes-before-requires c κs = (search in-time, search in-time, search needs, search needs, search needs)
 
--- src/lib.rt:178:1
 returns-3 : tie.Need-returns-3
 returns-3 c = search wins-key
 
