@@ -1,23 +1,40 @@
 -- What the code knows on its way along a path: the ride to take next, where one is behind it, and that the rides taken
 -- so far begin the connection that is shown. No reader of the promise needs this file.
 use mathlib.Core.Path.{_≡_}
-use mathlib.Core.Bool.{Bool, false}
+use mathlib.Core.Bool.{Bool, true, false}
 use mathlib.Core.Logic.{_⊎_}
 use mathlib.Core.List.{List, [], _∷_}
-use Prim.Native.Nat.{ℕ, _+_, _-_, _*_}
-use lib.ListN.{getD, take}
+use Prim.Native.Nat.{ℕ, _+_, _-_, _*_, _≤_}
+use lib.ListN.{length, getD, take}
 use lib.Seq.{slice}
 use Rattle.words.specs.Put.{put}
-use Rattle.timetable.specs.Words.{stationAt, timetableOf}
+use Rattle.timetable.specs.Words.{stationCount, stationAt, timetableOf, isTimetable}
 use Rattle.connections.specs.Rides.{Ride}
 use Rattle.connections.specs.Connections.{Connection}
+use Rattle.checking.specs.Question10.{areTables}
 use Rattle.riding.specs.declared.Ride.{Ride as RideStruct}
 use Rattle.showing.specs.declared.At.{At}
 use Rattle.showing.specs.declared.First.{First}
-use Rattle.showing.specs.Showing.{Fitting, Found}
+use Rattle.showing.specs.Showing.{Listed, Fitting, Found}
 use Rattle.showing.specs.Heads.{Chosen}
 use Rattle.showing.specs.Going.{Going}
 use Rattle.showing.specs.Turns.{tellsOf}
+
+-- what is known of the words lent, and of a path of r stations to the last of which one is to come by minute v
+pub record Given (w lines path : List ℕ) (r v : ℕ) : Type 0 where
+  pub enough : 16384 ≤ length w
+  pub accepted : isTimetable w ≡ true
+  pub own : areTables w lines ≡ true
+  pub listed : Listed (stationCount w) path r
+  pub few : r ≤ 63
+  pub long : r ≤ length path
+  pub timely : v ≤ 2879
+
+-- one is at a listed station, and can leave no earlier than minute t
+pub record Standing (w : List ℕ) (t : ℕ) (at : At) : Type 0 where
+  pub least : 1 ≤ at .from
+  pub most : at .from ≤ stationCount w
+  pub later : t ≤ at .ready
 
 -- a path of r stations, to the last of which one is to come by minute v
 module _ (w path : List ℕ) (r v : ℕ) where
@@ -38,17 +55,18 @@ module _ (w path : List ℕ) (r v : ℕ) where
   unfoldable pub Headed : (first : Bool) (i : ℕ) (at : At) (s : RideStruct) → Type 0
   Headed first i at s = Nothing i at s ⊎ Taken first i at s
 
-  -- the rides to the first i stations of the path are written, for a query from a at minute t and p points
-  unfoldable pub Under : (a t p d i : ℕ) (rides : List ℕ) (at : At) → Type 0
-  Under a t p d i rides at =
-      Going (timetableOf w) b v (take r path) a t p (take (3 * i) rides) d (slice i r path) (at .from) (at .ready)
-      (at .left)
+  -- the rides to the first i stations of the path are written, for a query from a at minute t and p points, and one is
+  -- at a listed station
+  pub record Under (a t p d i : ℕ) (rides : List ℕ) (at : At) : Type 0 where
+    pub least : 1 ≤ at .from
+    pub most : at .from ≤ stationCount w
+    pub going : Going (timetableOf w) b v (take r path) a t p (take (3 * i) rides) d (slice i r path) (at .from)
+        (at .ready) (at .left)
 
-  -- what the code found, from where one starts
-  unfoldable pub FoundAt : (start : At) (f : First) (rides : List ℕ) → Type 0
-  FoundAt start f rides =
-      Found (timetableOf w) b v (f .found) (take r path) (start .from) (start .ready) (start .left) (take (3 * r) rides)
-      (f .depart)
+  -- what the code found
+  unfoldable pub FoundAt : (a t p : ℕ) (f : First) (rides : List ℕ) → Type 0
+  FoundAt a t p f rides =
+      Found (timetableOf w) b v (f .found) (take r path) a t p (take (3 * r) rides) (f .depart)
 
 -- ride s to station i of the path is written, and one has changed behind it
 pub record Moved (w path : List ℕ) (i left : ℕ) (s : RideStruct) (old new : List ℕ) (next : At) : Type 0 where

@@ -17,7 +17,7 @@ ghost use Rattle.showing.specs.Rests.{RestsAt};
 ghost use Rattle.showing.specs.Settling.{settled};
 ghost use Rattle.showing.specs.Stepping.{arrived, catches};
 ghost use Rattle.showing.specs.Heads.{lateness, headOf};
-ghost use Rattle.showing.specs.OnTheWay.{Headed, Moved, Rode, FoundAt};
+ghost use Rattle.showing.specs.OnTheWay.{Given, Standing, Headed, Moved, Rode, FoundAt};
 ghost use Rattle.showing.specs.Turns.{stepBack, caughtBy, tellsOf, numbersBefore, comesBefore, tried, Sized};
 use riding::Ride;
 use timetable::Station;
@@ -226,13 +226,8 @@ fn rest(
     z: &mut [u32],
     spare: &mut [u32],
 )
-    requires { ⌜ (16384 ≤ length (now words))
-        × (isTimetable (now words) ≡ true)
-        × (areTables (now words) (now lines) ≡ true)
-        × Listed (stationCount (now words)) (now path) r
+    requires { ⌜ Given (now words) (now lines) (now path) r v
         × (i < r)
-        × (r ≤ length (now path))
-        × (v ≤ 2879)
         × (length (now z) ≡ 2880)
         × (length (now spare) ≡ 2880) ⌝ }
     ensures { λ _. ⌜ RestsAt (now (words .entry)) (now (path .entry)) r v minute i (now (z .exit)) ⌝ }
@@ -357,16 +352,9 @@ fn take_ride(
     z: &mut [u32],
     spare: &mut [u32],
 ) -> Ride
-    requires { ⌜ (16384 ≤ length (now words))
-        × (isTimetable (now words) ≡ true)
-        × (areTables (now words) (now lines) ≡ true)
-        × Listed (stationCount (now words)) (now path) r
+    requires { ⌜ Given (now words) (now lines) (now path) r v
         × (i < r)
-        × (r ≤ length (now path))
-        × (v ≤ 2879)
-        × (1 ≤ at .from)
-        × (at .from ≤ stationCount (now words))
-        × (minute ≤ at .ready)
+        × Standing (now words) minute at
         × (length (now z) ≡ 2880)
         × (length (now spare) ≡ 2880) ⌝ }
     ensures { λ s. ⌜ Headed (now (words .entry)) (now (path .entry)) r v first i at s × Sized s ⌝ }
@@ -398,8 +386,7 @@ fn move_on(words: &[u16], path: &[u16], i: usize, left: usize, ride: Ride, rides
         × (i < 64)
         × (3 * i + 3 ≤ length (now rides))
         × Sized ride ⌝ }
-    ensures { λ r. ⌜ Moved (now (words .entry)) (now (path .entry)) i left ride (now (rides .entry)) (now (rides .exit)) r
-        × (r .from ≡ getD (now (path .entry)) i 0) ⌝ }
+    ensures { λ r. ⌜ Moved (now (words .entry)) (now (path .entry)) i left ride (now (rides .entry)) (now (rides .exit)) r ⌝ }
     ensures { λ _. ⌜ length (now (rides .exit)) ≡ length (now (rides .entry)) ⌝ }
 {
     put_ride(rides, i, ride);
@@ -428,22 +415,13 @@ fn ride_on(
     spare: &mut [u32],
     rides: &mut [u32],
 ) -> At
-    requires { ⌜ (16384 ≤ length (now words))
-        × (isTimetable (now words) ≡ true)
-        × (areTables (now words) (now lines) ≡ true)
-        × Listed (stationCount (now words)) (now path) r
+    requires { ⌜ Given (now words) (now lines) (now path) r v
         × (i < r)
-        × (r ≤ 63)
-        × (r ≤ length (now path))
-        × (v ≤ 2879)
-        × (1 ≤ at .from)
-        × (at .from ≤ stationCount (now words))
-        × (minute ≤ at .ready)
+        × Standing (now words) minute at
         × (length (now z) ≡ 2880)
         × (length (now spare) ≡ 2880)
         × (length (now rides) ≡ 192) ⌝ }
-    ensures { λ n. ⌜ Rode (now (words .entry)) (now (path .entry)) r v i at (now (rides .entry)) (now (rides .exit)) n
-        × (n .from ≡ getD (now (path .entry)) i 0) ⌝ }
+    ensures { λ n. ⌜ Rode (now (words .entry)) (now (path .entry)) r v i at (now (rides .entry)) (now (rides .exit)) n ⌝ }
     ensures { λ _. ⌜ length (now (z .exit)) ≡ length (now (z .entry)) ⌝ }
     ensures { λ _. ⌜ length (now (spare .exit)) ≡ length (now (spare .entry)) ⌝ }
     ensures { λ _. ⌜ length (now (rides .exit)) ≡ length (now (rides .entry)) ⌝ }
@@ -456,34 +434,34 @@ fn ride_on(
 fn first_within(
     words: &[u16],
     lines: &[u16],
+    source: usize,
     minute: usize,
     path: &[u16],
     r: usize,
     v: usize,
-    start: At,
+    p: usize,
     z: &mut [u32],
     spare: &mut [u32],
     rides: &mut [u32],
 ) -> First
-    requires { ⌜ (16384 ≤ length (now words))
-        × (isTimetable (now words) ≡ true)
-        × (areTables (now words) (now lines) ≡ true)
-        × Listed (stationCount (now words)) (now path) r
+    requires { ⌜ Given (now words) (now lines) (now path) r v
         × (1 ≤ r)
-        × (r ≤ 63)
-        × (r ≤ length (now path))
-        × (v ≤ 2879)
-        × (1 ≤ start .from)
-        × (start .from ≤ stationCount (now words))
-        × (start .ready ≡ minute)
+        × (1 ≤ source)
+        × (source ≤ stationCount (now words))
         × (length (now z) ≡ 2880)
         × (length (now spare) ≡ 2880)
         × (length (now rides) ≡ 192) ⌝ }
-    ensures { λ f. ⌜ FoundAt (now (words .entry)) (now (path .entry)) r v start f (now (rides .exit)) ⌝ }
+    ensures { λ f. ⌜ FoundAt (now (words .entry)) (now (path .entry)) r v source minute p f
+        (now (rides .exit)) ⌝ }
     ensures { λ _. ⌜ length (now (z .exit)) ≡ length (now (z .entry)) ⌝ }
     ensures { λ _. ⌜ length (now (spare .exit)) ≡ length (now (spare .entry)) ⌝ }
     ensures { λ _. ⌜ length (now (rides .exit)) ≡ length (now (rides .entry)) ⌝ }
 {
+    let start = At {
+        from: source,
+        ready: minute,
+        left: p,
+    };
     let head = take_ride(words, lines, minute, path, 0, r, v, start, true, z, spare);
     if head.trip == NO_TRIP {
         return First {
@@ -491,7 +469,7 @@ fn first_within(
             depart: 0,
         };
     }
-    let mut at = move_on(words, path, 0, start.left, head, rides);
+    let mut at = move_on(words, path, 0, p, head, rides);
     let mut i = 1;
     while i < r {
         at = ride_on(words, lines, minute, path, i, r, v, at, z, spare, rides);
@@ -533,10 +511,5 @@ pub fn first_of_pattern(
 {
     let mut z = [0u32; 2880];
     let mut spare = [0u32; 2880];
-    let start = At {
-        from: source,
-        ready: minute,
-        left: p as usize,
-    };
-    first_within(words, lines, minute, path, r, v, start, &mut z, &mut spare, rides)
+    first_within(words, lines, source, minute, path, r, v, p as usize, &mut z, &mut spare, rides)
 }

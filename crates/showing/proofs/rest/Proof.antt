@@ -18,19 +18,19 @@ Inv-loop words lines minute path i r v z₀ spare₀ j₀ z spare j =
 abbrev μ-loop : tie.MeasureT-loop
 μ-loop words lines minute path i r v z₀ spare₀ j₀ z spare j = j
 
--- src/lib.rt:228:5
+-- src/lib.rt:237:5
 fill-last-requires : tie.Need-fill-last-requires Inv-loop μ-loop
 fill-last-requires c κs = search needs
 
--- src/lib.rt:229:17
+-- src/lib.rt:238:17
 sub-j : tie.Need-sub-j Inv-loop μ-loop
 sub-j c = search needs
 
--- src/lib.rt:230:5
+-- src/lib.rt:239:5
 loop-holds : tie.Need-loop-holds Inv-loop μ-loop
 loop-holds c = (search needs, search needs, search needs, search needs, search rest-begins)
 
--- src/lib.rt:231:9
+-- src/lib.rt:240:9
 step-requires : tie.Need-step-requires Inv-loop μ-loop
 step-requires c κs = (
   search needs,
@@ -43,15 +43,15 @@ step-requires c κs = (
   search needs,
 )
 
--- src/lib.rt:232:9
+-- src/lib.rt:241:9
 sub-j-2 : tie.Need-sub-j-2 Inv-loop μ-loop
 sub-j-2 c = search needs
 
--- src/lib.rt:230:5
+-- src/lib.rt:239:5
 loop-less : tie.Need-loop-less Inv-loop μ-loop
 loop-less c = search needs
 
--- src/lib.rt:230:5
+-- src/lib.rt:239:5
 loop-again : tie.Need-loop-again Inv-loop μ-loop
 loop-again c =
     let s = c .before .before .before .before in
@@ -63,19 +63,19 @@ loop-again c =
       search needs,
       search needs,
       search needs,
-      rest-more _ _ _ _ _ (a .pre .1) _ (a .args .i) (l .loop .j) (l .loop .z) _ (a .pre .2) (a .pre .3) (a .pre .5) (t .loop-test .taken)
+      rest-more _ _ _ _ _ (a .pre .0) _ (a .args .i) (l .loop .j) (l .loop .z) _ (t .loop-test .taken)
       (l .loop .inv .1) (l .loop .inv .4) (s .step .ensures .0),
     )
 
--- src/lib.rt:204:1
+-- src/lib.rt:218:1
 same-length : tie.Need-same-length Inv-loop μ-loop
 same-length c = search needs
 
--- src/lib.rt:204:1
+-- src/lib.rt:218:1
 same-length-2 : tie.Need-same-length-2 Inv-loop μ-loop
 same-length-2 c = search needs
 
--- src/lib.rt:204:1
+-- src/lib.rt:218:1
 returns : tie.Need-returns Inv-loop μ-loop
 returns c = (search rest-done, (search needs, search needs))
 
