@@ -24,7 +24,7 @@ use Rattle.riding.specs.Ridden.{read-rides}
 use Rattle.showing.specs.Rests.{Rests, RestsAt}
 use Rattle.showing.specs.Stepping.{arrived, stepped, rests-before, rests-end}
 use Rattle.showing.specs.Turns.{stepBack}
-use Rattle.showing.specs.OnTheWay.{Given}
+use Rattle.showing.specs.Showing.{Given}
 
 -- ---- a listed station
 module _ (w : List ℕ) (accepted : isTimetable w ≡ true) where
@@ -107,12 +107,12 @@ module _ (w lines path : List ℕ) (r v : ℕ) (given : Given w lines path r v) 
         let same : j ≡ i = omega arith in
         subst (λ k. RestsAt w path r v minute k z) same s
 
-    pub rest-more : (i j : ℕ) (z new : List ℕ) → i < j → j < r
+    pub rest-more : (j : ℕ) (z new : List ℕ) → 1 ≤ j → j < r
         → RestsAt w path r v minute j z
         → new ≡ stepBack w lines minute path j z
         → RestsAt w path r v minute (j - 1) new
     unfolding stepBack RestsAt
-    rest-more i j z new less inside s is-new =
+    rest-more j z new less inside s is-new =
         subst (λ q. Rests n b v minute q x new) (sym on) (subst (Rests n b v minute (y ∷ slice (j + 1) r path) x) (sym is) whole)
       where
         x : ℕ

@@ -1,6 +1,6 @@
 -- From ride to ride along a path: the ride to take, what is written of it, and where one is behind it.
 use mathlib.Core.Path.{_≡_, refl, sym, ap, subst, _∙_}
-use mathlib.Core.Bool.{Bool, true, false}
+use mathlib.Core.Bool.{Bool, true, false, not}
 use mathlib.Core.Logic.{_⊎_, inl, inr, _↔_}
 use mathlib.Core.List.{List, [], _∷_, _++_}
 use Prim.Native.Nat.{ℕ, suc, _+_, _-_, _*_, _≤_, _<_}
@@ -22,14 +22,18 @@ use Rattle.reckoning.specs.Greedy.{rideNumbers}
 use Rattle.riding.specs.declared.Ride.{Ride as RideStruct}
 use Rattle.riding.specs.Ridden.{read-rides}
 use Rattle.showing.specs.declared.At.{At}
-use Rattle.showing.specs.declared.First.{First}
-use Rattle.showing.specs.Showing.{Fitting, Found}
+use Rattle.showing.specs.declared.Next.{Next}
+use Rattle.showing.specs.Showing.{Given, Fitting, FoundAt}
 use Rattle.showing.specs.Rests.{RestsAt}
 use Rattle.showing.specs.Heads.{noRide, headOf, Chosen, head-cases}
 use Rattle.showing.specs.Going.{Left, Going, goes, begins}
 use Rattle.showing.specs.Turns.{tellsOf}
-use Rattle.showing.specs.OnTheWay.{Given, Standing, Taken, Nothing, Headed, Under, FoundAt, Moved, Rode}
+use Rattle.showing.specs.OnTheWay.{Standing, Taken, Nothing, Headed, Under, Moved}
+use Rattle.showing.specs.OnTheWay.{Stopped, Gone, Rode}
 use Rattle.showing.proofs.PatternLaws.{is-valid, station-few, station-calls, station-inside, ChangeThere, change-there}
+
+true-false : true ≡ false → ⊥
+true-false e = let z : _≡_ {A = ℕ} 0 1 = cc in omega arith
 
 -- ---- one ride
 pub three-put : (i a b c : ℕ) (old mid : List ℕ) → 3 * i + 3 ≤ length old → mid ≡ put (3 * i) (a ∷ b ∷ []) old
@@ -200,17 +204,12 @@ module _ (w lines path : List ℕ) (r v : ℕ) (given : Given w lines path r v) 
     next-most left s old new next move = omega (arith, move .from, given .listed .at i inside .1)
 
     -- a ride more
-    pub rides-on : (a m p₀ d : ℕ) (at next : At) (old new : List ℕ) → length old ≡ 192
+    pub rides-on : (a m p₀ d : ℕ) (at : At) (step : Next) (old new : List ℕ) → length old ≡ 192
         → Under w path r v a m p₀ d i old at
-        → Rode w path r v i at old new next
-        → Under w path r v a m p₀ d (i + 1) new next
-    unfolding Headed
-    rides-on a m p₀ d at next old new room under rode =
-        record {
-          least = next-least (at .left) (rode .ride) old new next (rode .moved);
-          most = next-most (at .left) (rode .ride) old new next (rode .moved);
-          going = go (rode .headed);
-        }
+        → Rode w path r v false i at old new step
+        → Under w path r v a m p₀ d (i + 1) new (step .at)
+    unfolding Rode
+    rides-on a m p₀ d at step old new rooms under rode = go rode
       where
         here : Left t b v (take r path) a m p₀ (take (3 * i) old) d (y ∷ q) (at .from) (at .ready) (at .left)
         here =
@@ -219,72 +218,78 @@ module _ (w lines path : List ℕ) (r v : ℕ) (given : Given w lines path r v) 
             (on i inside)
             (under .going)
 
-        go : Nothing w path r v i at (rode .ride) ⊎ Taken w path r v false i at (rode .ride)
-            → Going t b v (take r path) a m p₀ (take (3 * (i + 1)) new) d (slice (i + 1) r path) (next .from) (next .ready)
-            (next .left)
+        go : Stopped w path r v i at step ⊎ Gone w path r v false i at old new step
+            → Under w path r v a m p₀ d (i + 1) new (step .at)
         go (inl h) =
             absurd
             (h .none (here .some)
             (subst (λ q. Fitting t b v q (at .from) (at .ready) (at .left) (here .some)) (sym (on i inside)) (here .fits)))
         go (inr h) =
-            let ride = h .ride in
-            let chosen = subst (λ q. Chosen t b v false q (at .from) (at .ready) (at .left) ride) (on i inside) (h .chosen) in
-            moves a m p₀ d (at .left) (rode .ride) ride (h .tells) old new next (rode .moved) (omega (arith, given .few)) (take r path)
-            (goes t (is-valid w accepted) b v (take r path) a m p₀ y (at .from) (at .ready) (at .left) ride (there .change)
-            (there .listed) (there .at) q (take (3 * i) old) d here chosen)
+            let ride = h .taken .ride in
+            let chosen =
+                subst (λ q. Chosen t b v false q (at .from) (at .ready) (at .left) ride) (on i inside) (h .taken .chosen)
+            in
+            record {
+              least = next-least (at .left) (h .ride) old new (step .at) (h .moved);
+              most = next-most (at .left) (h .ride) old new (step .at) (h .moved);
+              going =
+                  moves a m p₀ d (at .left) (h .ride) ride (h .taken .tells) old new (step .at) (h .moved)
+                  (omega (arith, given .few)) (take r path)
+                  (goes t (is-valid w accepted) b v (take r path) a m p₀ y (at .from) (at .ready) (at .left) ride
+                  (there .change) (there .listed) (there .at) q (take (3 * i) old) d here chosen);
+            }
 
   -- ---- the first ride
-  module _ (a m p : ℕ) (s : RideStruct) where
+  module _ (a m p : ℕ) (step : Next) where
     abbrev start : At
     start = record { from = a; ready = m; left = p }
 
-    pub starts : (old new : List ℕ) (next : At) → 1 ≤ r → length old ≡ 192
-        → Headed w path r v true 0 (record { from = a; ready = m; left = p }) s
-        → ¬ (s .trip ≡ 65536)
-        → Moved w path 0 p s old new next
-        → Under w path r v a m p (s .depart) 1 new next
-    unfolding Headed
-    starts old new next some room headed found move =
-        record {
-          least = next-least 0 (omega arith) p s old new next move;
-          most = next-most 0 (omega arith) p s old new next move;
-          going = go headed;
-        }
+    pub starts : (old new : List ℕ) → 1 ≤ r → length old ≡ 192
+        → Rode w path r v true 0 (record { from = a; ready = m; left = p }) old new step
+        → not (step .found) ≡ false
+        → Under w path r v a m p (step .depart) 1 new (step .at)
+    unfolding Rode
+    starts old new some rooms rode found = go rode
       where
-        go : Nothing w path r v 0 start s ⊎ Taken w path r v true 0 start s
-            → Going t b v (take r path) a m p (take (3 * 1) new) (s .depart) (slice 1 r path) (next .from) (next .ready)
-            (next .left)
-        go (inl h) = absurd (found (h .trip))
+        go : Stopped w path r v 0 start step ⊎ Gone w path r v true 0 start old new step
+            → Under w path r v a m p (step .depart) 1 new (step .at)
+        go (inl h) = absurd (true-false (sym (ap not (h .found)) ∙ found))
         go (inr h) =
-            let ride = h .ride in
+            let ride = h .taken .ride in
             let y = getD path 0 0 in
             let q = slice 1 r path in
             let on-way = on 0 (omega arith) in
             let c = there 0 (omega arith) in
-            let chosen = subst (λ q. Chosen t b v true q a m p ride) on-way (h .chosen) in
+            let chosen = subst (λ q. Chosen t b v true q a m p ride) on-way (h .taken .chosen) in
             let first = begins t (is-valid w accepted) b v y a m p ride (c .change) (c .listed) (c .at) q chosen in
             let goes-on =
-                moves 0 (omega arith) a m p (ride .depart) p s ride (h .tells) old new next move (omega arith) (y ∷ q)
-                first
+                moves 0 (omega arith) a m p (ride .depart) p (h .ride) ride (h .taken .tells) old new (step .at) (h .moved)
+                (omega arith) (y ∷ q) first
             in
-            subst
-            (λ d. Going t b v (take r path) a m p (take (3 * 1) new) d q (next .from) (next .ready) (next .left))
-            (sym (ap (λ s. s .depart) (h .tells)))
-            (subst
-            (λ l. Going t b v l a m p (take (3 * 1) new) (ride .depart) q (next .from) (next .ready) (next .left))
-            (sym on-way)
-            goes-on)
+            let leaves = h .departs ∙ ap (λ s. s .depart) (h .taken .tells) in
+            record {
+              least = next-least 0 (omega arith) p (h .ride) old new (step .at) (h .moved);
+              most = next-most 0 (omega arith) p (h .ride) old new (step .at) (h .moved);
+              going =
+                  subst
+                  (λ d. Going t b v (take r path) a m p (take (3 * 1) new) d q (step .at .from) (step .at .ready) (step .at .left))
+                  (sym leaves)
+                  (subst
+                  (λ l. Going t b v l a m p (take (3 * 1) new) (ride .depart) q (step .at .from) (step .at .ready) (step .at .left))
+                  (sym on-way)
+                  goes-on);
+            }
 
-    pub none-fits : (rides : List ℕ) → Headed w path r v true 0 (record { from = a; ready = m; left = p }) s
-        → s .trip ≡ 65536
-        → FoundAt w path r v a m p (record { found = false; depart = 0 }) rides
-    unfolding Headed FoundAt
-    none-fits rides headed e = go headed
+    pub none-fits : (old new : List ℕ) → Rode w path r v true 0 (record { from = a; ready = m; left = p }) old new step
+        → not (step .found) ≡ true
+        → FoundAt w path r v a m p (record { found = false; depart = 0 }) new
+    unfolding Rode FoundAt
+    none-fits old new rode e = go rode
       where
-        go : Nothing w path r v 0 start s ⊎ Taken w path r v true 0 start s
+        go : Stopped w path r v 0 start step ⊎ Gone w path r v true 0 start old new step
             → (e : Connection) → ¬ Fitting t b v (take r path) a m p e
         go (inl h) = h .none
-        go (inr h) = absurd (omega (arith, e, ap (λ s. s .trip) (h .tells), h .chosen .few))
+        go (inr h) = absurd (true-false (sym e ∙ ap not (h .found)))
 
   module _ (a m p d i : ℕ) (rides : List ℕ) (at : At) (under : Under w path r v a m p d i rides at) where
     abbrev Goes : (i : ℕ) (q : List ℕ) → Type 0
@@ -303,18 +308,30 @@ module _ (w lines path : List ℕ) (r v : ℕ) (given : Given w lines path r v) 
         let end : i ≡ r = omega arith in
         subst (Goes r) (slice-empty r path) (subst (λ i. Goes i (slice i r path)) end (under .going))
 
--- what was found, as it is promised
-pub found-is : (w path : List ℕ) (r v a m p : ℕ) (f : First) (rides : List ℕ) → FoundAt w path r v a m p f rides
-    → Found (timetableOf w) (getD path (r - 1) 0) v (f .found) (take r path) a m p (take (3 * r) rides) (f .depart)
-unfolding FoundAt
-found-is w path r v a m p f rides h = h
+-- ---- what became of a ride
+module _ (w path : List ℕ) (r v : ℕ) (first : Bool) (i : ℕ) (at : At) (s : RideStruct) (headed : Headed w path r v first i at s)
+  where
+    pub rode-none : (old new : List ℕ) → s .trip ≡ 65536
+        → Rode w path r v first i at old new (record { found = false; depart = 0; at = at })
+    unfolding Rode Headed
+    rode-none old new e = go headed
+      where
+        go : Nothing w path r v i at s ⊎ Taken w path r v first i at s
+            → Stopped w path r v i at (record { found = false; depart = 0; at = at })
+            ⊎ Gone w path r v first i at old new (record { found = false; depart = 0; at = at })
+        go (inl h) = inl (record { found = refl; none = h .none })
+        go (inr h) = absurd (omega (arith, e, ap (λ s. s .trip) (h .tells), h .chosen .few))
 
--- ---- the next ride
-pub rode : (w path : List ℕ) (r v i : ℕ) (at next : At) (s : RideStruct) (old new : List ℕ)
-    → Headed w path r v false i at s
-    → Moved w path i (at .left) s old new next
-    → Rode w path r v i at old new next
-rode w path r v i at next s old new h m = record { ride = s; headed = h; moved = m }
+    pub rode-one : (old new : List ℕ) (next : At) → ¬ (s .trip ≡ 65536) → Moved w path i (at .left) s old new next
+        → Rode w path r v first i at old new (record { found = true; depart = s .depart; at = next })
+    unfolding Rode Headed
+    rode-one old new next e move = go headed
+      where
+        go : Nothing w path r v i at s ⊎ Taken w path r v first i at s
+            → Stopped w path r v i at (record { found = true; depart = s .depart; at = next })
+            ⊎ Gone w path r v first i at old new (record { found = true; depart = s .depart; at = next })
+        go (inl h) = absurd (e (h .trip))
+        go (inr h) = inr (record { found = refl; ride = s; departs = refl; taken = h; moved = move })
 
 module _ (w lines path : List ℕ) (r v i : ℕ) (given : Given w lines path r v) (inside : i < r) where
   pub next-first : 1 ≤ getD path i 0
