@@ -8,7 +8,8 @@ use Rattle.riding.proofs.seek_call.Statement.{statement}
 use Rattle.riding.proofs.seek_call.Tie as tie
 
 abbrev Inv-calls : tie.InvT-calls
-Inv-calls v from to minute call end k₀ k = (k ≤ 65536) × (callsFrom v from to minute call ≡ callsFrom v from to minute k)
+Inv-calls v from to minute call end k₀ k =
+    (k ≤ 65536) × (callsFrom v from to minute call ≡ callsFrom v from to minute k)
 
 abbrev μ-calls : tie.MeasureT-calls
 μ-calls v from to minute call end k₀ k = end - k

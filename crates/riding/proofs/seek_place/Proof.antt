@@ -8,7 +8,8 @@ use Rattle.riding.proofs.seek_place.Statement.{statement}
 use Rattle.riding.proofs.seek_place.Tie as tie
 
 abbrev Inv-loop : tie.InvT-loop
-Inv-loop v l to from points sum₀ p₀ sum p = (p < 65536) × (sum ≤ 65535 * p) × (rest v l to from points ≡ rest v l to p sum)
+Inv-loop v l to from points sum₀ p₀ sum p =
+    (p < 65536) × (sum ≤ 65535 * p) × (rest v l to from points ≡ rest v l to p sum)
 
 abbrev μ-loop : tie.MeasureT-loop
 μ-loop v l to from points sum₀ p₀ sum p = l .positions - p
