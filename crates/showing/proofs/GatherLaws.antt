@@ -66,28 +66,28 @@ emptied k z e =
     let none : drop k z ≡ [] = drop-of-length-le z {i = k} (omega arith) in
     rw none (append-nil (replicate k noPoints))
 
-module _ (w lines path : List ℕ) (minute j : ℕ) (z spare copy empty full last : List ℕ) (from to : ℕ) (x : Station)
-  where
-    pub step-done : from ≡ getD path (j - 1) 0 → to ≡ getD path j 0 → x ≡ stationAt w (from - 1)
-        → length z ≡ 2880
-        → length spare ≡ 2880
-        → copy ≡ put 0 (take 2880 z) spare
-        → empty ≡ replicate 2880 4294967295 ++ drop 2880 z
-        → full ≡ noteAll empty (catches (x .minutes) (x .points) copy (allRead lines from minute to))
-        → last ≡ settled noPoints full
-        → last ≡ stepBack w lines minute path j z
-    unfolding stepped stepBack
-    step-done d e s g h c n f l =
-        let there : x ≡ stationAt w (getD path (j - 1) 0 - 1) = s ∙ ap (λ k. stationAt w (k - 1)) d in
-        l
-        ∙ ap (settled noPoints)
-        (f
-        ∙ (λ i. noteAll ((n ∙ emptied 2880 z g) i)
-        (catches (there i .minutes) (there i .points) ((c ∙ copied 2880 z spare g h) i) (allRead lines (d i) minute (e i)))))
+pub kept : (z old copy : List ℕ) → length old ≡ 2880 → length z ≡ 2880 → copy ≡ put 0 (take 2880 z) old → copy ≡ z
+kept z old copy h g c = c ∙ copied 2880 z old g h
 
-pub last-filled : (z empty last : List ℕ) (v : ℕ) → length z ≡ 2880
-    → empty ≡ replicate 2880 4294967295 ++ drop 2880 z
-    → last ≡ replicate (v + 1) 0 ++ drop (v + 1) empty
+pub cleared : (z empty : List ℕ) → length z ≡ 2880 → empty ≡ replicate 2880 4294967295 ++ drop 2880 z → empty ≡ blank
+cleared z empty g e = e ∙ emptied 2880 z g
+
+module _ (w lines path : List ℕ) (minute j : ℕ) (z copy empty full last : List ℕ) (from to : ℕ) (x : Station) where
+  pub step-done : from ≡ getD path (j - 1) 0 → to ≡ getD path j 0 → x ≡ stationAt w (from - 1)
+      → copy ≡ z
+      → empty ≡ blank
+      → full ≡ noteAll empty (catches (x .minutes) (x .points) copy (allRead lines from minute to))
+      → last ≡ settled noPoints full
+      → last ≡ stepBack w lines minute path j z
+  unfolding stepped stepBack
+  step-done d e s c n f l =
+      let there : x ≡ stationAt w (getD path (j - 1) 0 - 1) = s ∙ ap (λ k. stationAt w (k - 1)) d in
+      l
+      ∙ ap (settled noPoints)
+      (f
+      ∙ (λ i. noteAll (n i) (catches (there i .minutes) (there i .points) (c i) (allRead lines (d i) minute (e i)))))
+
+pub last-filled : (empty last : List ℕ) (v : ℕ) → empty ≡ blank → last ≡ replicate (v + 1) 0 ++ drop (v + 1) empty
     → last ≡ arrived v
 unfolding arrived
-last-filled z empty last v g e f = f ∙ ap (λ l. replicate (v + 1) 0 ++ drop (v + 1) l) (e ∙ emptied 2880 z g)
+last-filled empty last v e f = f ∙ ap (λ l. replicate (v + 1) 0 ++ drop (v + 1) l) e

@@ -21,10 +21,10 @@ use Rattle.lookup.specs.Lookup.{callsPlace}
 use Rattle.direct.specs.Candidates.{allRead}
 use Rattle.direct.specs.Shown.{calls-inside}
 use Rattle.riding.specs.Ridden.{read-rides}
-use Rattle.showing.specs.Showing.{Listed}
 use Rattle.showing.specs.Rests.{Rests, RestsAt}
 use Rattle.showing.specs.Stepping.{arrived, stepped, rests-before, rests-end}
 use Rattle.showing.specs.Turns.{stepBack}
+use Rattle.showing.specs.Showing.{Given}
 
 -- ---- a listed station
 module _ (w : List ℕ) (accepted : isTimetable w ≡ true) where
@@ -61,94 +61,89 @@ module _ (w : List ℕ) (accepted : isTimetable w ≡ true) where
           points = ap (λ s. s .points) is;
         }
 
--- ---- the station before station j of a path
-module _
-    (w lines path : List ℕ)
-    (r : ℕ)
-    (accepted : isTimetable w ≡ true)
-    (own : areTables w lines ≡ true)
-    (listed : Listed (stationCount w) path r)
-    (j : ℕ)
-    (inside : j < r)
-  where
-    abbrev x : ℕ
-    x = getD path (j - 1) 0
+module _ (w lines path : List ℕ) (r v : ℕ) (given : Given w lines path r v) where
+  accepted : isTimetable w ≡ true
+  accepted = given .accepted
+
+  -- ---- the station before station j of a path
+  module _ (j : ℕ) (inside : j < r) where
+    abbrev back : ℕ
+    back = getD path (j - 1) 0
 
     pub back-first : 1 ≤ getD path (j - 1) 0
-    back-first = listed .at (j - 1) (omega arith) .0
+    back-first = given .listed .at (j - 1) (omega arith) .0
 
-    back-most : x ≤ stationCount w
-    back-most = listed .at (j - 1) (omega arith) .1
+    back-most : back ≤ stationCount w
+    back-most = given .listed .at (j - 1) (omega arith) .1
 
     pub back-few : getD path (j - 1) 0 ≤ 64
-    back-few = station-few w accepted x back-first back-most
+    back-few = station-few w accepted back back-first back-most
 
     pub back-calls : callsPlace lines (getD path (j - 1) 0) ≤ length lines
-    back-calls = station-calls w accepted x back-first back-most lines own
+    back-calls = station-calls w accepted back back-first back-most lines (given .own)
 
--- ---- the loop from the target back
-module _ (w path : List ℕ) (r v minute : ℕ) (accepted : isTimetable w ≡ true) where
-  abbrev n : Net
-  n = net (timetableOf w)
+  -- ---- the loop from the target back
+  module _ (minute : ℕ) where
+    abbrev n : Net
+    n = net (timetableOf w)
 
-  abbrev b : ℕ
-  b = getD path (r - 1) 0
+    abbrev b : ℕ
+    b = getD path (r - 1) 0
 
-  slice-end : (k : ℕ) → k ≡ r → slice k r path ≡ []
-  slice-end k e = ap (λ k. slice k r path) e ∙ slice-empty r path
+    slice-end : (k : ℕ) → k ≡ r → slice k r path ≡ []
+    slice-end k e = ap (λ k. slice k r path) e ∙ slice-empty r path
 
-  pub rest-begins : (i : ℕ) (z : List ℕ) → i < r → z ≡ arrived v → RestsAt w path r v minute (r - 1) z
-  unfolding RestsAt
-  rest-begins i z h is =
-      let none : slice (r - 1 + 1) r path ≡ [] = slice-end (r - 1 + 1) (omega arith) in
-      let last = rests-end (timetableOf w) (is-valid w accepted) b v minute b refl in
-      subst (λ q. Rests n b v minute q b z) (sym none) (subst (λ z. Rests n b v minute [] b z) (sym is) last)
+    pub rest-begins : (i : ℕ) (z : List ℕ) → i < r → z ≡ arrived v → RestsAt w path r v minute (r - 1) z
+    unfolding RestsAt
+    rest-begins i z h is =
+        let none : slice (r - 1 + 1) r path ≡ [] = slice-end (r - 1 + 1) (omega arith) in
+        let last = rests-end (timetableOf w) (is-valid w accepted) b v minute b refl in
+        subst (λ q. Rests n b v minute q b z) (sym none) (subst (λ z. Rests n b v minute [] b z) (sym is) last)
 
-  pub rest-done : (i j : ℕ) (z : List ℕ) → i ≤ j → j ≤ i
-      → RestsAt w path r v minute j z
-      → RestsAt w path r v minute i z
-  rest-done i j z h g s =
-      let same : j ≡ i = omega arith in
-      subst (λ k. RestsAt w path r v minute k z) same s
+    pub rest-done : (i j : ℕ) (z : List ℕ) → i ≤ j → j ≤ i
+        → RestsAt w path r v minute j z
+        → RestsAt w path r v minute i z
+    rest-done i j z h g s =
+        let same : j ≡ i = omega arith in
+        subst (λ k. RestsAt w path r v minute k z) same s
 
-  pub rest-more : (lines : List ℕ) (i j : ℕ) (z new : List ℕ) → areTables w lines ≡ true
-      → Listed (stationCount w) path r → r ≤ length path → i < j → j < r
-      → RestsAt w path r v minute j z
-      → new ≡ stepBack w lines minute path j z
-      → RestsAt w path r v minute (j - 1) new
-  unfolding stepBack RestsAt
-  rest-more lines i j z new own listed long less inside s is-new =
-      subst (λ q. Rests n b v minute q x new) (sym on) (subst (Rests n b v minute (y ∷ slice (j + 1) r path) x) (sym is) whole)
-    where
-      x : ℕ
-      x = getD path (j - 1) 0
+    pub rest-more : (j : ℕ) (z new : List ℕ) → 1 ≤ j → j < r
+        → RestsAt w path r v minute j z
+        → new ≡ stepBack w lines minute path j z
+        → RestsAt w path r v minute (j - 1) new
+    unfolding stepBack RestsAt
+    rest-more j z new less inside s is-new =
+        subst (λ q. Rests n b v minute q x new) (sym on) (subst (Rests n b v minute (y ∷ slice (j + 1) r path) x) (sym is) whole)
+      where
+        x : ℕ
+        x = getD path (j - 1) 0
 
-      y : ℕ
-      y = getD path j 0
+        y : ℕ
+        y = getD path j 0
 
-      first : 1 ≤ x
-      first = listed .at (j - 1) (omega arith) .0
+        first : 1 ≤ x
+        first = given .listed .at (j - 1) (omega arith) .0
 
-      most : x ≤ stationCount w
-      most = listed .at (j - 1) (omega arith) .1
+        most : x ≤ stationCount w
+        most = given .listed .at (j - 1) (omega arith) .1
 
-      c : ChangeThere w accepted x first most
-      c = change-there w accepted x first most
+        c : ChangeThere w accepted x first most
+        c = change-there w accepted x first most
 
-      rides : List Ride
-      rides = allRead lines x minute y
+        rides : List Ride
+        rides = allRead lines x minute y
 
-      whole : Rests n b v minute (y ∷ slice (j + 1) r path) x (stepped (c .change .minutes) (c .change .points) z rides)
-      whole =
-          rests-before (timetableOf w) (is-valid w accepted) b v minute (slice (j + 1) r path) x y (c .change) (c .listed)
-          (c .at) rides (read-rides w lines x y minute accepted own first (station-inside w accepted x first most)) z s
+        whole : Rests n b v minute (y ∷ slice (j + 1) r path) x (stepped (c .change .minutes) (c .change .points) z rides)
+        whole =
+            rests-before (timetableOf w) (is-valid w accepted) b v minute (slice (j + 1) r path) x y (c .change) (c .listed)
+            (c .at) rides (read-rides w lines x y minute accepted (given .own) first (station-inside w accepted x first most)) z s
 
-      is : new ≡ stepped (c .change .minutes) (c .change .points) z rides
-      is = is-new ∙ (λ i. stepped (sym (c .minutes) i) (sym (c .points) i) z rides)
+        is : new ≡ stepped (c .change .minutes) (c .change .points) z rides
+        is = is-new ∙ (λ i. stepped (sym (c .minutes) i) (sym (c .points) i) z rides)
 
-      on : slice (j - 1 + 1) r path ≡ y ∷ slice (j + 1) r path
-      on =
-          let here : j - 1 + 1 ≡ j = omega arith in
-          ap (λ k. slice k r path) here
-          ∙ slice-cons j r path 0 inside long
-          ∙ ap (λ k. y ∷ slice k r path) (sym (add-one j))
+        on : slice (j - 1 + 1) r path ≡ y ∷ slice (j + 1) r path
+        on =
+            let here : j - 1 + 1 ≡ j = omega arith in
+            ap (λ k. slice k r path) here
+            ∙ slice-cons j r path 0 inside (given .long)
+            ∙ ap (λ k. y ∷ slice k r path) (sym (add-one j))

@@ -4,19 +4,32 @@
 use mathlib.Core.Path.{_≡_}
 use mathlib.Core.Bool.{Bool, true, false}
 use mathlib.Core.List.{List}
-use Prim.Native.Nat.{ℕ, _≤_, _<_}
+use Prim.Native.Nat.{ℕ, _-_, _*_, _≤_, _<_}
 use lib.Dec.{T}
-use lib.ListN.{getD}
+use lib.ListN.{length, getD, take}
 use Rattle.timetable.specs.Timetable.{Timetable}
+use Rattle.timetable.specs.Words.{stationCount, timetableOf, isTimetable}
 use Rattle.lists.specs.Lists.{before}
 use Rattle.connections.specs.Connections.{net, Connection, departure}
 use Rattle.connections.specs.Planner.{numbers, tieKey}
 use Rattle.connections.specs.Named.{named}
+use Rattle.checking.specs.Question10.{areTables}
 use Rattle.reckoning.specs.Greedy.{Fits}
+use Rattle.showing.specs.declared.First.{First}
 
 -- the first r numbers of a path are stations, of n
 pub record Listed (n : ℕ) (path : List ℕ) (r : ℕ) : Type 0 where
   pub at : (i : ℕ) → i < r → (1 ≤ getD path i 0) × (getD path i 0 ≤ n)
+
+-- what is known of the words lent, and of a path of r stations to the last of which one is to come by minute v
+pub record Given (w lines path : List ℕ) (r v : ℕ) : Type 0 where
+  pub enough : 16384 ≤ length w
+  pub accepted : isTimetable w ≡ true
+  pub own : areTables w lines ≡ true
+  pub listed : Listed (stationCount w) path r
+  pub few : r ≤ 63
+  pub long : r ≤ length path
+  pub timely : v ≤ 2879
 
 module _ (timetable : Timetable) (b v : ℕ) where
   -- from station x at minute u by the stations q to b, there by minute v, for p points at the most
@@ -35,3 +48,9 @@ module _ (timetable : Timetable) (b v : ℕ) where
   abbrev pub Found : (found : Bool) (q : List ℕ) (x u p : ℕ) (told : List ℕ) (depart : ℕ) → Type 0
   Found true q x u p told depart = Shown q x u p told depart
   Found false q x u p told depart = (e : Connection) → ¬ Fitting q x u p e
+
+-- What the code found along the path, for a query from station a at minute t, for p points at the most, when it has
+-- written rides.
+unfoldable pub FoundAt : (w path : List ℕ) (r v a t p : ℕ) (f : First) (rides : List ℕ) → Type 0
+FoundAt w path r v a t p f rides =
+    Found (timetableOf w) (getD path (r - 1) 0) v (f .found) (take r path) a t p (take (3 * r) rides) (f .depart)

@@ -1,23 +1,21 @@
 // The connection of one stored pattern that is shown for a row: what is left behind each station, station by station
 // from the target back, and then ride by ride the first that can be taken.
 ghost use mathlib.Core.Path.{_≡_};
-ghost use mathlib.Core.Bool.{true};
 ghost use mathlib.Core.List.{[], _∷_, _++_};
 ghost use Prim.Native.Nat.{_+_, _-_, _*_, _≤_, _<_, min};
-ghost use lib.ListN.{length, getD, take, drop, replicate};
+ghost use lib.ListN.{length, getD, drop, replicate};
 ghost use Rattle.words.specs.Put.{put};
-ghost use Rattle.timetable.specs.Words.{stationCount, timetableOf, isTimetable};
+ghost use Rattle.timetable.specs.Words.{stationCount};
 ghost use Rattle.lookup.specs.Lookup.{callsPlace};
-ghost use Rattle.checking.specs.Question10.{areTables};
 ghost use Rattle.direct.specs.Candidates.{allRead};
-ghost use Rattle.direct.specs.Choosing.{noPoints, noteAll};
+ghost use Rattle.direct.specs.Choosing.{noPoints, noteAll, blank};
 ghost use Rattle.direct.specs.Turns.{lowered};
-ghost use Rattle.showing.specs.Showing.{Listed, Found};
+ghost use Rattle.showing.specs.Showing.{Given, FoundAt};
 ghost use Rattle.showing.specs.Rests.{RestsAt};
 ghost use Rattle.showing.specs.Settling.{settled};
 ghost use Rattle.showing.specs.Stepping.{arrived, catches};
 ghost use Rattle.showing.specs.Heads.{lateness, headOf};
-ghost use Rattle.showing.specs.OnTheWay.{Headed, Moved, Rode, FoundAt};
+ghost use Rattle.showing.specs.OnTheWay.{Standing, Headed, Moved, Rode};
 ghost use Rattle.showing.specs.Turns.{stepBack, caughtBy, tellsOf, numbersBefore, comesBefore, tried, Sized};
 use riding::Ride;
 use timetable::Station;
@@ -38,6 +36,13 @@ pub struct At {
     pub from: usize,
     pub ready: usize,
     pub left: usize,
+}
+
+// Whether a ride was taken, when it departs, and where one is behind it.
+pub struct Next {
+    pub found: bool,
+    pub depart: usize,
+    pub at: At,
 }
 
 // Whether there is a connection, and when it departs.
@@ -172,35 +177,44 @@ fn station(path: &[u16], i: usize) -> usize
     words::word(path, i) as usize
 }
 
+// Copies what is left, to go on from it.
+fn keep(old: &mut [u32], z: &[u32])
+    requires { ⌜ (length (now old) ≡ 2880) × (length (now z) ≡ 2880) ⌝ }
+    ensures { λ _. ⌜ now (old .exit) ≡ now (z .entry) ⌝ }
+    ensures { λ _. ⌜ length (now (old .exit)) ≡ length (now (old .entry)) ⌝ }
+{
+    words::copy_long(old, 0, z, MINUTES);
+}
+
+// Nothing is noted yet.
+fn clear(z: &mut [u32])
+    requires { ⌜ length (now z) ≡ 2880 ⌝ }
+    ensures { λ _. ⌜ now (z .exit) ≡ blank ⌝ }
+    ensures { λ _. ⌜ length (now (z .exit)) ≡ length (now (z .entry)) ⌝ }
+{
+    fill(z, MINUTES, NO_POINTS);
+}
+
 // From what is left behind station j of a path to what is left behind the one before it.
-fn step(
-    words: &[u16],
-    lines: &[u16],
-    minute: usize,
-    path: &[u16],
-    j: usize,
-    z: &mut [u32],
-    spare: &mut [u32],
-)
+fn step(words: &[u16], lines: &[u16], minute: usize, path: &[u16], j: usize, z: &mut [u32])
     requires { ⌜ (16384 ≤ length (now words))
         × (1 ≤ j)
         × (j < length (now path))
         × (1 ≤ getD (now path) (j - 1) 0)
         × (getD (now path) (j - 1) 0 ≤ 64)
         × (callsPlace (now lines) (getD (now path) (j - 1) 0) ≤ length (now lines))
-        × (length (now z) ≡ 2880)
-        × (length (now spare) ≡ 2880) ⌝ }
+        × (length (now z) ≡ 2880) ⌝ }
     ensures { λ _. ⌜ now (z .exit)
         ≡ stepBack (now (words .entry)) (now (lines .entry)) minute (now (path .entry)) j (now (z .entry)) ⌝ }
     ensures { λ _. ⌜ length (now (z .exit)) ≡ length (now (z .entry)) ⌝ }
-    ensures { λ _. ⌜ length (now (spare .exit)) ≡ length (now (spare .entry)) ⌝ }
 {
     let from = station(path, j - 1);
     let to = station(path, j);
     let change = timetable::station_at(words, from - 1);
-    words::copy_long(spare, 0, z, MINUTES);
-    fill(z, MINUTES, NO_POINTS);
-    gather(lines, from, to, minute, change, spare, z);
+    let mut old = [0u32; 2880];
+    keep(&mut old, z);
+    clear(z);
+    gather(lines, from, to, minute, change, &old, z);
     settle(z);
 }
 
@@ -210,7 +224,7 @@ fn fill_last(z: &mut [u32], v: usize)
     ensures { λ _. ⌜ now (z .exit) ≡ arrived v ⌝ }
     ensures { λ _. ⌜ length (now (z .exit)) ≡ length (now (z .entry)) ⌝ }
 {
-    fill(z, MINUTES, NO_POINTS);
+    clear(z);
     fill(z, v + 1, 0);
 }
 
@@ -224,25 +238,15 @@ fn rest(
     r: usize,
     v: usize,
     z: &mut [u32],
-    spare: &mut [u32],
 )
-    requires { ⌜ (16384 ≤ length (now words))
-        × (isTimetable (now words) ≡ true)
-        × (areTables (now words) (now lines) ≡ true)
-        × Listed (stationCount (now words)) (now path) r
-        × (i < r)
-        × (r ≤ length (now path))
-        × (v ≤ 2879)
-        × (length (now z) ≡ 2880)
-        × (length (now spare) ≡ 2880) ⌝ }
+    requires { ⌜ Given (now words) (now lines) (now path) r v × (i < r) × (length (now z) ≡ 2880) ⌝ }
     ensures { λ _. ⌜ RestsAt (now (words .entry)) (now (path .entry)) r v minute i (now (z .exit)) ⌝ }
     ensures { λ _. ⌜ length (now (z .exit)) ≡ length (now (z .entry)) ⌝ }
-    ensures { λ _. ⌜ length (now (spare .exit)) ≡ length (now (spare .entry)) ⌝ }
 {
     fill_last(z, v);
     let mut j = r - 1;
     while i < j {
-        step(words, lines, minute, path, j, z, spare);
+        step(words, lines, minute, path, j, z);
         j -= 1;
     }
 }
@@ -354,27 +358,13 @@ fn take_ride(
     v: usize,
     at: At,
     first: bool,
-    z: &mut [u32],
-    spare: &mut [u32],
 ) -> Ride
-    requires { ⌜ (16384 ≤ length (now words))
-        × (isTimetable (now words) ≡ true)
-        × (areTables (now words) (now lines) ≡ true)
-        × Listed (stationCount (now words)) (now path) r
-        × (i < r)
-        × (r ≤ length (now path))
-        × (v ≤ 2879)
-        × (1 ≤ at .from)
-        × (at .from ≤ stationCount (now words))
-        × (minute ≤ at .ready)
-        × (length (now z) ≡ 2880)
-        × (length (now spare) ≡ 2880) ⌝ }
+    requires { ⌜ Given (now words) (now lines) (now path) r v × (i < r) × Standing (now words) minute at ⌝ }
     ensures { λ s. ⌜ Headed (now (words .entry)) (now (path .entry)) r v first i at s × Sized s ⌝ }
-    ensures { λ _. ⌜ length (now (z .exit)) ≡ length (now (z .entry)) ⌝ }
-    ensures { λ _. ⌜ length (now (spare .exit)) ≡ length (now (spare .entry)) ⌝ }
 {
-    rest(words, lines, minute, path, i, r, v, z, spare);
-    choose(lines, at.from, station(path, i), at.ready, first, at.left, z)
+    let mut z = [0u32; 2880];
+    rest(words, lines, minute, path, i, r, v, &mut z);
+    choose(lines, at.from, station(path, i), at.ready, first, at.left, &z)
 }
 
 // Writes the numbers of ride i.
@@ -398,8 +388,7 @@ fn move_on(words: &[u16], path: &[u16], i: usize, left: usize, ride: Ride, rides
         × (i < 64)
         × (3 * i + 3 ≤ length (now rides))
         × Sized ride ⌝ }
-    ensures { λ r. ⌜ Moved (now (words .entry)) (now (path .entry)) i left ride (now (rides .entry)) (now (rides .exit)) r
-        × (r .from ≡ getD (now (path .entry)) i 0) ⌝ }
+    ensures { λ r. ⌜ Moved (now (words .entry)) (now (path .entry)) i left ride (now (rides .entry)) (now (rides .exit)) r ⌝ }
     ensures { λ _. ⌜ length (now (rides .exit)) ≡ length (now (rides .entry)) ⌝ }
 {
     put_ride(rides, i, ride);
@@ -414,7 +403,7 @@ fn move_on(words: &[u16], path: &[u16], i: usize, left: usize, ride: Ride, rides
     }
 }
 
-// Takes the next ride, to station i of the path.
+// Takes the ride to station i of the path, if there is one to take.
 fn ride_on(
     words: &[u16],
     lines: &[u16],
@@ -424,82 +413,30 @@ fn ride_on(
     r: usize,
     v: usize,
     at: At,
-    z: &mut [u32],
-    spare: &mut [u32],
+    first: bool,
     rides: &mut [u32],
-) -> At
-    requires { ⌜ (16384 ≤ length (now words))
-        × (isTimetable (now words) ≡ true)
-        × (areTables (now words) (now lines) ≡ true)
-        × Listed (stationCount (now words)) (now path) r
+) -> Next
+    requires { ⌜ Given (now words) (now lines) (now path) r v
         × (i < r)
-        × (r ≤ 63)
-        × (r ≤ length (now path))
-        × (v ≤ 2879)
-        × (1 ≤ at .from)
-        × (at .from ≤ stationCount (now words))
-        × (minute ≤ at .ready)
-        × (length (now z) ≡ 2880)
-        × (length (now spare) ≡ 2880)
+        × Standing (now words) minute at
         × (length (now rides) ≡ 192) ⌝ }
-    ensures { λ n. ⌜ Rode (now (words .entry)) (now (path .entry)) r v i at (now (rides .entry)) (now (rides .exit)) n
-        × (n .from ≡ getD (now (path .entry)) i 0) ⌝ }
-    ensures { λ _. ⌜ length (now (z .exit)) ≡ length (now (z .entry)) ⌝ }
-    ensures { λ _. ⌜ length (now (spare .exit)) ≡ length (now (spare .entry)) ⌝ }
+    ensures { λ s. ⌜ Rode (now (words .entry)) (now (path .entry)) r v first i at (now (rides .entry))
+        (now (rides .exit)) s ⌝ }
     ensures { λ _. ⌜ length (now (rides .exit)) ≡ length (now (rides .entry)) ⌝ }
 {
-    let ride = take_ride(words, lines, minute, path, i, r, v, at, false, z, spare);
-    move_on(words, path, i, at.left, ride, rides)
-}
-
-// The connection along a path, with two arrays to work in.
-fn first_within(
-    words: &[u16],
-    lines: &[u16],
-    minute: usize,
-    path: &[u16],
-    r: usize,
-    v: usize,
-    start: At,
-    z: &mut [u32],
-    spare: &mut [u32],
-    rides: &mut [u32],
-) -> First
-    requires { ⌜ (16384 ≤ length (now words))
-        × (isTimetable (now words) ≡ true)
-        × (areTables (now words) (now lines) ≡ true)
-        × Listed (stationCount (now words)) (now path) r
-        × (1 ≤ r)
-        × (r ≤ 63)
-        × (r ≤ length (now path))
-        × (v ≤ 2879)
-        × (1 ≤ start .from)
-        × (start .from ≤ stationCount (now words))
-        × (start .ready ≡ minute)
-        × (length (now z) ≡ 2880)
-        × (length (now spare) ≡ 2880)
-        × (length (now rides) ≡ 192) ⌝ }
-    ensures { λ f. ⌜ FoundAt (now (words .entry)) (now (path .entry)) r v start f (now (rides .exit)) ⌝ }
-    ensures { λ _. ⌜ length (now (z .exit)) ≡ length (now (z .entry)) ⌝ }
-    ensures { λ _. ⌜ length (now (spare .exit)) ≡ length (now (spare .entry)) ⌝ }
-    ensures { λ _. ⌜ length (now (rides .exit)) ≡ length (now (rides .entry)) ⌝ }
-{
-    let head = take_ride(words, lines, minute, path, 0, r, v, start, true, z, spare);
-    if head.trip == NO_TRIP {
-        return First {
+    let ride = take_ride(words, lines, minute, path, i, r, v, at, first);
+    if ride.trip == NO_TRIP {
+        return Next {
             found: false,
             depart: 0,
+            at,
         };
     }
-    let mut at = move_on(words, path, 0, start.left, head, rides);
-    let mut i = 1;
-    while i < r {
-        at = ride_on(words, lines, minute, path, i, r, v, at, z, spare, rides);
-        i += 1;
-    }
-    First {
+    let next = move_on(words, path, i, at.left, ride, rides);
+    Next {
         found: true,
-        depart: head.depart,
+        depart: ride.depart,
+        at: next,
     }
 }
 
@@ -516,27 +453,35 @@ pub fn first_of_pattern(
     p: u32,
     rides: &mut [u32],
 ) -> First
-    requires { ⌜ (16384 ≤ length (now words))
-        × (isTimetable (now words) ≡ true)
-        × (areTables (now words) (now lines) ≡ true)
+    requires { ⌜ Given (now words) (now lines) (now path) r v
+        × (1 ≤ r)
         × (1 ≤ source)
         × (source ≤ stationCount (now words))
-        × Listed (stationCount (now words)) (now path) r
-        × (1 ≤ r)
-        × (r ≤ 63)
-        × (r ≤ length (now path))
-        × (v ≤ 2879)
         × (length (now rides) ≡ 192) ⌝ }
-    ensures { λ f. ⌜ Found (timetableOf (now (words .entry))) (getD (now (path .entry)) (r - 1) 0) v (f .found)
-        (take r (now (path .entry))) source minute p (take (3 * r) (now (rides .exit))) (f .depart) ⌝ }
+    ensures { λ f. ⌜ FoundAt (now (words .entry)) (now (path .entry)) r v source minute p f (now (rides .exit)) ⌝ }
     ensures { λ _. ⌜ length (now (rides .exit)) ≡ length (now (rides .entry)) ⌝ }
 {
-    let mut z = [0u32; 2880];
-    let mut spare = [0u32; 2880];
     let start = At {
         from: source,
         ready: minute,
         left: p as usize,
     };
-    first_within(words, lines, minute, path, r, v, start, &mut z, &mut spare, rides)
+    let head = ride_on(words, lines, minute, path, 0, r, v, start, true, rides);
+    if !head.found {
+        return First {
+            found: false,
+            depart: 0,
+        };
+    }
+    let mut at = head.at;
+    let mut i = 1;
+    while i < r {
+        let next = ride_on(words, lines, minute, path, i, r, v, at, false, rides);
+        at = next.at;
+        i += 1;
+    }
+    First {
+        found: true,
+        depart: head.depart,
+    }
 }

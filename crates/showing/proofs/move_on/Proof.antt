@@ -55,7 +55,7 @@ same-length c = search needs
 
 -- src/lib.rt:393:1
 returns : tie.Need-returns
-returns c = ((search moved, search needs), search needs)
+returns c = (search moved, search needs)
 
 pub move-on-spec : {M : Type 1} → statement M
 move-on-spec =
