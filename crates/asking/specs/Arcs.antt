@@ -44,8 +44,8 @@ module _
     (count : r ≡ length (arcPath s k))
     (some : 1 ≤ r)
   where
-    long : r ≤ length path
-    long = omega (arith, length-take r path, ap length is, count)
+    pub path-long : r ≤ length path
+    path-long = omega (arith, length-take r path, ap length is, count)
 
     place-is : (i : ℕ) → i < r → getD path i 0 ≡ getD (arcPath s k) i 0
     place-is i h = sym (getD-take r path i 0 h) ∙ ap (λ l. getD l i 0) is
@@ -65,7 +65,7 @@ module _
         let next : suc (r - 1) ≡ r = omega arith in
         sym is
         ∙ ap (λ n. take n path) (sym next)
-        ∙ take-suc path (r - 1) 0 (omega (arith, long))
+        ∙ take-suc path (r - 1) 0 (omega (arith, path-long))
         ∙ ap (λ x. take (r - 1) path ++ (x ∷ [])) target-is
         ∙ sym (turned (take (r - 1) path) [] (arcTarget s k ∷ []))
 

@@ -1,6 +1,6 @@
 -- The pattern of the arc is read, and what is found along it is told.
 use Rattle.asking.specs.Arcs.{store-made}
-use Rattle.asking.specs.Found.{path-listed, found-arc, found-sized}
+use Rattle.asking.specs.Found.{path-given, found-arc, found-sized}
 use borrow.Author.Needs.{needs}
 use Rattle.asking.proofs.find_arc.Statement.{statement}
 use Rattle.asking.proofs.find_arc.Tie as tie
@@ -9,19 +9,7 @@ arc-pattern-requires : tie.Need-arc-pattern-requires
 arc-pattern-requires c κs = (search store-made, (search needs, search needs))
 
 first-of-pattern-requires : tie.Need-first-of-pattern-requires
-first-of-pattern-requires c κs = (
-  search needs,
-  search needs,
-  search needs,
-  search needs,
-  search needs,
-  search path-listed,
-  search needs,
-  search needs,
-  search needs,
-  search needs,
-  search needs,
-)
+first-of-pattern-requires c κs = (search path-given, search needs, search needs, search needs, search needs)
 
 returns : tie.Need-returns
 returns c = ((search found-arc, search found-sized), search needs)
