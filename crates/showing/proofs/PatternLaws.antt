@@ -2,13 +2,13 @@
 use mathlib.Core.Path.{_≡_, refl, sym, ap, subst, _∙_}
 use mathlib.Core.Bool.{true}
 use mathlib.Core.List.{List, [], _∷_}
-use Prim.Native.Nat.{ℕ, suc, _+_, _-_, _≤_, _<_}
+use Prim.Native.Nat.{ℕ, _+_, _-_, _≤_, _<_}
 use native.Mathlib.Numerals.{add-one}
 use native.Mathlib.Omega.{arith}
 use lib.Dec.{T}
 use lib.ListN.{length, getD}
 use lib.Seq.{slice, slice-empty, slice-cons}
-use Rattle.timetable.specs.Timetable.{Timetable, valid}
+use Rattle.timetable.specs.Timetable.{valid}
 use Rattle.timetable.specs.Words.{stationCount, stationAt, timetableOf, isTimetable}
 use Rattle.timetable.specs.Check.{length-stations}
 use Rattle.timetable.specs.Access.{spelled-valid, stations-few, station-is}

@@ -3,12 +3,11 @@ use mathlib.Core.Path.{_≡_, refl, sym, ap, subst, _∙_}
 use mathlib.Core.Bool.{Bool, true, false, not}
 use mathlib.Core.Logic.{_⊎_, inl, inr, _↔_}
 use mathlib.Core.List.{List, [], _∷_, _++_}
-use Prim.Native.Nat.{ℕ, suc, _+_, _-_, _*_, _≤_, _<_}
+use Prim.Native.Nat.{ℕ, _+_, _-_, _*_, _≤_, _<_}
 use native.Mathlib.Numerals.{add-one}
 use native.Mathlib.Omega.{arith}
-use lib.Dec.{T}
 use lib.ListN.{length, getD, set, take, drop, length-append, length-take}
-use lib.Seq.{slice, slice-empty, slice-cons, take-at, length-take-le}
+use lib.Seq.{slice, slice-empty, slice-cons, take-at}
 use Rattle.words.specs.Put.{put, put-more}
 use Rattle.timetable.specs.Timetable.{Timetable, Station}
 use Rattle.timetable.specs.Words.{stationCount, stationAt, timetableOf, isTimetable}
@@ -227,7 +226,7 @@ module _ (w lines path : List ℕ) (r v : ℕ) (given : Given w lines path r v) 
         go (inr h) =
             let ride = h .taken .ride in
             let chosen =
-                subst (λ q. Chosen t b v false q (at .from) (at .ready) (at .left) ride) (on i inside) (h .taken .chosen)
+            subst (λ q. Chosen t b v false q (at .from) (at .ready) (at .left) ride) (on i inside) (h .taken .chosen)
             in
             record {
               least = next-least (at .left) (h .ride) old new (step .at) (h .moved);
@@ -263,8 +262,8 @@ module _ (w lines path : List ℕ) (r v : ℕ) (given : Given w lines path r v) 
             let chosen = subst (λ q. Chosen t b v true q a m p ride) on-way (h .taken .chosen) in
             let first = begins t (is-valid w accepted) b v y a m p ride (c .change) (c .listed) (c .at) q chosen in
             let goes-on =
-                moves 0 (omega arith) a m p (ride .depart) p (h .ride) ride (h .taken .tells) old new (step .at) (h .moved)
-                (omega arith) (y ∷ q) first
+            moves 0 (omega arith) a m p (ride .depart) p (h .ride) ride (h .taken .tells) old new (step .at) (h .moved)
+            (omega arith) (y ∷ q) first
             in
             let leaves = h .departs ∙ ap (λ s. s .depart) (h .taken .tells) in
             record {

@@ -1,27 +1,27 @@
 -- From ride to ride: the rides taken so far, with the first of what can still be taken, make the connection that is
 -- shown.
 use mathlib.Core.Path.{_≡_, refl, sym, ap, subst, _∙_}
-use mathlib.Core.Bool.{Bool, true, false}
+use mathlib.Core.Bool.{true, false}
 use mathlib.Core.List.{List, [], _∷_, _++_, append-assoc}
-use Prim.Native.Nat.{ℕ, _+_, _-_, _≤_, _<_}
+use Prim.Native.Nat.{ℕ, _+_, _-_, _≤_}
 use native.Mathlib.Omega.{arith}
 use lib.Dec.{T}
 use lib.ListN.{length}
 use Rattle.timetable.specs.Timetable.{Timetable, valid}
-use Rattle.lists.specs.Lists.{_∈_, before, tail}
+use Rattle.lists.specs.Lists.{_∈_, tail}
 use Rattle.lists.specs.Order.{before-tail}
 use Rattle.results.specs.Picks.{lead}
 use Rattle.connections.specs.Rides.{Ride}
-use Rattle.connections.specs.Connections.{Change, Net, net, Connection, direct, onward, Boards, Changes, Feasible}
-use Rattle.connections.specs.Connections.{ready, arrival, penalty, stations, departure}
+use Rattle.connections.specs.Connections.{Change, Net, net, Connection, direct, onward}
+use Rattle.connections.specs.Connections.{ready}
 use Rattle.connections.specs.Planner.{numbers}
 use Rattle.connections.specs.Named.{named}
 use Rattle.connections.specs.Sound.{sound}
 use Rattle.connections.specs.Feasibility.{has-stations}
 use Rattle.reckoning.specs.Sets.{firstRide}
-use Rattle.reckoning.specs.Greedy.{First, rideNumbers, leaving, first-direct, first-onward, tie-direct, tie-onward}
+use Rattle.reckoning.specs.Greedy.{First, rideNumbers, first-direct, first-onward, tie-direct, tie-onward}
 use Rattle.showing.specs.Showing.{Fitting, Shown}
-use Rattle.showing.specs.Heads.{headKey, Chosen}
+use Rattle.showing.specs.Heads.{Chosen}
 
 -- the rides taken so far tell `done`, and the first of them leaves at minute d
 module _ (timetable : Timetable) (b v : ℕ) (whole : List ℕ) (a t p₀ : ℕ) where

@@ -1,7 +1,7 @@
 -- From what is left at one station of a pattern to what is left at the station before it: for each ride between them
 -- that can be caught, the latest minute of arrival for which it can, and what it costs with the change before it and
 -- what is left behind it.
-use mathlib.Core.Path.{_≡_, refl, sym, ap, subst, _∙_}
+use mathlib.Core.Path.{_≡_, refl, sym, ap, _∙_}
 use mathlib.Core.Bool.{Bool, not, _&&_}
 use mathlib.Core.Logic.{_↔_}
 use mathlib.Core.List.{List, [], _∷_, _++_, map, Memᴰ·map, Memᴰ·of-map}
@@ -15,14 +15,14 @@ use Rattle.lists.specs.Lists.{_∈_, filter}
 use Rattle.lists.specs.Tests.{either, reads, writes}
 use Rattle.lists.specs.Members.{filter-in, filter-out}
 use Rattle.connections.specs.Rides.{Ride}
-use Rattle.connections.specs.Connections.{Change, Net, net, Connection, Boards, penalty}
+use Rattle.connections.specs.Connections.{Change, Net, net, Boards}
 use Rattle.connections.specs.Named.{named}
 use Rattle.connections.specs.Sound.{Sound, sound}
 use Rattle.connections.specs.Feasibility.{penalty-most}
 use Rattle.reckoning.specs.Sets.{firstRide}
 use Rattle.direct.specs.Choosing.{noPoints, noteAll, blank}
 use Rattle.direct.specs.Noted.{LeastNoted, least-noted}
-use Rattle.showing.specs.Rests.{Rest, Rests, Begun, begun, Parted, parted}
+use Rattle.showing.specs.Rests.{Rest, Rests, begun, parted}
 use Rattle.showing.specs.Settling.{settled, settled-low, settled-is}
 
 -- A ride as one who arrives before it counts it: he arrives cm minutes before it leaves, and pays cp for the change,

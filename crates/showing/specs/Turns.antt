@@ -2,7 +2,7 @@
 use mathlib.Core.Path.{_≡_, refl, ap, _∙_}
 use mathlib.Core.Bool.{Bool, true, false, cond, _&&_}
 use mathlib.Core.List.{List, [], _∷_}
-use Prim.Native.Nat.{ℕ, _+_, _-_, _≤_, _<_}
+use Prim.Native.Nat.{ℕ, _+_, _-_, _≤_}
 use lib.Dec.{leb, ltb}
 use lib.ListN.{getD}
 use Rattle.timetable.specs.Words.{stationAt}
@@ -32,14 +32,14 @@ tellsOf r =
 pub tells-is : (s : RideStruct) (r : Ride) → Tells s r → s ≡ tellsOf r
 tells-is s r t =
     λ i.
-        record {
-          trip = t .trip i;
-          board = t .board i;
-          alight = t .alight i;
-          depart = t .depart i;
-          arrive = t .arrive i;
-          points = t .points i;
-        }
+    record {
+      trip = t .trip i;
+      board = t .board i;
+      alight = t .alight i;
+      depart = t .depart i;
+      arrive = t .arrive i;
+      points = t .points i;
+    }
 
 -- ---- what is left, once one ride more is counted
 unfoldable pub caughtBy : (cm cp : ℕ) (old z : List ℕ) → RideStruct → List ℕ

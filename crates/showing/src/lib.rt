@@ -364,7 +364,15 @@ fn take_ride(
 {
     let mut z = [0u32; 2880];
     rest(words, lines, minute, path, i, r, v, &mut z);
-    choose(lines, at.from, station(path, i), at.ready, first, at.left, &z)
+    choose(
+        lines,
+        at.from,
+        station(path, i),
+        at.ready,
+        first,
+        at.left,
+        &z,
+    )
 }
 
 // Writes the numbers of ride i.
