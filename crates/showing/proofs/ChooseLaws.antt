@@ -69,7 +69,11 @@ module _ (lines : List ℕ) (from to ready : ℕ) (first : Bool) (z : List ℕ) 
       → whole ≡ triedAll first z p (tellsOf noRide) (left lines from to ready c)
   choose-begins c e = ap (triedAll first z p (tellsOf noRide)) (sym e)
 
-  module _ (best : RideStruct) (c : Cursor) (so-far : whole ≡ triedAll first z p best (left lines from to ready c)) where
+  -- the choice, once the rides left are tried too
+  abbrev with : RideStruct → Cursor → RideStruct
+  with best c = triedAll first z p best (left lines from to ready c)
+
+  module _ (best : RideStruct) (c : Cursor) (so-far : whole ≡ with best c) where
     pub choose-more : (d : Cursor) (s new : RideStruct) → Tells s (rideOf lines c) → new ≡ tried first z p best s
         → left lines from to ready c ≡ rideOf lines c ∷ left lines from to ready d
         → whole ≡ triedAll first z p new (left lines from to ready d)

@@ -154,7 +154,8 @@ module _ (timetable : Timetable) (okay : T (valid timetable)) (b v : ℕ) where
           one = foremost (headKey first) noRide those
 
           go : ((one ≡ noRide) × ((r : Ride) → ¬ (r ∈ those))) ⊎ Leading (headKey first) those one
-              → ((one ≡ noRide) × ((e : Connection) → ¬ Fitting timetable b v (y ∷ q) x u p e)) ⊎ Chosen timetable b v first (y ∷ q) x u p one
+              → ((one ≡ noRide) × ((e : Connection) → ¬ Fitting timetable b v (y ∷ q) x u p e))
+              ⊎ Chosen timetable b v first (y ∷ q) x u p one
           go (inl h) = inl (h .0, λ e f. h .1 (firstRide e) (starts-in e f))
           go (inr h) =
               inr (record {

@@ -99,7 +99,8 @@ module _ (first : Bool) (z : List ℕ) (p : ℕ) where
   tried-head (r ∷ l) f = go (takeable z p r) refl (tried-head l)
     where
       go : (b : Bool) → takeable z p r ≡ b
-          → ((f : Ride) → triedAll first z p (tellsOf f) l ≡ tellsOf (foremost (headKey first) f (filter (takeable z p) l)))
+          → ((f : Ride)
+          → triedAll first z p (tellsOf f) l ≡ tellsOf (foremost (headKey first) f (filter (takeable z p) l)))
           → triedAll first z p (tried first z p (tellsOf f) (tellsOf r)) l
           ≡ tellsOf (foremost (headKey first) f (keep b r (filter (takeable z p) l)))
       go true e ih = ap (λ s. triedAll first z p s l) same ∙ ih (former (headKey first) f r)

@@ -8,4 +8,5 @@ returns : tie.Need-returns
 returns c = (search last-filled, search needs)
 
 pub fill-last-spec : {M : Type 1} → statement M
-fill-last-spec = tie.close (tie.spec (λ c. search needs) (λ c. search needs) (λ c. search needs) (λ c. search needs) returns)
+fill-last-spec =
+    tie.close (tie.spec (λ c. search needs) (λ c. search needs) (λ c. search needs) (λ c. search needs) returns)

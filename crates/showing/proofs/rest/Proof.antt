@@ -24,15 +24,17 @@ step-requires c κs =
     (search needs, search needs, search needs, search back-first, search back-few, search back-calls, search needs)
 
 loop-again : tie.Need-loop-again Inv-loop μ-loop
-loop-again c =
-    let l = c .before .before .before .before .before in
-    let a = c .before .before .before .before .before .before .before .before .before .before .before .before .before .before in (
-      search needs,
-      search needs,
-      search needs,
-      rest-more _ _ _ _ _ (a .pre .0) _ (l .loop .j) (l .loop .z) _ (omega (arith, c .before .before .before .before .loop-test .taken)) (l .loop .inv .1) (l .loop .inv .3)
-          (c .before .before .step .ensures .0),
-    )
+loop-again c = (
+  search needs,
+  search needs,
+  search needs,
+  let l = c .before .before .before .before .before in
+      let a = l .before .before .before .before .before .before .before .before .before in
+      let less = c .before .before .before .before .loop-test .taken in
+      let done = c .before .before .step .ensures .0 in
+      let inv = l .loop .inv in
+      rest-more _ _ _ _ _ (a .pre .0) _ (l .loop .j) (l .loop .z) _ (omega (arith, less)) (inv .1) (inv .3) done,
+)
 
 returns : tie.Need-returns Inv-loop μ-loop
 returns c = (search rest-done, search needs)
