@@ -1,7 +1,7 @@
 -- One ride more is tried, and all rides of a cursor one after the other.
-use mathlib.Core.Path.{_≡_, refl, sym, ap, _∙_}
+use mathlib.Core.Path.{_≡_, sym, ap, _∙_}
 use mathlib.Core.Bool.{Bool, true, false, cond}
-use mathlib.Core.List.{List, [], _∷_}
+use mathlib.Core.List.{List, _∷_}
 use Prim.Native.Nat.{ℕ, _+_, _≤_, _<_}
 use native.Mathlib.Omega.{arith}
 use borrow.Author.Tests.{lt-ltb, le-ltb, le-leb, lt-leb}
@@ -69,7 +69,11 @@ module _ (lines : List ℕ) (from to ready : ℕ) (first : Bool) (z : List ℕ) 
       → whole ≡ triedAll first z p (tellsOf noRide) (left lines from to ready c)
   choose-begins c e = ap (triedAll first z p (tellsOf noRide)) (sym e)
 
-  module _ (best : RideStruct) (c : Cursor) (so-far : whole ≡ triedAll first z p best (left lines from to ready c)) where
+  -- the choice, once the rides left are tried too
+  abbrev with : RideStruct → Cursor → RideStruct
+  with best c = triedAll first z p best (left lines from to ready c)
+
+  module _ (best : RideStruct) (c : Cursor) (so-far : whole ≡ with best c) where
     pub choose-more : (d : Cursor) (s new : RideStruct) → Tells s (rideOf lines c) → new ≡ tried first z p best s
         → left lines from to ready c ≡ rideOf lines c ∷ left lines from to ready d
         → whole ≡ triedAll first z p new (left lines from to ready d)

@@ -1,6 +1,6 @@
 -- Which of two rides comes first, number by number: where all numbers before are the same, the next one decides.
 use mathlib.Core.Path.{_≡_, refl, sym, ap, _∙_}
-use mathlib.Core.Bool.{Bool, true, false, cond, _&&_, _||_}
+use mathlib.Core.Bool.{Bool, true, false, _&&_, _||_}
 use mathlib.Core.List.{[], _∷_}
 use Prim.Native.Nat.{ℕ, _-_, _≤_, _<_}
 use native.Mathlib.Omega.{arith}
@@ -62,16 +62,21 @@ module _ (g f : RideStruct) where
     alight-decides k h =
         sym (same-trip ∙ first-same (g .board) (f .board) _ k h ∙ last-number (g .alight) (f .alight))
 
-  module _ (first : Bool) (a b : ℕ) (is-a : a ≡ lateness first (g .depart)) (is-b : b ≡ lateness first (f .depart)) where
-    by-key : (ltb a b || (eqb a b && numbersBefore g f)) ≡ comesBefore first g f
-    unfolding comesBefore numbersBefore
-    by-key = λ i. ltb (is-a i) (is-b i) || (eqb (is-a i) (is-b i) && numbersBefore g f)
+  module _
+      (first : Bool)
+      (a b : ℕ)
+      (is-a : a ≡ lateness first (g .depart))
+      (is-b : b ≡ lateness first (f .depart))
+    where
+      by-key : (ltb a b || (eqb a b && numbersBefore g f)) ≡ comesBefore first g f
+      unfolding comesBefore numbersBefore
+      by-key = λ i. ltb (is-a i) (is-b i) || (eqb (is-a i) (is-b i) && numbersBefore g f)
 
-    pub departs-first : a < b → true ≡ comesBefore first g f
-    departs-first h = sym (first-less a b (numbersBefore g f) h) ∙ by-key
+      pub departs-first : a < b → true ≡ comesBefore first g f
+      departs-first h = sym (first-less a b (numbersBefore g f) h) ∙ by-key
 
-    pub departs-later : b < a → false ≡ comesBefore first g f
-    departs-later h = sym (first-more a b (numbersBefore g f) h) ∙ by-key
+      pub departs-later : b < a → false ≡ comesBefore first g f
+      departs-later h = sym (first-more a b (numbersBefore g f) h) ∙ by-key
 
-    pub numbers-decide : (r : Bool) → b ≤ a → a ≤ b → r ≡ numbersBefore g f → r ≡ comesBefore first g f
-    numbers-decide r d e h = h ∙ sym (first-same a b (numbersBefore g f) d e) ∙ by-key
+      pub numbers-decide : (r : Bool) → b ≤ a → a ≤ b → r ≡ numbersBefore g f → r ≡ comesBefore first g f
+      numbers-decide r d e h = h ∙ sym (first-same a b (numbersBefore g f) d e) ∙ by-key

@@ -2,13 +2,13 @@
 use mathlib.Core.Path.{_≡_, refl, sym, ap, subst, _∙_}
 use mathlib.Core.Bool.{true}
 use mathlib.Core.List.{List, [], _∷_}
-use Prim.Native.Nat.{ℕ, suc, _+_, _-_, _≤_, _<_}
+use Prim.Native.Nat.{ℕ, _+_, _-_, _≤_, _<_}
 use native.Mathlib.Numerals.{add-one}
 use native.Mathlib.Omega.{arith}
 use lib.Dec.{T}
 use lib.ListN.{length, getD}
 use lib.Seq.{slice, slice-empty, slice-cons}
-use Rattle.timetable.specs.Timetable.{Timetable, valid}
+use Rattle.timetable.specs.Timetable.{valid}
 use Rattle.timetable.specs.Words.{stationCount, stationAt, timetableOf, isTimetable}
 use Rattle.timetable.specs.Check.{length-stations}
 use Rattle.timetable.specs.Access.{spelled-valid, stations-few, station-is}
@@ -113,13 +113,16 @@ module _ (w lines path : List ℕ) (r v : ℕ) (given : Given w lines path r v) 
         → RestsAt w path r v minute (j - 1) new
     unfolding stepBack RestsAt
     rest-more j z new less inside s is-new =
-        subst (λ q. Rests n b v minute q x new) (sym on) (subst (Rests n b v minute (y ∷ slice (j + 1) r path) x) (sym is) whole)
+        subst (λ q. Rests n b v minute q x new) (sym on) (subst (Rests n b v minute (y ∷ q) x) (sym is) whole)
       where
         x : ℕ
         x = getD path (j - 1) 0
 
         y : ℕ
         y = getD path j 0
+
+        q : List ℕ
+        q = slice (j + 1) r path
 
         first : 1 ≤ x
         first = given .listed .at (j - 1) (omega arith) .0
@@ -133,10 +136,12 @@ module _ (w lines path : List ℕ) (r v : ℕ) (given : Given w lines path r v) 
         rides : List Ride
         rides = allRead lines x minute y
 
-        whole : Rests n b v minute (y ∷ slice (j + 1) r path) x (stepped (c .change .minutes) (c .change .points) z rides)
+        whole : Rests n b v minute (y ∷ q) x (stepped (c .change .minutes) (c .change .points) z rides)
         whole =
-            rests-before (timetableOf w) (is-valid w accepted) b v minute (slice (j + 1) r path) x y (c .change) (c .listed)
-            (c .at) rides (read-rides w lines x y minute accepted (given .own) first (station-inside w accepted x first most)) z s
+            let inside = station-inside w accepted x first most in
+            let told = read-rides w lines x y minute accepted (given .own) first inside in
+            let t = timetableOf w in
+            rests-before t (is-valid w accepted) b v minute q x y (c .change) (c .listed) (c .at) rides told z s
 
         is : new ≡ stepped (c .change .minutes) (c .change .points) z rides
         is = is-new ∙ (λ i. stepped (sym (c .minutes) i) (sym (c .points) i) z rides)

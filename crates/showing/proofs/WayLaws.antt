@@ -3,12 +3,11 @@ use mathlib.Core.Path.{_≡_, refl, sym, ap, subst, _∙_}
 use mathlib.Core.Bool.{Bool, true, false, not}
 use mathlib.Core.Logic.{_⊎_, inl, inr, _↔_}
 use mathlib.Core.List.{List, [], _∷_, _++_}
-use Prim.Native.Nat.{ℕ, suc, _+_, _-_, _*_, _≤_, _<_}
+use Prim.Native.Nat.{ℕ, _+_, _-_, _*_, _≤_, _<_}
 use native.Mathlib.Numerals.{add-one}
 use native.Mathlib.Omega.{arith}
-use lib.Dec.{T}
 use lib.ListN.{length, getD, set, take, drop, length-append, length-take}
-use lib.Seq.{slice, slice-empty, slice-cons, take-at, length-take-le}
+use lib.Seq.{slice, slice-empty, slice-cons, take-at}
 use Rattle.words.specs.Put.{put, put-more}
 use Rattle.timetable.specs.Timetable.{Timetable, Station}
 use Rattle.timetable.specs.Words.{stationCount, stationAt, timetableOf, isTimetable}
@@ -30,7 +29,8 @@ use Rattle.showing.specs.Going.{Left, Going, goes, begins}
 use Rattle.showing.specs.Turns.{tellsOf}
 use Rattle.showing.specs.OnTheWay.{Standing, Taken, Nothing, Headed, Under, Moved}
 use Rattle.showing.specs.OnTheWay.{Stopped, Gone, Rode}
-use Rattle.showing.proofs.PatternLaws.{is-valid, station-few, station-calls, station-inside, ChangeThere, change-there}
+use Rattle.showing.proofs.PatternLaws.{is-valid, station-few, station-calls, station-inside}
+use Rattle.showing.proofs.PatternLaws.{ChangeThere, change-there}
 
 true-false : true ≡ false → ⊥
 true-false e = let z : _≡_ {A = ℕ} 0 1 = cc in omega arith
@@ -123,7 +123,8 @@ module _ (w lines path : List ℕ) (r v : ℕ) (given : Given w lines path r v) 
       tells : s ≡ tellsOf one
       tells = is ∙ ap (λ y. tellsOf (headOf first z p (allRead lines x u y))) is-to
 
-      go : ((one ≡ noRide) × ((e : Connection) → ¬ Fitting t b v (y ∷ q) x u p e)) ⊎ Chosen t b v first (y ∷ q) x u p one
+      go : ((one ≡ noRide) × ((e : Connection) → ¬ Fitting t b v (y ∷ q) x u p e))
+          ⊎ Chosen t b v first (y ∷ q) x u p one
           → Nothing w path r v i at s ⊎ Taken w path r v first i at s
       go (inl h) =
           inl (record {
@@ -221,13 +222,13 @@ module _ (w lines path : List ℕ) (r v : ℕ) (given : Given w lines path r v) 
         go : Stopped w path r v i at step ⊎ Gone w path r v false i at old new step
             → Under w path r v a m p₀ d (i + 1) new (step .at)
         go (inl h) =
-            absurd
-            (h .none (here .some)
-            (subst (λ q. Fitting t b v q (at .from) (at .ready) (at .left) (here .some)) (sym (on i inside)) (here .fits)))
+            let e = here .some in
+            let back = sym (on i inside) in
+            absurd (h .none e (subst (λ q. Fitting t b v q (at .from) (at .ready) (at .left) e) back (here .fits)))
         go (inr h) =
             let ride = h .taken .ride in
             let chosen =
-                subst (λ q. Chosen t b v false q (at .from) (at .ready) (at .left) ride) (on i inside) (h .taken .chosen)
+            subst (λ q. Chosen t b v false q (at .from) (at .ready) (at .left) ride) (on i inside) (h .taken .chosen)
             in
             record {
               least = next-least (at .left) (h .ride) old new (step .at) (h .moved);
@@ -251,6 +252,11 @@ module _ (w lines path : List ℕ) (r v : ℕ) (given : Given w lines path r v) 
     unfolding Rode
     starts old new some rooms rode found = go rode
       where
+        Goes : List ℕ → ℕ → Type 0
+        Goes whole d =
+            let at = step .at in
+            Going t b v whole a m p (take (3 * 1) new) d (slice 1 r path) (at .from) (at .ready) (at .left)
+
         go : Stopped w path r v 0 start step ⊎ Gone w path r v true 0 start old new step
             → Under w path r v a m p (step .depart) 1 new (step .at)
         go (inl h) = absurd (true-false (sym (ap not (h .found)) ∙ found))
@@ -263,21 +269,15 @@ module _ (w lines path : List ℕ) (r v : ℕ) (given : Given w lines path r v) 
             let chosen = subst (λ q. Chosen t b v true q a m p ride) on-way (h .taken .chosen) in
             let first = begins t (is-valid w accepted) b v y a m p ride (c .change) (c .listed) (c .at) q chosen in
             let goes-on =
-                moves 0 (omega arith) a m p (ride .depart) p (h .ride) ride (h .taken .tells) old new (step .at) (h .moved)
-                (omega arith) (y ∷ q) first
+            moves 0 (omega arith) a m p (ride .depart) p (h .ride) ride (h .taken .tells) old new (step .at) (h .moved)
+            (omega arith) (y ∷ q) first
             in
             let leaves = h .departs ∙ ap (λ s. s .depart) (h .taken .tells) in
             record {
               least = next-least 0 (omega arith) p (h .ride) old new (step .at) (h .moved);
               most = next-most 0 (omega arith) p (h .ride) old new (step .at) (h .moved);
               going =
-                  subst
-                  (λ d. Going t b v (take r path) a m p (take (3 * 1) new) d q (step .at .from) (step .at .ready) (step .at .left))
-                  (sym leaves)
-                  (subst
-                  (λ l. Going t b v l a m p (take (3 * 1) new) (ride .depart) q (step .at .from) (step .at .ready) (step .at .left))
-                  (sym on-way)
-                  goes-on);
+                  subst (Goes (take r path)) (sym leaves) (subst (λ l. Goes l (ride .depart)) (sym on-way) goes-on);
             }
 
     pub none-fits : (old new : List ℕ) → Rode w path r v true 0 (record { from = a; ready = m; left = p }) old new step
@@ -309,7 +309,14 @@ module _ (w lines path : List ℕ) (r v : ℕ) (given : Given w lines path r v) 
         subst (Goes r) (slice-empty r path) (subst (λ i. Goes i (slice i r path)) end (under .going))
 
 -- ---- what became of a ride
-module _ (w path : List ℕ) (r v : ℕ) (first : Bool) (i : ℕ) (at : At) (s : RideStruct) (headed : Headed w path r v first i at s)
+module _
+    (w path : List ℕ)
+    (r v : ℕ)
+    (first : Bool)
+    (i : ℕ)
+    (at : At)
+    (s : RideStruct)
+    (headed : Headed w path r v first i at s)
   where
     pub rode-none : (old new : List ℕ) → s .trip ≡ 65536
         → Rode w path r v first i at old new (record { found = false; depart = 0; at = at })

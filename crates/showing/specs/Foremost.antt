@@ -1,6 +1,6 @@
 -- The one of a list whose key comes before those of all others, found one after the other.
 use mathlib.Core.Path.{_≡_, refl, _∙_}
-use mathlib.Core.Bool.{Bool, not, cond}
+use mathlib.Core.Bool.{not, cond}
 use mathlib.Core.Logic.{_⊎_, inl, inr}
 use mathlib.Core.List.{List, [], _∷_, List·Memᴰ·head as here, List·Memᴰ·tail as there}
 use Prim.Native.Nat.{ℕ}
@@ -34,7 +34,9 @@ module _ {A : Type 0} (key : A → List ℕ) where
       where
         takes : T (before (key g) (key f)) → ¬ T (before (key f) (key (former f g)))
         takes t =
-            rw (T-true (before (key g) (key f)) t) (λ s. before-irrefl (key f) (before-trans (key f) (key g) (key f) s t))
+            rw
+            (T-true (before (key g) (key f)) t)
+            (λ s. before-irrefl (key f) (before-trans (key f) (key g) (key f) s t))
 
         stays : T (not (before (key g) (key f))) → ¬ T (before (key f) (key (former f g)))
         stays t = rw (T-false (before (key g) (key f)) t) (before-irrefl (key f))

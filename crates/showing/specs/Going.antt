@@ -1,27 +1,27 @@
 -- From ride to ride: the rides taken so far, with the first of what can still be taken, make the connection that is
 -- shown.
 use mathlib.Core.Path.{_≡_, refl, sym, ap, subst, _∙_}
-use mathlib.Core.Bool.{Bool, true, false}
+use mathlib.Core.Bool.{true, false}
 use mathlib.Core.List.{List, [], _∷_, _++_, append-assoc}
-use Prim.Native.Nat.{ℕ, _+_, _-_, _≤_, _<_}
+use Prim.Native.Nat.{ℕ, _+_, _-_, _≤_}
 use native.Mathlib.Omega.{arith}
 use lib.Dec.{T}
 use lib.ListN.{length}
 use Rattle.timetable.specs.Timetable.{Timetable, valid}
-use Rattle.lists.specs.Lists.{_∈_, before, tail}
+use Rattle.lists.specs.Lists.{_∈_, tail}
 use Rattle.lists.specs.Order.{before-tail}
 use Rattle.results.specs.Picks.{lead}
 use Rattle.connections.specs.Rides.{Ride}
-use Rattle.connections.specs.Connections.{Change, Net, net, Connection, direct, onward, Boards, Changes, Feasible}
-use Rattle.connections.specs.Connections.{ready, arrival, penalty, stations, departure}
+use Rattle.connections.specs.Connections.{Change, Net, net, Connection, direct, onward}
+use Rattle.connections.specs.Connections.{ready}
 use Rattle.connections.specs.Planner.{numbers}
 use Rattle.connections.specs.Named.{named}
 use Rattle.connections.specs.Sound.{sound}
 use Rattle.connections.specs.Feasibility.{has-stations}
 use Rattle.reckoning.specs.Sets.{firstRide}
-use Rattle.reckoning.specs.Greedy.{First, rideNumbers, leaving, first-direct, first-onward, tie-direct, tie-onward}
+use Rattle.reckoning.specs.Greedy.{First, rideNumbers, first-direct, first-onward, tie-direct, tie-onward}
 use Rattle.showing.specs.Showing.{Fitting, Shown}
-use Rattle.showing.specs.Heads.{headKey, Chosen}
+use Rattle.showing.specs.Heads.{Chosen}
 
 -- the rides taken so far tell `done`, and the first of them leaves at minute d
 module _ (timetable : Timetable) (b v : ℕ) (whole : List ℕ) (a t p₀ : ℕ) where
@@ -31,7 +31,8 @@ module _ (timetable : Timetable) (b v : ℕ) (whole : List ℕ) (a t p₀ : ℕ)
     pub some : Connection
     pub fits : Fitting timetable b v q x u p some
     pub later : t ≤ u
-    pub complete : (c : Connection) → Fitting timetable b v q x u p c → First (net timetable) (named timetable) b v q x u p c
+    pub complete : (c : Connection) → Fitting timetable b v q x u p c
+        → First (net timetable) (named timetable) b v q x u p c
         → Shown timetable b v whole a t p₀ (done ++ numbers c) d
 
   abbrev pub Going : (done : List ℕ) (d : ℕ) (q : List ℕ) (x u p : ℕ) → Type 0
@@ -67,7 +68,8 @@ module _ (timetable : Timetable) (okay : T (valid timetable)) (b v : ℕ) where
     is-onward z q (direct s) f e = absurd (omega (arith, ap length (f .is)))
     is-onward z q (onward s g c) f e =
         let same : g ≡ w = named timetable .change g w (f .feasible .1 .listed) listed (ap lead (f .is) ∙ sym at) in
-        go (subst (λ w. Fit (y ∷ z ∷ q) x u p (onward r w c)) same (subst (λ r. Fit (y ∷ z ∷ q) x u p (onward r g c)) e f))
+        let from-r = subst (λ r. Fit (y ∷ z ∷ q) x u p (onward r g c)) e f in
+        go (subst (λ w. Fit (y ∷ z ∷ q) x u p (onward r w c)) same from-r)
       where
         go : Fit (y ∷ z ∷ q) x u p (onward r w c) → Onwards (z ∷ q)
         go h =
@@ -96,7 +98,8 @@ module _ (timetable : Timetable) (okay : T (valid timetable)) (b v : ℕ) where
     module _ (y x u p : ℕ) (r : Ride) (w : Change) (listed : w ∈ n .changes) (at : w .from ≡ y) where
       pub goes : (q : List ℕ) (done : List ℕ) (d : ℕ) → Left timetable b v whole a t p₀ done d (y ∷ q) x u p
           → Chosen timetable b v false (y ∷ q) x u p r
-          → Going timetable b v whole a t p₀ (done ++ rideNumbers r) d q (w .to) (ready r w) (p - (r .points + w .points))
+          → Going timetable b v whole a t p₀ (done ++ rideNumbers r) d q (w .to) (ready r w)
+          (p - (r .points + w .points))
       goes [] done d l c =
           let f = is-direct y x u p r w listed at (c .starts .connection) (c .starts .fits) (c .starts .begins) in
           l .complete (direct r) f
@@ -125,7 +128,8 @@ module _ (timetable : Timetable) (okay : T (valid timetable)) (b v : ℕ) where
   -- the first ride, and the change behind it
   module _ (y x u p : ℕ) (r : Ride) (w : Change) (listed : w ∈ n .changes) (at : w .from ≡ y) where
     pub begins : (q : List ℕ) → Chosen timetable b v true (y ∷ q) x u p r
-        → Going timetable b v (y ∷ q) x u p (rideNumbers r) (r .depart) q (w .to) (ready r w) (p - (r .points + w .points))
+        → Going timetable b v (y ∷ q) x u p (rideNumbers r) (r .depart) q (w .to) (ready r w)
+        (p - (r .points + w .points))
     begins [] c =
         let f = is-direct y x u p r w listed at (c .starts .connection) (c .starts .fits) (c .starts .begins) in
         record {

@@ -1,6 +1,6 @@
 -- The ride to take next. With what is left behind each ride at hand, a test says exactly which rides begin a connection
 -- that arrives and pays as it should; the rule for equal cost picks one of them.
-use mathlib.Core.Path.{_≡_, refl, sym, ap, subst, _∙_}
+use mathlib.Core.Path.{_≡_, refl, ap}
 use mathlib.Core.Bool.{Bool, true, false, not, cond, _&&_}
 use mathlib.Core.Logic.{_↔_, _⊎_, inl, inr}
 use mathlib.Core.List.{List, [], _∷_}
@@ -21,7 +21,7 @@ use Rattle.connections.specs.Feasibility.{penalty-most}
 use Rattle.reckoning.specs.Sets.{firstRide}
 use Rattle.reckoning.specs.Greedy.{rideNumbers}
 use Rattle.direct.specs.Choosing.{noPoints}
-use Rattle.showing.specs.Rests.{Rest, Rests, begun, parted}
+use Rattle.showing.specs.Rests.{Rests, begun, parted}
 use Rattle.showing.specs.Showing.{Fitting}
 use Rattle.showing.specs.Foremost.{foremost, foremost-cases, Leading}
 
@@ -154,7 +154,8 @@ module _ (timetable : Timetable) (okay : T (valid timetable)) (b v : ℕ) where
           one = foremost (headKey first) noRide those
 
           go : ((one ≡ noRide) × ((r : Ride) → ¬ (r ∈ those))) ⊎ Leading (headKey first) those one
-              → ((one ≡ noRide) × ((e : Connection) → ¬ Fitting timetable b v (y ∷ q) x u p e)) ⊎ Chosen timetable b v first (y ∷ q) x u p one
+              → ((one ≡ noRide) × ((e : Connection) → ¬ Fitting timetable b v (y ∷ q) x u p e))
+              ⊎ Chosen timetable b v first (y ∷ q) x u p one
           go (inl h) = inl (h .0, λ e f. h .1 (firstRide e) (starts-in e f))
           go (inr h) =
               inr (record {

@@ -1,6 +1,6 @@
 -- What is left of a connection for one who has arrived at a station: the change there and a connection on from it. A
 -- ride and what is left behind it make a connection, and each connection comes apart so.
-use mathlib.Core.Path.{_≡_, refl, sym, ap, subst, _∙_}
+use mathlib.Core.Path.{_≡_, refl, sym, ap, _∙_}
 use mathlib.Core.List.{List, [], _∷_}
 use Prim.Native.Nat.{ℕ, _+_, _-_, _≤_, _<_}
 use native.Mathlib.Omega.{arith}
@@ -10,8 +10,8 @@ use Rattle.timetable.specs.Words.{timetableOf}
 use Rattle.lists.specs.Lists.{_∈_, tail}
 use Rattle.results.specs.Picks.{lead}
 use Rattle.connections.specs.Rides.{Ride}
-use Rattle.connections.specs.Connections.{Change, Net, net, Connection, direct, onward, Boards, Changes, Feasible}
-use Rattle.connections.specs.Connections.{ready, arrival, penalty, stations}
+use Rattle.connections.specs.Connections.{Change, Net, net, Connection, direct, onward, Boards, Feasible}
+use Rattle.connections.specs.Connections.{arrival, penalty, stations}
 use Rattle.connections.specs.Feasibility.{has-stations}
 use Rattle.reckoning.specs.Sets.{firstRide}
 use Rattle.direct.specs.Choosing.{noPoints}

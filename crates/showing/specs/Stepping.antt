@@ -1,7 +1,7 @@
 -- From what is left at one station of a pattern to what is left at the station before it: for each ride between them
 -- that can be caught, the latest minute of arrival for which it can, and what it costs with the change before it and
 -- what is left behind it.
-use mathlib.Core.Path.{_≡_, refl, sym, ap, subst, _∙_}
+use mathlib.Core.Path.{_≡_, refl, sym, ap, _∙_}
 use mathlib.Core.Bool.{Bool, not, _&&_}
 use mathlib.Core.Logic.{_↔_}
 use mathlib.Core.List.{List, [], _∷_, _++_, map, Memᴰ·map, Memᴰ·of-map}
@@ -15,14 +15,14 @@ use Rattle.lists.specs.Lists.{_∈_, filter}
 use Rattle.lists.specs.Tests.{either, reads, writes}
 use Rattle.lists.specs.Members.{filter-in, filter-out}
 use Rattle.connections.specs.Rides.{Ride}
-use Rattle.connections.specs.Connections.{Change, Net, net, Connection, Boards, penalty}
+use Rattle.connections.specs.Connections.{Change, Net, net, Boards}
 use Rattle.connections.specs.Named.{named}
 use Rattle.connections.specs.Sound.{Sound, sound}
 use Rattle.connections.specs.Feasibility.{penalty-most}
 use Rattle.reckoning.specs.Sets.{firstRide}
 use Rattle.direct.specs.Choosing.{noPoints, noteAll, blank}
 use Rattle.direct.specs.Noted.{LeastNoted, least-noted}
-use Rattle.showing.specs.Rests.{Rest, Rests, Begun, begun, Parted, parted}
+use Rattle.showing.specs.Rests.{Rest, Rests, begun, parted}
 use Rattle.showing.specs.Settling.{settled, settled-low, settled-is}
 
 -- A ride as one who arrives before it counts it: he arrives cm minutes before it leaves, and pays cp for the change,
@@ -67,7 +67,8 @@ getD-same (suc k) a (suc i) = getD-same k a i
 module _ (v : ℕ) (l : List ℕ) (m : ℕ) where
   zeros-at : m ≤ v → getD (zeros v l) m noPoints ≡ 0
   zeros-at h =
-      List·getD-append (replicate (v + 1) 0) (drop (v + 1) l) noPoints m (rw (length-replicate {A = ℕ} (v + 1) 0) (omega arith))
+      let inside : m < length (replicate {A = ℕ} (v + 1) 0) = omega (arith, length-replicate {A = ℕ} (v + 1) 0) in
+      List·getD-append (replicate (v + 1) 0) (drop (v + 1) l) noPoints m inside
       ∙ getD-replicate (v + 1) m 0 noPoints (omega arith)
 
   zeros-past : v < m → getD (zeros v l) m noPoints ≡ getD l m noPoints
@@ -159,7 +160,8 @@ module _ (timetable : Timetable) (okay : T (valid timetable)) (b v t : ℕ) wher
               timely = omega (arith, k .1, a .at, c .minute);
             }
             in
-            let e = begun n b v q y (w .to) (m + w .minutes) r (getD old (r .arrive) noPoints) boards (c .to) (c .rest) in
+            let left = getD old (r .arrive) noPoints in
+            let e = begun n b v q y (w .to) (m + w .minutes) r left boards (c .to) (c .rest) in
             record {
               change = w;
               connection = e .connection;
@@ -174,11 +176,14 @@ module _ (timetable : Timetable) (okay : T (valid timetable)) (b v t : ℕ) wher
         least : (m s : ℕ) → t ≤ m → m < 2880 → Rest n b v (y ∷ q) x m s → getD (settled noPoints after) m noPoints ≤ s
         least m s h g o =
             let same : o .change ≡ w = named timetable .change (o .change) w (o .listed) listed (o .at ∙ sym at) in
-            let d = parted n b v q y (o .change .to) (m + o .change .minutes) (o .connection) (o .feasible) (o .is) (o .timely) in
-            let r = firstRide (o .connection) in
+            let x′ = o .change .to in
+            let u = m + o .change .minutes in
+            let e = o .connection in
+            let d = parted n b v q y x′ u e (o .feasible) (o .is) (o .timely) in
+            let r = firstRide e in
             let minutes = ap (λ w. w .minutes) same in
             let points = ap (λ w. w .points) same in
-            let most = penalty-most timetable okay (o .change .to) (m + o .change .minutes) b (o .connection) (o .feasible) in
+            let most = penalty-most timetable okay x′ u b e (o .feasible) in
             let boards : Boards n x t r =
             record {
               listed = d .boards .listed;

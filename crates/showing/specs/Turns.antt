@@ -2,7 +2,7 @@
 use mathlib.Core.Path.{_≡_, refl, ap, _∙_}
 use mathlib.Core.Bool.{Bool, true, false, cond, _&&_}
 use mathlib.Core.List.{List, [], _∷_}
-use Prim.Native.Nat.{ℕ, _+_, _-_, _≤_, _<_}
+use Prim.Native.Nat.{ℕ, _+_, _-_, _≤_}
 use lib.Dec.{leb, ltb}
 use lib.ListN.{getD}
 use Rattle.timetable.specs.Words.{stationAt}
@@ -32,14 +32,14 @@ tellsOf r =
 pub tells-is : (s : RideStruct) (r : Ride) → Tells s r → s ≡ tellsOf r
 tells-is s r t =
     λ i.
-        record {
-          trip = t .trip i;
-          board = t .board i;
-          alight = t .alight i;
-          depart = t .depart i;
-          arrive = t .arrive i;
-          points = t .points i;
-        }
+    record {
+      trip = t .trip i;
+      board = t .board i;
+      alight = t .alight i;
+      depart = t .depart i;
+      arrive = t .arrive i;
+      points = t .points i;
+    }
 
 -- ---- what is left, once one ride more is counted
 unfoldable pub caughtBy : (cm cp : ℕ) (old z : List ℕ) → RideStruct → List ℕ
@@ -99,7 +99,8 @@ module _ (first : Bool) (z : List ℕ) (p : ℕ) where
   tried-head (r ∷ l) f = go (takeable z p r) refl (tried-head l)
     where
       go : (b : Bool) → takeable z p r ≡ b
-          → ((f : Ride) → triedAll first z p (tellsOf f) l ≡ tellsOf (foremost (headKey first) f (filter (takeable z p) l)))
+          → ((f : Ride)
+          → triedAll first z p (tellsOf f) l ≡ tellsOf (foremost (headKey first) f (filter (takeable z p) l)))
           → triedAll first z p (tried first z p (tellsOf f) (tellsOf r)) l
           ≡ tellsOf (foremost (headKey first) f (keep b r (filter (takeable z p) l)))
       go true e ih = ap (λ s. triedAll first z p s l) same ∙ ih (former (headKey first) f r)

@@ -133,7 +133,8 @@ fn gather(
     requires { ⌜ (1 ≤ from) × (from ≤ 64) × (callsPlace (now lines) from ≤ length (now lines)) ⌝ }
     ensures { λ _. ⌜ now (z .exit)
         ≡ noteAll (now (z .entry))
-        (catches (change .minutes) (change .points) (now (old .entry)) (allRead (now (lines .entry)) from minute to)) ⌝ }
+        (catches (change .minutes) (change .points) (now (old .entry))
+        (allRead (now (lines .entry)) from minute to)) ⌝ }
     ensures { λ _. ⌜ length (now (z .exit)) ≡ length (now (z .entry)) ⌝ }
 {
     let mut c = riding::begin(lines, from, to, minute);
@@ -364,7 +365,15 @@ fn take_ride(
 {
     let mut z = [0u32; 2880];
     rest(words, lines, minute, path, i, r, v, &mut z);
-    choose(lines, at.from, station(path, i), at.ready, first, at.left, &z)
+    choose(
+        lines,
+        at.from,
+        station(path, i),
+        at.ready,
+        first,
+        at.left,
+        &z,
+    )
 }
 
 // Writes the numbers of ride i.
@@ -388,7 +397,8 @@ fn move_on(words: &[u16], path: &[u16], i: usize, left: usize, ride: Ride, rides
         × (i < 64)
         × (3 * i + 3 ≤ length (now rides))
         × Sized ride ⌝ }
-    ensures { λ r. ⌜ Moved (now (words .entry)) (now (path .entry)) i left ride (now (rides .entry)) (now (rides .exit)) r ⌝ }
+    ensures { λ r. ⌜ Moved (now (words .entry)) (now (path .entry)) i left ride (now (rides .entry))
+        (now (rides .exit)) r ⌝ }
     ensures { λ _. ⌜ length (now (rides .exit)) ≡ length (now (rides .entry)) ⌝ }
 {
     put_ride(rides, i, ride);

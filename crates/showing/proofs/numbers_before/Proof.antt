@@ -1,26 +1,20 @@
+-- The numbers are compared one after the other; the first that differs decides.
 use Rattle.showing.proofs.KeyLaws.{trip-first, trip-later, board-first, board-later, alight-decides}
 use Rattle.showing.proofs.numbers_before.Statement.{statement}
 use Rattle.showing.proofs.numbers_before.Tie as tie
-use Rattle.showing.proofs.numbers_before.Reads as reads
-use Rattle.showing.proofs.numbers_before.Lts as lts
 
--- src/lib.rt:247:9
 returns : tie.Need-returns
 returns c = search trip-first
 
--- src/lib.rt:250:9
 returns-2 : tie.Need-returns-2
 returns-2 c = search trip-later
 
--- src/lib.rt:253:9
 returns-3 : tie.Need-returns-3
 returns-3 c = search board-first
 
--- src/lib.rt:256:9
 returns-4 : tie.Need-returns-4
 returns-4 c = search board-later
 
--- src/lib.rt:243:1
 returns-5 : tie.Need-returns-5
 returns-5 c = search alight-decides
 
