@@ -1,6 +1,6 @@
 -- The loop along a pattern: before each step the words held are those of one who is ready at the present station.
 use mathlib.Core.Path.{_≡_, refl, sym, ap, subst, _∙_}
-use mathlib.Core.Bool.{Bool, true, false}
+use mathlib.Core.Bool.{true, false}
 use mathlib.Core.List.{List, [], _∷_}
 use Prim.Native.Nat.{ℕ, _+_, _-_, _≤_, _<_}
 use native.Mathlib.Omega.{arith}
@@ -13,7 +13,7 @@ use Rattle.layers.specs.Lowered.{Lowered}
 use Rattle.layers.specs.Layering.{takenAll, startOf, firstValue}
 use Rattle.layers.specs.Readies.{Ready, start-ready}
 use Rattle.layers.specs.Turning.{held, held-first}
-use Rattle.layers.specs.Patterns.{changesTo, changes-more, Nowhere, nowhere, nowhere-lowered}
+use Rattle.layers.specs.Patterns.{changesTo, changes-more, nowhere, nowhere-lowered}
 use Rattle.layers.specs.Onward.{Listed, Stations, changeWords, is-valid, step-on, end-on}
 
 -- the next station of the path
@@ -94,7 +94,8 @@ module _ (w : List ℕ) (accepted : isTimetable w ≡ true) where
           let last = subst (λ m. Ready n a t (changesTo path (j + 1)) y m after) end (ready-next after h first f) in
           let none = nowhere (timetableOf w) (is-valid w accepted) a t (changesTo path (j + 1)) y after last in
           let later : j + 1 ≤ r - 1 = omega (arith, at) in
+          let b = getD path (r - 1) 0 in
           subst
           (Lowered n a t (changesTo path (r - 1)) (getD path (r - 1) 0) old)
           (sym same)
-          (nowhere-lowered (timetableOf w) (is-valid w accepted) a t path (j + 1) (r - 1) later none (getD path (r - 1) 0) old)
+          (nowhere-lowered (timetableOf w) (is-valid w accepted) a t path (j + 1) (r - 1) later none b old)

@@ -1,10 +1,10 @@
 -- The loop over the rides: those noted so far, and then those that are left, make the same words as all of them.
 use mathlib.Core.Path.{_≡_, refl, sym, ap, subst, _∙_}
 use mathlib.Core.Bool.{true, false}
-use mathlib.Core.List.{List, [], _∷_, map, List·Memᴰ·tail as there}
-use Prim.Native.Nat.{ℕ, _+_, _≤_, _<_, min}
+use mathlib.Core.List.{List, [], _∷_, List·Memᴰ·tail as there}
+use Prim.Native.Nat.{ℕ, _+_}
 use native.Mathlib.Omega.{arith}
-use lib.ListN.{length, getD, set}
+use lib.ListN.{getD}
 use Rattle.lists.specs.Lists.{_∈_}
 use Rattle.connections.specs.Rides.{Ride}
 use Rattle.direct.specs.Candidates.{allRead}
@@ -12,9 +12,9 @@ use Rattle.direct.specs.Choosing.{noteAll}
 use Rattle.direct.specs.Turns.{lowered}
 use Rattle.riding.specs.declared.Ride.{Ride as RideStruct}
 use Rattle.riding.specs.declared.Cursor.{Cursor}
-use Rattle.riding.specs.Riding.{Good, Tells, left, rideOf, left-none, left-falls}
+use Rattle.riding.specs.Riding.{Good, Tells, left, rideOf, left-none}
 use Rattle.riding.specs.Ridden.{ride-left}
-use Rattle.layers.specs.Layering.{taken, takenAll}
+use Rattle.layers.specs.Layering.{takenAll}
 use Rattle.layers.specs.Fitting.{Fits, Fitting}
 
 -- one ride more, and none

@@ -1,10 +1,9 @@
 -- One step, and the two arrays that change places.
-use mathlib.Core.Path.{_≡_, refl, sym, ap, subst, _∙_}
+use mathlib.Core.Path.{_≡_, sym, ap, subst, _∙_}
 use mathlib.Core.Bool.{Bool, true, false, not}
 use mathlib.Core.List.{List}
 use Prim.Native.Nat.{ℕ, _-_, _≤_, _<_}
 use native.Mathlib.Omega.{arith}
-use lib.ListN.{length}
 use Rattle.timetable.specs.Timetable.{Station}
 use Rattle.timetable.specs.Words.{isTimetable, stationAt}
 use Rattle.connections.specs.Rides.{Ride}

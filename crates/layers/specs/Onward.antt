@@ -1,10 +1,10 @@
 -- The same for the words of a timetable and line tables that belong to it: what the code computes from ready words is
 -- ready again, or lowers the penalties as is promised.
-use mathlib.Core.Path.{_≡_, refl, sym, ap, subst, _∙_}
+use mathlib.Core.Path.{_≡_, subst}
 use mathlib.Core.Bool.{true}
 use mathlib.Core.Logic.{_↔_}
-use mathlib.Core.List.{List, [], _∷_}
-use Prim.Native.Nat.{ℕ, suc, _+_, _-_, _≤_, _<_}
+use mathlib.Core.List.{List, _∷_}
+use Prim.Native.Nat.{ℕ, _-_, _≤_, _<_}
 use native.Mathlib.Omega.{arith}
 use lib.Dec.{T}
 use lib.ListN.{length, getD}
@@ -27,7 +27,7 @@ use Rattle.riding.specs.Ridden.{read-rides}
 use Rattle.layers.specs.Layering.{stepOf, takenAll, firstValue}
 use Rattle.layers.specs.Fitting.{Fitting}
 use Rattle.layers.specs.Lowered.{Lowered}
-use Rattle.layers.specs.Readies.{Between, Ready, leaves, start-ready, step-ready, end-lowered}
+use Rattle.layers.specs.Readies.{Between, Ready, leaves, step-ready, end-lowered}
 
 -- station x is one of the timetable's
 pub record Listed (w : List ℕ) (x : ℕ) : Type 0 where

@@ -3,7 +3,7 @@
 use mathlib.Core.Path.{_≡_, refl, ap, subst, sym, _∙_}
 use mathlib.Core.Logic.{inl}
 use mathlib.Core.List.{List, [], _∷_, _++_, reverseAux}
-use Prim.Native.Nat.{ℕ, suc, _+_, _-_, _≤_, _<_}
+use Prim.Native.Nat.{ℕ, _+_, _-_, _≤_, _<_}
 use native.Mathlib.Numerals.{add-one}
 use native.Mathlib.Omega.{arith}
 use lib.Dec.{T}
@@ -11,11 +11,10 @@ use lib.ListN.{length, getD, take, drop}
 use lib.Seq.{take-suc, take-add}
 use Rattle.timetable.specs.Timetable.{Timetable, valid}
 use Rattle.connections.specs.Connections.{Net, net}
-use Rattle.reckoning.specs.Along.{Along, Ends}
-use Rattle.reckoning.specs.Bounds.{penaltyMost, reach-most}
-use Rattle.direct.specs.Choosing.{noPoints}
-use Rattle.layers.specs.Lowered.{kept, Lowered}
-use Rattle.layers.specs.Readies.{Ready, valueAt, value-here, value-some, leaves}
+use Rattle.reckoning.specs.Along.{Along}
+use Rattle.reckoning.specs.Bounds.{reach-most}
+use Rattle.layers.specs.Lowered.{Lowered}
+use Rattle.layers.specs.Readies.{Ready, value-here, value-some, leaves}
 
 -- the first j stations of a pattern behind its source, where one changes, the last one first
 unfoldable pub changesTo : (path : List ℕ) (j : ℕ) → List ℕ
@@ -60,7 +59,8 @@ module _ (tt : Timetable) (ok : T (valid tt)) (a t : ℕ) where
   nowhere-next : (y : ℕ) (rev : List ℕ) → Nowhere n a t rev → Nowhere n a t (y ∷ rev)
   nowhere-next y rev z =
       record {
-        none = λ x u p h g. (let r = g .ride in z .none (r .from) (r .depart) (g .paid) (leaves tt ok a t r (g .listed)) (g .below));
+        none = λ x u p h g.
+            (let r = g .ride in z .none (r .from) (r .depart) (g .paid) (leaves tt ok a t r (g .listed)) (g .below));
       }
 
   nowhere-on : (l rev : List ℕ) → Nowhere n a t rev → Nowhere n a t (reverseAux l rev)

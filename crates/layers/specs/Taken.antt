@@ -1,6 +1,6 @@
 -- What the words say once the rides of a list are noted for those who take them, and once the least so far is taken.
 use mathlib.Core.Path.{_≡_, refl, sym, ap, _∙_}
-use mathlib.Core.Bool.{Bool, true, false, not}
+use mathlib.Core.Bool.{Bool, not}
 use mathlib.Core.Logic.{_⊎_, inl, inr, ⊎-map}
 use mathlib.Core.List.{List, [], _∷_, map, Memᴰ·map, Memᴰ·of-map}
 use Prim.Native.Nat.{ℕ, _+_, _≤_, _<_, min}
@@ -15,7 +15,8 @@ use Rattle.lists.specs.Members.{filter-in, filter-out}
 use Rattle.connections.specs.Rides.{Ride}
 use Rattle.direct.specs.Choosing.{noPoints, blank, noted, noteAll}
 use Rattle.direct.specs.Noted.{Arrives, Noted, all-noted, getD-blank}
-use Rattle.layers.specs.Lowest.{Before, lowest, length-lowest, lowest-least, lowest-below, lowest-falls, lowest-stems}
+use Rattle.layers.specs.Lowest.{lowest, length-lowest}
+use Rattle.layers.specs.Lowest.{Before, lowest-least, lowest-below, lowest-falls, lowest-stems}
 use Rattle.layers.specs.Layering.{taken, takenAll, stepOf}
 
 -- the ride is noted within the two days

@@ -10,8 +10,8 @@ use Rattle.connections.specs.Rides.{Ride}
 use Rattle.connections.specs.Connections.{Change, Net, Changes, ready}
 use Rattle.reckoning.specs.Along.{Along, Ends}
 
--- Values are below inf where something is reached. They are asked for minutes below a limit only, below which every ride
--- leaves: one may be ready past it, but boards no more.
+-- Values are below inf where something is reached. They are asked for minutes below a limit only, below which every
+-- ride leaves: one may be ready past it, but boards no more.
 module _ (n : Net) (a t inf limit : ℕ) where
   -- val x u is the least penalty with which one who changed at these stations can board at x at minute u
   pub record LeastAlong (rev : List ℕ) (val : ℕ → ℕ → ℕ) : Type 0 where
