@@ -23,7 +23,7 @@ getD-any [] i d e h = absurd (omega arith)
 getD-any (x ∷ l) zero d e h = refl
 getD-any (x ∷ l) (suc i) d e h = getD-any l i d e (omega arith)
 
-getD-blank : (n a i : ℕ) → getD (replicate n a) i a ≡ a
+pub getD-blank : (n a i : ℕ) → getD (replicate n a) i a ≡ a
 getD-blank zero a i = refl
 getD-blank (suc n) a zero = refl
 getD-blank (suc n) a (suc i) = getD-blank n a i
@@ -89,12 +89,12 @@ module _ (inf : ℕ) where
   -- ---- all rides of a list noted
 
   -- each minute has the penalty that it had, or a lower one of a ride
-  record Noted (best after : List ℕ) (l : List Ride) : Type 0 where
-    low : (r : Ride) → r ∈ l → getD after (r .arrive) inf ≤ r .points
-    kept : (m : ℕ) → getD after m inf ≤ getD best m inf
-    stems : (m : ℕ) → (getD after m inf ≡ getD best m inf) ⊎ Arrives l m (getD after m inf)
+  pub record Noted (best after : List ℕ) (l : List Ride) : Type 0 where
+    pub low : (r : Ride) → r ∈ l → getD after (r .arrive) inf ≤ r .points
+    pub kept : (m : ℕ) → getD after m inf ≤ getD best m inf
+    pub stems : (m : ℕ) → (getD after m inf ≡ getD best m inf) ⊎ Arrives l m (getD after m inf)
 
-  all-noted : (l : List Ride) (best : List ℕ) → ((r : Ride) → r ∈ l → r .arrive < length best)
+  pub all-noted : (l : List Ride) (best : List ℕ) → ((r : Ride) → r ∈ l → r .arrive < length best)
       → Noted best (noteAll best l) l
   unfolding noteAll
   all-noted [] best h = record { low = λ r i. none i; kept = λ m. omega arith; stems = λ m. inl refl }

@@ -72,7 +72,7 @@ fn goes_before(g: Found, f: Found) -> bool
 }
 
 // The lesser of two numbers of points.
-fn lesser(a: u32, b: u32) -> u32
+pub fn lesser(a: u32, b: u32) -> u32
     ensures { λ r. ⌜ r ≡ min a b ⌝ }
 {
     if b < a {
@@ -83,7 +83,7 @@ fn lesser(a: u32, b: u32) -> u32
 
 // Notes that a ride arrives at a minute with a penalty; best holds the least penalty for each arrival minute. A minute
 // past its end is not noted: no trip of a timetable arrives then.
-fn note(best: &mut [u32], cost: Cost)
+pub fn note(best: &mut [u32], cost: Cost)
     ensures { λ _. ⌜ now (best .exit)
         ≡ lowered (now (best .entry)) (cost .minutes .0) (cost .points .0) ⌝ }
     ensures { λ _. ⌜ length (now (best .exit)) ≡ length (now (best .entry)) ⌝ }
@@ -91,6 +91,19 @@ fn note(best: &mut [u32], cost: Cost)
     let minute = cost.minutes.0 as usize;
     if minute < best.len() {
         best[minute] = lesser(best[minute], cost.points.0);
+    }
+}
+
+// Before a query no ride has been noted for any minute.
+pub fn fill_blank(best: &mut [u32])
+    requires { ⌜ length (now best) ≡ 2880 ⌝ }
+    ensures { λ _. ⌜ now (best .exit) ≡ blank ⌝ }
+    ensures { λ _. ⌜ length (now (best .exit)) ≡ length (now (best .entry)) ⌝ }
+{
+    let mut i = 0;
+    while i < MINUTES {
+        best[i] = NO_POINTS;
+        i += 1;
     }
 }
 
@@ -105,7 +118,7 @@ fn below(a: u32, b: u32) -> usize
 }
 
 // How many arrival minutes have a penalty below those of all earlier minutes: the rows of the answer.
-fn count_rows(best: &[u32]) -> usize
+pub fn count_rows(best: &[u32]) -> usize
     requires { ⌜ length (now best) ≡ 2880 ⌝ }
     ensures { λ r. ⌜ (r ≡ length (leads noPoints 0 (now (best .entry)))) × (r ≤ 2880) ⌝ }
 {

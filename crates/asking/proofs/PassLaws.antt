@@ -1,0 +1,188 @@
+-- One pass over the arrival minutes: the rows of those that lead so far are counted or written, and those of the
+-- minutes that are left are the rest.
+use mathlib.Core.Path.{_≡_, refl, sym, ap, subst, _∙_}
+use mathlib.Core.List.{List, [], _∷_, _++_, List·Memᴰ·head as here-first, Memᴰ·append-right}
+use Prim.Native.Nat.{ℕ, _+_, _-_, _≤_, _<_, min}
+use native.Mathlib.Nat.{add-zero, zero-add}
+use native.Mathlib.Numerals.{add-one}
+use native.Mathlib.Omega.{arith}
+use lib.ListN.{length, getD, take, drop, length-append, length-drop, take-append-drop, drop-of-length-le}
+use lib.Seq.{drop-cons, drop-drop, getD-drop}
+use Rattle.words.specs.Put.{put, put-none}
+use Rattle.words.specs.Written.{left-next, write-some, write-done}
+use Rattle.lists.specs.Lists.{_∈_}
+use Rattle.results.specs.Results.{Cost}
+use Rattle.connections.specs.Planner.{rowsOf}
+use Rattle.stores.specs.Words.{answer}
+use Rattle.direct.specs.Choosing.{noPoints, leads}
+use Rattle.direct.proofs.LeadLaws.{leads-here, leads-not}
+use Rattle.asking.specs.Asking.{kept, rows, rowWords}
+use Rattle.asking.specs.Rowed.{LeastKept, RowFor}
+use Rattle.asking.specs.Leading.{noCost, leads-count, lead-row}
+use Rattle.asking.specs.Granted.{Granted, all-bounds, costOf, Leading, Counted, Written, Room}
+
+-- ---- the next of a list
+module _ {A : Type 0} (l : List A) (i : ℕ) (x : A) (rest : List A) (next : drop i l ≡ x ∷ rest) where
+  next-inside : i < length l
+  next-inside = omega (arith, length-drop i l, ap length next)
+
+  next-is : (d : A) → getD l i d ≡ x
+  next-is d = ap (λ k. getD l k d) (sym (add-zero i)) ∙ sym (getD-drop i l 0 d) ∙ ap (λ k. getD k 0 d) next
+
+  next-rest : drop (i + 1) l ≡ rest
+  next-rest = sym (drop-drop 1 i l) ∙ ap (drop 1) next
+
+  next-in : x ∈ l
+  next-in =
+      subst (λ k. x ∈ k) (take-append-drop i l)
+      (Memᴰ·append-right (take i l) (subst (λ k. x ∈ k) (sym next) (here-first refl)))
+
+-- the first `here` words are those of the minutes before m, of which the least penalty is `least`
+pub record Going (best : List ℕ) (rs : List (List ℕ)) (here least m : ℕ) : Type 0 where
+  pub place : ℕ
+  pub left : drop place (leads noPoints 0 best) ≡ leads least m (drop m best)
+  pub within : here ≤ length (rowWords rs)
+  pub rest : drop here (rowWords rs) ≡ rowWords (drop place rs)
+
+pub going-first : (best : List ℕ) (rs : List (List ℕ)) → Going best rs 0 noPoints 0
+going-first best rs = record { place = 0; left = refl; within = omega arith; rest = refl }
+
+pub rows-are : (w s : List ℕ) (a b u : ℕ) → rows w s a b u ≡ rowsOf u (kept w s a b u)
+unfolding answer
+rows-are w s a b u = refl
+
+module _
+    (w v s best : List ℕ)
+    (a b u here least m : ℕ)
+    (g : Granted w v s a b u)
+    (is-least : LeastKept u (kept w s a b u) best)
+    (long : length best ≡ 2880)
+    (k : Going best (rows w s a b u) here least m)
+  where
+    abbrev rs : List (List ℕ)
+    rs = rows w s a b u
+
+    abbrev ls : List Cost
+    ls = leads noPoints 0 best
+
+    count-is : length ls ≡ length rs
+    count-is =
+        leads-count u (kept w s a b u) (all-bounds w v s a b u g) best is-least ∙ ap length (sym (rows-are w s a b u))
+
+    module _ (more : m < 2880) where
+      pub going-skip : least ≤ getD best m 0 → Going best (rows w s a b u) here least (m + 1)
+      going-skip h =
+          let low : min least (getD best m 0) ≡ least = omega arith in
+          record {
+            place = k .place;
+            left =
+                k .left
+                ∙ leads-not best least m (omega arith) h
+                ∙ ap (λ z. leads z (m + 1) (drop (m + 1) best)) low;
+            within = k .within;
+            rest = k .rest;
+          }
+
+      module _ (low : getD best m 0 < least) where
+        abbrev this : Cost
+        this = costOf m (getD best m 0)
+
+        next : drop (k .place) ls ≡ this ∷ leads (getD best m 0) (m + 1) (drop (m + 1) best)
+        next =
+            let same : min least (getD best m 0) ≡ getD best m 0 = omega arith in
+            k .left
+            ∙ leads-here best least m (omega arith) low
+            ∙ ap (λ z. this ∷ leads z (m + 1) (drop (m + 1) best)) same
+
+        pub now-leading : Leading w s a b u m (getD best m 0)
+        now-leading =
+            record { best = best; least = is-least; leads = next-in ls (k .place) this _ next }
+
+        module _ (row : List ℕ) (f : RowFor u (kept w s a b u) (costOf m (getD best m 0)) row) where
+          inside : k .place < length ls
+          inside = next-inside ls (k .place) this _ next
+
+          row-is : row ≡ getD rs (k .place) []
+          row-is =
+              lead-row u (kept w s a b u) (all-bounds w v s a b u g) best is-least (k .place) row inside
+              (subst (λ c. RowFor u (kept w s a b u) c row) (sym (next-is ls (k .place) this _ next noCost)) f)
+              ∙ ap (λ l. getD l (k .place) []) (sym (rows-are w s a b u))
+
+          rows-next : drop (k .place) rs ≡ row ∷ drop (k .place + 1) rs
+          rows-next =
+              drop-cons rs (k .place) [] (omega (arith, inside, count-is))
+              ∙ (λ i. sym row-is i ∷ drop (sym (add-one (k .place)) i) rs)
+
+          words-next : drop here (rowWords rs) ≡ row ++ rowWords (drop (k .place + 1) rs)
+          words-next = k .rest ∙ ap rowWords rows-next
+
+          pub fits-words : here + length row ≤ length (rowWords rs)
+          fits-words =
+              omega (
+                arith,
+                k .within,
+                length-drop here (rowWords rs),
+                ap length words-next,
+                length-append row (rowWords (drop (k .place + 1) rs)),
+              )
+
+          pub going-row : Going best rs (here + length row) (getD best m 0) (m + 1)
+          going-row =
+              record {
+                place = k .place + 1;
+                left = next-rest ls (k .place) this _ next;
+                within = fits-words;
+                rest = left-next (rowWords rs) here row (rowWords (drop (k .place + 1) rs)) words-next;
+              }
+
+          pub written-row : (old out : List ℕ) → length (rowWords rs) ≤ length old
+              → out ≡ put 0 (take here (rowWords rs)) old
+              → put here row out ≡ put 0 (take (here + length row) (rowWords rs)) old
+          written-row old out room held =
+              ap (λ i. put i row out) (sym (zero-add here))
+              ∙ write-some (rowWords rs) old out 0 here held (omega arith) row (rowWords (drop (k .place + 1) rs))
+              (k .within)
+              words-next
+
+        -- counted
+        pub going-counted : (n : ℕ) → Counted w s a b u m (getD best m 0) n
+            → Going best (rows w s a b u) (here + n) (getD best m 0) (m + 1)
+        going-counted n c =
+            subst (λ z. Going best rs (here + z) (getD best m 0) (m + 1)) (c .long) (going-row (c .row) (c .is))
+
+        -- written
+        pub now-room : (old out : List ℕ) → length (rowWords (rows w s a b u)) ≤ length old → length out ≡ length old
+            → Room w s a b u m (getD best m 0) here out
+        now-room old out room same = record { room = λ row f. omega (arith, fits-words row f) }
+
+        module _ (out new : List ℕ) (end : ℕ) (z : Written w s a b u m (getD best m 0) here end out new) where
+          pub going-written : Going best (rows w s a b u) end (getD best m 0) (m + 1)
+          going-written =
+              subst (λ e. Going best rs e (getD best m 0) (m + 1)) (sym (z .ends)) (going-row (z .row) (z .is))
+
+          pub held-written : (old : List ℕ) → length (rowWords (rows w s a b u)) ≤ length old
+              → out ≡ put 0 (take here (rowWords (rows w s a b u))) old
+              → new ≡ put 0 (take end (rowWords (rows w s a b u))) old
+          held-written old room held =
+              z .put-row
+              ∙ written-row (z .row) (z .is) old out room held
+              ∙ ap (λ e. put 0 (take e (rowWords rs)) old) (sym (z .ends))
+
+    -- all minutes are seen
+    module _ (done : 2880 ≤ m) where
+      pub all-counted : here ≡ length (rowWords (rows w s a b u))
+      unfolding leads
+      all-counted =
+          let none = k .left ∙ ap (leads least m) (drop-of-length-le best {i = m} (omega arith)) in
+          let past : length rs ≤ k .place = omega (arith, length-drop (k .place) ls, ap length none, count-is) in
+          let gone = k .rest ∙ ap rowWords (drop-of-length-le rs {i = k .place} past) in
+          omega (arith, k .within, length-drop here (rowWords rs), ap length gone)
+
+      pub all-written : (old out : List ℕ) → length (rowWords (rows w s a b u)) ≤ length old
+          → out ≡ put 0 (take here (rowWords (rows w s a b u))) old
+          → out ≡ put 0 (rowWords (rows w s a b u)) old
+      all-written old out room held =
+          write-done (rowWords rs) old out 0 here held (omega arith) (omega (arith, all-counted))
+
+pub put-nothing : (old whole : List ℕ) → old ≡ put 0 (take 0 whole) old
+put-nothing old whole = sym (put-none 0 old)

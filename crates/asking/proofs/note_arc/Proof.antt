@@ -1,0 +1,28 @@
+-- The first words of the array are the stations of the arc.
+use Rattle.asking.specs.Arcs.{store-made, source-listed, stations-are, arc-noted}
+use borrow.Author.Needs.{needs}
+use Rattle.asking.proofs.note_arc.Statement.{statement}
+use Rattle.asking.proofs.note_arc.Tie as tie
+
+arc-pattern-requires : tie.Need-arc-pattern-requires
+arc-pattern-requires c κs = (search store-made, (search needs, search needs))
+
+note-pattern-requires : tie.Need-note-pattern-requires
+note-pattern-requires c κs = (
+  (search needs, search needs, search needs),
+  ((search source-listed, search needs), ((search needs, search needs, search stations-are), search needs)),
+)
+
+returns : tie.Need-returns
+returns c = (search arc-noted, search needs)
+
+pub note-arc-spec : {M : Type 1} → statement M
+note-arc-spec =
+    tie.close
+    (tie.spec
+    (λ c. search needs)
+    arc-pattern-requires
+    (λ c. search needs)
+    note-pattern-requires
+    (λ c. search needs)
+    returns)

@@ -1,0 +1,23 @@
+-- The row is that of the winner.
+use Rattle.asking.proofs.RowLaws.{row-room, row-written}
+use borrow.Author.Needs.{needs}
+use Rattle.asking.proofs.write_row.Statement.{statement}
+use Rattle.asking.proofs.write_row.Tie as tie
+
+put-row-requires : tie.Need-put-row-requires
+put-row-requires c κs = (search needs, search needs, search row-room)
+
+returns : tie.Need-returns
+returns c = (search row-written, search needs)
+
+pub write-row-spec : {M : Type 1} → statement M
+write-row-spec =
+    tie.close
+    (tie.spec
+    (λ c. search needs)
+    (λ c. search needs)
+    (λ c. search needs)
+    (λ c. search needs)
+    put-row-requires
+    (λ c. search needs)
+    returns)

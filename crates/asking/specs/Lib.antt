@@ -1,0 +1,12 @@
+pub mod Asking
+pub mod Rowed
+pub mod Collected
+pub mod Won
+pub mod Keys
+pub mod Leading
+pub mod Granted
+pub mod Arcs
+pub mod Shown
+pub mod Trying
+pub mod Found
+pub mod Demand

@@ -1,0 +1,593 @@
+// The query from a store: what a rider is shown.
+ghost use mathlib.Core.Path.{_≡_};
+ghost use mathlib.Core.List.{_∷_};
+ghost use Prim.Native.Nat.{_+_, _-_, _*_, _≤_, _<_};
+ghost use lib.ListN.{length, take};
+ghost use Rattle.words.specs.Put.{put};
+ghost use Rattle.lists.specs.Lists.{before};
+ghost use Rattle.wellmade.specs.Entries.{arcCount, arcTarget};
+ghost use Rattle.asking.specs.Asking.{kept, rows, rowWords, askReply, askWords};
+ghost use Rattle.asking.specs.Keys.{keyWords};
+ghost use Rattle.asking.specs.Rowed.{LeastKept};
+ghost use Rattle.asking.specs.Arcs.{Noted};
+ghost use Rattle.asking.specs.Granted.{Granted, Leading, Winning, Counted, Written, Room};
+ghost use Rattle.asking.specs.Trying.{Sized, winsTest, ArcTried, Tried};
+ghost use Rattle.asking.specs.Shown.{shownReply, shownWords};
+use replies::Reply;
+
+// The minutes in which a connection may arrive: 0 to 2,879.
+const MINUTES: usize = 2880;
+
+// The penalty of a minute in which no connection arrives; every connection has less.
+const NO_POINTS: u32 = u32::MAX;
+
+// The words of a row before the numbers of its rides.
+const ROW_WORDS: usize = 3;
+
+// Room for the stations of a pattern.
+const STATIONS_MOST: usize = 64;
+
+// Room for the numbers of all rides of a connection: a pattern has at most 63 stations behind its source.
+const NUMBERS_MOST: usize = 192;
+
+// The connection that goes before all others tried so far: whether there is one, when it departs, and how many rides it
+// has. The numbers of its rides stand in an array beside it.
+pub struct Winner {
+    pub found: bool,
+    pub depart: usize,
+    pub rides: usize,
+}
+
+// Whether the first n words of one come before those of the other, compared number by number.
+fn words_before(a: &[u32], b: &[u32], n: usize) -> bool
+    requires { ⌜ (n ≤ length (now a)) × (n ≤ length (now b)) ⌝ }
+    ensures { λ r. ⌜ r ≡ before (take n (now (a .entry))) (take n (now (b .entry))) ⌝ }
+{
+    let mut i = 0;
+    while i < n {
+        if a[i] < b[i] {
+            return true;
+        }
+        if b[i] < a[i] {
+            return false;
+        }
+        i += 1;
+    }
+    false
+}
+
+// Whether g goes before f, by the rule for equal cost: it departs later, or has fewer rides, or their numbers come
+// first.
+fn goes_before(g: Winner, tried: &[u32], f: Winner, shown: &[u32]) -> bool
+    requires { ⌜ (g .depart ≤ 2879)
+        × (f .depart ≤ 2879)
+        × (3 * g .rides ≤ length (now tried))
+        × (3 * g .rides ≤ length (now shown))
+        × (g .rides ≤ 64) ⌝ }
+    ensures { λ r. ⌜ r
+        ≡ before
+        (keyWords (g .depart) (g .rides) (take (3 * g .rides) (now (tried .entry))))
+        (keyWords (f .depart) (f .rides) (take (3 * f .rides) (now (shown .entry)))) ⌝ }
+{
+    if f.depart < g.depart {
+        return true;
+    }
+    if g.depart < f.depart {
+        return false;
+    }
+    if g.rides < f.rides {
+        return true;
+    }
+    if f.rides < g.rides {
+        return false;
+    }
+    words_before(tried, shown, 3 * g.rides)
+}
+
+// Lowers the least penalties to those of the connections of arc k.
+fn note_arc(
+    words: &[u16],
+    lines: &[u16],
+    store: &[u16],
+    from: usize,
+    to: usize,
+    minute: usize,
+    k: usize,
+    best: &mut [u32],
+)
+    requires { ⌜ Granted (now words) (now lines) (now store) from to minute
+        × (k < arcCount (now store))
+        × (length (now best) ≡ 2880) ⌝ }
+    ensures { λ _. ⌜ Noted
+        (now (words .entry))
+        (now (store .entry))
+        from
+        minute
+        k
+        (now (best .entry))
+        (now (best .exit)) ⌝ }
+    ensures { λ _. ⌜ length (now (best .exit)) ≡ length (now (best .entry)) ⌝ }
+{
+    let mut path = [0u16; STATIONS_MOST];
+    let r = wellmade::arc_pattern(store, k, &mut path);
+    layers::note_pattern(words, lines, from, minute, &path, r, best);
+}
+
+// Notes the least penalty for each minute of arrival, of all connections whose pattern is stored.
+fn note_arcs(
+    words: &[u16],
+    lines: &[u16],
+    store: &[u16],
+    from: usize,
+    to: usize,
+    minute: usize,
+    best: &mut [u32],
+)
+    requires { ⌜ Granted (now words) (now lines) (now store) from to minute × (length (now best) ≡ 2880) ⌝ }
+    ensures { λ _. ⌜ LeastKept minute (kept (now (words .entry)) (now (store .entry)) from to minute) (now (best .exit))
+        × (length (now (best .exit)) ≡ 2880) ⌝ }
+{
+    direct::fill_blank(best);
+    let arcs = wellmade::arc_count(store);
+    let mut k = 0;
+    'arcs: while k < arcs {
+        let arc = k;
+        k += 1;
+        if wellmade::arc_target(store, arc) != to {
+            continue 'arcs;
+        }
+        note_arc(words, lines, store, from, to, minute, arc, best);
+    }
+}
+
+// The connection of arc k that goes before all others of the arc with an arrival minute and a penalty, if there is one.
+// The numbers of its rides are written.
+fn find_arc(
+    words: &[u16],
+    lines: &[u16],
+    store: &[u16],
+    from: usize,
+    to: usize,
+    minute: usize,
+    k: usize,
+    arrive: usize,
+    points: u32,
+    tried: &mut [u32],
+) -> Winner
+    requires { ⌜ Granted (now words) (now lines) (now store) from to minute
+        × Leading (now words) (now store) from to minute arrive points
+        × (arrive < 2880)
+        × (k < arcCount (now store))
+        × (arcTarget (now store) k ≡ to)
+        × (length (now tried) ≡ 192) ⌝ }
+    ensures { λ r. ⌜ ArcTried
+        (now (words .entry))
+        (now (store .entry))
+        from
+        to
+        minute
+        arrive
+        points
+        k
+        r
+        (now (tried .exit))
+        × Sized r ⌝ }
+    ensures { λ _. ⌜ length (now (tried .exit)) ≡ length (now (tried .entry)) ⌝ }
+{
+    let mut path = [0u16; STATIONS_MOST];
+    let r = wellmade::arc_pattern(store, k, &mut path);
+    let f = showing::first_of_pattern(words, lines, from, minute, &path, r, arrive, points, tried);
+    Winner {
+        found: f.found,
+        depart: f.depart,
+        rides: r,
+    }
+}
+
+// Whether what was tried goes before the winner so far, or is the first that was found.
+fn wins(f: Winner, tried: &[u32], x: Winner, shown: &[u32]) -> bool
+    requires { ⌜ Sized f × Sized x × (length (now tried) ≡ 192) × (length (now shown) ≡ 192) ⌝ }
+    ensures { λ r. ⌜ r ≡ winsTest f (now (tried .entry)) x (now (shown .entry)) ⌝ }
+{
+    if !f.found {
+        return false;
+    }
+    if !x.found {
+        return true;
+    }
+    goes_before(f, tried, x, shown)
+}
+
+// The winner once arc k is tried too: what is found along it, if that goes before the winner so far.
+fn try_arc(
+    words: &[u16],
+    lines: &[u16],
+    store: &[u16],
+    from: usize,
+    to: usize,
+    minute: usize,
+    k: usize,
+    arrive: usize,
+    points: u32,
+    x: Winner,
+    tried: &mut [u32],
+    shown: &mut [u32],
+) -> Winner
+    requires { ⌜ Granted (now words) (now lines) (now store) from to minute
+        × Leading (now words) (now store) from to minute arrive points
+        × (arrive < 2880)
+        × (k < arcCount (now store))
+        × (arcTarget (now store) k ≡ to)
+        × Sized x
+        × Tried (now words) (now store) from to minute arrive points k x (now shown)
+        × (length (now tried) ≡ 192)
+        × (length (now shown) ≡ 192) ⌝ }
+    ensures { λ r. ⌜ Tried
+        (now (words .entry))
+        (now (store .entry))
+        from
+        to
+        minute
+        arrive
+        points
+        (k + 1)
+        r
+        (now (shown .exit))
+        × Sized r ⌝ }
+    ensures { λ _. ⌜ (length (now (tried .exit)) ≡ length (now (tried .entry)))
+        × (length (now (shown .exit)) ≡ length (now (shown .entry))) ⌝ }
+{
+    let f = find_arc(
+        words,
+        lines,
+        store,
+        from,
+        to,
+        minute,
+        k,
+        arrive,
+        points,
+        tried,
+    );
+    if !wins(f, tried, x, shown) {
+        return x;
+    }
+    words::copy_long(shown, 0, tried, 3 * f.rides);
+    f
+}
+
+// The connection that is shown for an arrival minute and a penalty. The numbers of its rides are written.
+fn choose(
+    words: &[u16],
+    lines: &[u16],
+    store: &[u16],
+    from: usize,
+    to: usize,
+    minute: usize,
+    arrive: usize,
+    points: u32,
+    shown: &mut [u32],
+) -> Winner
+    requires { ⌜ Granted (now words) (now lines) (now store) from to minute
+        × Leading (now words) (now store) from to minute arrive points
+        × (arrive < 2880)
+        × (length (now shown) ≡ 192) ⌝ }
+    ensures { λ r. ⌜ Winning
+        (now (words .entry))
+        (now (store .entry))
+        from
+        to
+        minute
+        arrive
+        points
+        r
+        (now (shown .exit)) ⌝ }
+{
+    let mut tried = [0u32; NUMBERS_MOST];
+    let mut x = Winner {
+        found: false,
+        depart: 0,
+        rides: 0,
+    };
+    let arcs = wellmade::arc_count(store);
+    let mut k = 0;
+    'arcs: while k < arcs {
+        let arc = k;
+        k += 1;
+        if wellmade::arc_target(store, arc) != to {
+            continue 'arcs;
+        }
+        x = try_arc(
+            words,
+            lines,
+            store,
+            from,
+            to,
+            minute,
+            arc,
+            arrive,
+            points,
+            x,
+            &mut tried,
+            shown,
+        );
+    }
+    x
+}
+
+// How many words the row for an arrival minute and a penalty has.
+fn row_length(
+    words: &[u16],
+    lines: &[u16],
+    store: &[u16],
+    from: usize,
+    to: usize,
+    minute: usize,
+    arrive: usize,
+    points: u32,
+) -> usize
+    requires { ⌜ Granted (now words) (now lines) (now store) from to minute
+        × Leading (now words) (now store) from to minute arrive points
+        × (arrive < 2880) ⌝ }
+    ensures { λ r. ⌜ Counted (now (words .entry)) (now (store .entry)) from to minute arrive points r × (r ≤ 192) ⌝ }
+{
+    let mut shown = [0u32; NUMBERS_MOST];
+    let x = choose(
+        words,
+        lines,
+        store,
+        from,
+        to,
+        minute,
+        arrive,
+        points,
+        &mut shown,
+    );
+    ROW_WORDS + 3 * x.rides
+}
+
+// How many words all rows have. best has the least penalty for each minute of arrival.
+fn measure(
+    words: &[u16],
+    lines: &[u16],
+    store: &[u16],
+    from: usize,
+    to: usize,
+    minute: usize,
+    best: &[u32],
+) -> usize
+    requires { ⌜ Granted (now words) (now lines) (now store) from to minute
+        × LeastKept minute (kept (now words) (now store) from to minute) (now best)
+        × (length (now best) ≡ 2880) ⌝ }
+    ensures { λ r. ⌜ r ≡ length (rowWords (rows (now (words .entry)) (now (store .entry)) from to minute)) ⌝ }
+{
+    let mut count = 0;
+    let mut least = NO_POINTS;
+    let mut m = 0;
+    'minutes: while m < MINUTES {
+        let arrive = m;
+        let points = best[m];
+        m += 1;
+        if least <= points {
+            continue 'minutes;
+        }
+        least = points;
+        count += row_length(words, lines, store, from, to, minute, arrive, points);
+    }
+    count
+}
+
+// The minutes from one minute to a later one; none if it is not later.
+fn minutes_between(minute: usize, arrive: usize) -> u32
+    requires { ⌜ arrive < 2880 ⌝ }
+    ensures { λ r. ⌜ r ≡ arrive - minute ⌝ }
+{
+    if arrive <= minute {
+        return 0;
+    }
+    (arrive - minute) as u32
+}
+
+// Writes a row from index at on: duration, penalty, number of rides and the numbers of the rides. Answers the index
+// behind it.
+fn put_row(
+    answer: &mut [u32],
+    at: usize,
+    duration: u32,
+    points: u32,
+    rides: usize,
+    shown: &[u32],
+) -> usize
+    requires { ⌜ (rides ≤ 63) × (length (now shown) ≡ 192) × (at + (3 + 3 * rides) ≤ length (now answer)) ⌝ }
+    ensures { λ _. ⌜ now (answer .exit)
+        ≡ put at (duration ∷ points ∷ rides ∷ take (3 * rides) (now (shown .entry))) (now (answer .entry)) ⌝ }
+    ensures { λ r. ⌜ (length (now (answer .exit)) ≡ length (now (answer .entry))) × (r ≡ at + (3 + 3 * rides)) ⌝ }
+{
+    words::put_pair(answer, at, duration, points);
+    answer[at + 2] = rides as u32;
+    words::copy_long(answer, at + ROW_WORDS, shown, 3 * rides);
+    at + (ROW_WORDS + 3 * rides)
+}
+
+// Writes the row for an arrival minute and a penalty, from index at on. Answers the index behind it.
+fn write_row(
+    words: &[u16],
+    lines: &[u16],
+    store: &[u16],
+    from: usize,
+    to: usize,
+    minute: usize,
+    arrive: usize,
+    points: u32,
+    answer: &mut [u32],
+    at: usize,
+) -> usize
+    requires { ⌜ Granted (now words) (now lines) (now store) from to minute
+        × Leading (now words) (now store) from to minute arrive points
+        × (arrive < 2880)
+        × Room (now words) (now store) from to minute arrive points at (now answer) ⌝ }
+    ensures { λ r. ⌜ Written
+        (now (words .entry))
+        (now (store .entry))
+        from
+        to
+        minute
+        arrive
+        points
+        at
+        r
+        (now (answer .entry))
+        (now (answer .exit)) ⌝ }
+    ensures { λ r. ⌜ length (now (answer .exit)) ≡ length (now (answer .entry)) ⌝ }
+{
+    let mut shown = [0u32; NUMBERS_MOST];
+    let x = choose(
+        words,
+        lines,
+        store,
+        from,
+        to,
+        minute,
+        arrive,
+        points,
+        &mut shown,
+    );
+    let duration = minutes_between(minute, arrive);
+    put_row(answer, at, duration, points, x.rides, &shown)
+}
+
+// Writes all rows, in rising duration: one for each arrival minute whose penalty is below those of all earlier minutes.
+fn write_rows(
+    words: &[u16],
+    lines: &[u16],
+    store: &[u16],
+    from: usize,
+    to: usize,
+    minute: usize,
+    best: &[u32],
+    answer: &mut [u32],
+)
+    requires { ⌜ Granted (now words) (now lines) (now store) from to minute
+        × LeastKept minute (kept (now words) (now store) from to minute) (now best)
+        × (length (now best) ≡ 2880)
+        × (length (rowWords (rows (now words) (now store) from to minute)) ≤ length (now answer)) ⌝ }
+    ensures { λ _. ⌜ now (answer .exit)
+        ≡ put 0 (rowWords (rows (now (words .entry)) (now (store .entry)) from to minute)) (now (answer .entry)) ⌝ }
+    ensures { λ _. ⌜ length (now (answer .exit)) ≡ length (now (answer .entry)) ⌝ }
+{
+    let mut here = 0;
+    let mut least = NO_POINTS;
+    let mut m = 0;
+    'minutes: while m < MINUTES {
+        let arrive = m;
+        let points = best[m];
+        m += 1;
+        if least <= points {
+            continue 'minutes;
+        }
+        least = points;
+        here = write_row(
+            words,
+            lines,
+            store,
+            from,
+            to,
+            minute,
+            arrive,
+            points,
+            answer,
+            here,
+        );
+    }
+}
+
+// Answers a query from a store that is well made. The answer is measured before a word is written.
+fn show(
+    words: &[u16],
+    lines: &[u16],
+    store: &[u16],
+    best: &mut [u32],
+    from: usize,
+    to: usize,
+    minute: usize,
+    answer: &mut [u32],
+) -> Reply
+    requires { ⌜ Granted (now words) (now lines) (now store) from to minute × (length (now best) ≡ 2880) ⌝ }
+    ensures { λ r. ⌜ r
+        ≡ shownReply
+        (now (words .entry))
+        (now (store .entry))
+        from
+        to
+        minute
+        (length (now (answer .entry))) ⌝ }
+    ensures { λ _. ⌜ now (answer .exit)
+        ≡ shownWords (now (words .entry)) (now (store .entry)) from to minute (now (answer .entry)) ⌝ }
+{
+    note_arcs(words, lines, store, from, to, minute, best);
+    let count = direct::count_rows(best);
+    if count < 1 {
+        return Reply::Refused { number: 14 };
+    }
+    let long = measure(words, lines, store, from, to, minute, best);
+    if answer.len() < long {
+        return Reply::Refused { number: 15 };
+    }
+    write_rows(words, lines, store, from, to, minute, best, answer);
+    Reply::Done {
+        count: count as u32,
+    }
+}
+
+// The query from a store: from one station to another at a minute. Working space may hold any words afterwards.
+pub fn query(
+    words: &[u16],
+    lines: &[u16],
+    store: &[u16],
+    work: &mut [u32],
+    from: u32,
+    to: u32,
+    minute: u32,
+    answer: &mut [u32],
+) -> Reply
+    ensures reply { λ r. ⌜ r
+        ≡ askReply
+        (now (words .entry))
+        (now (lines .entry))
+        (now (store .entry))
+        (length (now (work .entry)))
+        from
+        to
+        minute
+        (length (now (answer .entry))) ⌝ }
+    ensures words { λ _. ⌜ now (answer .exit)
+        ≡ askWords
+        (now (words .entry))
+        (now (lines .entry))
+        (now (store .entry))
+        (length (now (work .entry)))
+        from
+        to
+        minute
+        (now (answer .entry)) ⌝ }
+{
+    let number = checking::query_number(words, lines, work, from, to, minute);
+    if number != 0 {
+        return Reply::Refused { number };
+    }
+    let stations = words::word(words, 0) as usize;
+    if !wellmade::is_well_made(store, stations, work) {
+        return Reply::Refused { number: 13 };
+    }
+    let best = &mut work[0..MINUTES];
+    show(
+        words,
+        lines,
+        store,
+        best,
+        from as usize,
+        to as usize,
+        minute as usize,
+        answer,
+    )
+}

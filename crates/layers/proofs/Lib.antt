@@ -1,0 +1,4 @@
+pub mod LowestLaws
+pub mod RideLaws
+pub mod StepLaws
+pub mod PatternLaws

@@ -1,0 +1,87 @@
+-- The loop over the rides: those noted so far, and then those that are left, make the same words as all of them.
+use mathlib.Core.Path.{_≡_, refl, sym, ap, subst, _∙_}
+use mathlib.Core.Bool.{true, false}
+use mathlib.Core.List.{List, [], _∷_, List·Memᴰ·tail as there}
+use Prim.Native.Nat.{ℕ, _+_}
+use native.Mathlib.Omega.{arith}
+use lib.ListN.{getD}
+use Rattle.lists.specs.Lists.{_∈_}
+use Rattle.connections.specs.Rides.{Ride}
+use Rattle.direct.specs.Candidates.{allRead}
+use Rattle.direct.specs.Choosing.{noteAll}
+use Rattle.direct.specs.Turns.{lowered}
+use Rattle.riding.specs.declared.Ride.{Ride as RideStruct}
+use Rattle.riding.specs.declared.Cursor.{Cursor}
+use Rattle.riding.specs.Riding.{Good, Tells, left, rideOf, left-none}
+use Rattle.riding.specs.Ridden.{ride-left}
+use Rattle.layers.specs.Layering.{takenAll}
+use Rattle.layers.specs.Fitting.{Fits, Fitting}
+
+-- one ride more, and none
+taken-more : (p : List ℕ) (minutes points : ℕ) (best : List ℕ) (r : Ride) (l : List Ride)
+    → takenAll p minutes points best (r ∷ l)
+    ≡ takenAll
+    p
+    minutes
+    points
+    (lowered best (r .arrive + minutes) (getD p (r .depart) 0 + r .points + points))
+    l
+unfolding takenAll noteAll
+taken-more p minutes points best r l = refl
+
+taken-none : (p : List ℕ) (minutes points : ℕ) (best : List ℕ) → takenAll p minutes points best [] ≡ best
+unfolding takenAll noteAll
+taken-none p minutes points best = refl
+
+module _ (v : List ℕ) (a b u : ℕ) (p : List ℕ) (c : Cursor) where
+  -- the rides left fit
+  pub fitting-first : Fitting p (allRead v a u b) → left v a b u c ≡ allRead v a u b → Fitting p (left v a b u c)
+  fitting-first f e = subst (Fitting p) (sym e) f
+
+  module _ (fit : Fitting p (left v a b u c)) where
+    pub fitting-next : (d : Cursor) → left v a b u c ≡ rideOf v c ∷ left v a b u d → Fitting p (left v a b u d)
+    fitting-next d e =
+        record {
+          depart = λ r m. fit .depart r (subst (λ l. r ∈ l) (sym e) (there m));
+          low = λ r m. fit .low r (subst (λ l. r ∈ l) (sym e) (there m));
+          few = λ r m. fit .few r (subst (λ l. r ∈ l) (sym e) (there m));
+        }
+
+    pub fits-here : Good c → c .more ≡ true → (s : RideStruct) → Tells s (rideOf v c) → Fits p s
+    fits-here good more s t =
+        let m = ride-left v a b u c good more in
+        record {
+          depart = omega (arith, t .depart, fit .depart (rideOf v c) m);
+          arrive = t .arrive-few;
+          low = omega (arith, ap (λ k. getD p k 0) (t .depart), fit .low (rideOf v c) m);
+          few = omega (arith, t .points, fit .few (rideOf v c) m);
+        }
+
+  pub noting-first : (minutes points : ℕ) (best : List ℕ) → left v a b u c ≡ allRead v a u b
+      → takenAll p minutes points best (allRead v a u b) ≡ takenAll p minutes points best (left v a b u c)
+  noting-first minutes points best e = ap (takenAll p minutes points best) (sym e)
+
+  module _ (minutes points : ℕ) (whole best : List ℕ) where
+    pub noting-more : whole ≡ takenAll p minutes points best (left v a b u c)
+        → (s : RideStruct) → Tells s (rideOf v c)
+        → (d : Cursor) → left v a b u c ≡ rideOf v c ∷ left v a b u d
+        → (after : List ℕ) → after ≡ lowered best (s .arrive + minutes) (getD p (s .depart) 0 + s .points + points)
+        → whole ≡ takenAll p minutes points after (left v a b u d)
+    noting-more h s t d e after is =
+        h
+        ∙ ap (takenAll p minutes points best) e
+        ∙ taken-more p minutes points best (rideOf v c) (left v a b u d)
+        ∙ sym (ap (λ l. takenAll p minutes points l (left v a b u d)) (is ∙ same))
+      where
+        same : lowered best (s .arrive + minutes) (getD p (s .depart) 0 + s .points + points)
+            ≡ lowered best (rideOf v c .arrive + minutes)
+            (getD p (rideOf v c .depart) 0 + rideOf v c .points + points)
+        same =
+            (λ i. lowered best (t .arrive i + minutes) (getD p (t .depart i) 0 + t .points i + points))
+
+    pub noting-done : whole ≡ takenAll p minutes points best (left v a b u c) → c .more ≡ false → best ≡ whole
+    noting-done h e =
+        sym
+        (h
+        ∙ ap (takenAll p minutes points best) (left-none v a b u c e)
+        ∙ taken-none p minutes points best)

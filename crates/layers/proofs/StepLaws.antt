@@ -1,0 +1,79 @@
+-- One step, and the two arrays that change places.
+use mathlib.Core.Path.{_≡_, sym, ap, subst, _∙_}
+use mathlib.Core.Bool.{Bool, true, false, not}
+use mathlib.Core.List.{List}
+use Prim.Native.Nat.{ℕ, _-_, _≤_, _<_}
+use native.Mathlib.Omega.{arith}
+use Rattle.timetable.specs.Timetable.{Station}
+use Rattle.timetable.specs.Words.{isTimetable, stationAt}
+use Rattle.connections.specs.Rides.{Ride}
+use Rattle.direct.specs.Choosing.{noPoints, blank}
+use Rattle.layers.specs.Lowest.{lowest}
+use Rattle.layers.specs.Layering.{takenAll, stepOf, firstValue}
+use Rattle.layers.specs.Fitting.{Fitting}
+use Rattle.layers.specs.Turning.{held, held-first, held-second}
+use Rattle.layers.specs.Onward.{Listed, changeWords, source-few, change-short, change-cheap}
+
+-- ---- the change at the end of a step
+module _ (w : List ℕ) (y : ℕ) (accepted : isTimetable w ≡ true) (i : Listed w y) where
+  pub place-few : y - 1 < 64
+  place-few = omega (arith, i .some, source-few w accepted y i)
+
+  module _ (s : Station) (is : s ≡ stationAt w (y - 1)) where
+    pub change-minutes : s .minutes ≤ 240
+    change-minutes = subst (λ s. s .minutes ≤ 240) (sym is) (change-short w accepted y i)
+
+    pub change-points : s .points ≤ 1000
+    change-points = subst (λ s. s .points ≤ 1000) (sym is) (change-cheap w accepted y i)
+
+-- ---- a step from blank words
+pub step-is : (w : List ℕ) (y : ℕ) (p : List ℕ) (l : List Ride) (s : Station) → s ≡ stationAt w (y - 1)
+    → (q noted last : List ℕ) → q ≡ blank → noted ≡ takenAll p (s .minutes) (s .points) q l
+    → last ≡ lowest noPoints noted → last ≡ changeWords w p y l
+unfolding changeWords stepOf
+step-is w y p l s is q noted last e f g =
+    g ∙ ap (lowest noPoints) (f ∙ (λ i. takenAll p (is i .minutes) (is i .points) (e i) l))
+
+-- ---- the arrays have changed places, or have not
+not-true : (b : Bool) → b ≡ true → not b ≡ false
+not-true b e = rw e
+
+not-false : (b : Bool) → b ≡ false → not b ≡ true
+not-false b e = rw e
+
+module _ (turned : Bool) (p q : List ℕ) where
+  pub fitting-second : (l : List Ride) → turned ≡ true → Fitting (held turned p q) l → Fitting q l
+  fitting-second l e = subst (λ k. Fitting k l) (held-second turned p q e)
+
+  pub fitting-first : (l : List Ride) → turned ≡ false → Fitting (held turned p q) l → Fitting p l
+  fitting-first l e = subst (λ k. Fitting k l) (held-first turned p q e)
+
+  module _ (w : List ℕ) (y : ℕ) (l : List Ride) (after : List ℕ) where
+    pub turned-second : turned ≡ true → after ≡ changeWords w q y l
+        → held (not turned) after q ≡ changeWords w (held turned p q) y l
+    turned-second e h =
+        held-first (not turned) after q (not-true turned e)
+        ∙ h
+        ∙ ap (λ k. changeWords w k y l) (sym (held-second turned p q e))
+
+    pub turned-first : turned ≡ false → after ≡ changeWords w p y l
+        → held (not turned) p after ≡ changeWords w (held turned p q) y l
+    turned-first e h =
+        held-second (not turned) p after (not-false turned e)
+        ∙ h
+        ∙ ap (λ k. changeWords w k y l) (sym (held-first turned p q e))
+
+  pub value-second : (r : ℕ) (after : List ℕ) → turned ≡ true → r ≡ firstValue after
+      → r ≡ firstValue (held (not turned) after q)
+  value-second r after e h = h ∙ ap firstValue (sym (held-first (not turned) after q (not-true turned e)))
+
+  pub value-first : (r : ℕ) (after : List ℕ) → turned ≡ false → r ≡ firstValue after
+      → r ≡ firstValue (held (not turned) p after)
+  value-first r after e h = h ∙ ap firstValue (sym (held-second (not turned) p after (not-false turned e)))
+
+  module _ (l : List Ride) (best after : List ℕ) where
+    pub end-second : turned ≡ true → after ≡ takenAll q 0 0 best l → after ≡ takenAll (held turned p q) 0 0 best l
+    end-second e h = h ∙ ap (λ k. takenAll k 0 0 best l) (sym (held-second turned p q e))
+
+    pub end-first : turned ≡ false → after ≡ takenAll p 0 0 best l → after ≡ takenAll (held turned p q) 0 0 best l
+    end-first e h = h ∙ ap (λ k. takenAll k 0 0 best l) (sym (held-first turned p q e))

@@ -1,0 +1,79 @@
+-- The words held are those of one who is ready at the present station, from the first minute on that the last step
+-- answered. Before the last ride they give what is promised; if no one is ready, no connection has the pattern.
+use mathlib.Core.Path.{_≡_}
+use Prim.Native.Nat.{_<_, _-_}
+use lib.ListN.{length}
+use borrow.Author.Needs.{needs}
+use Rattle.timetable.specs.Words.{timetableOf}
+use Rattle.connections.specs.Connections.{net}
+use Rattle.layers.specs.Turning.{held}
+use Rattle.layers.specs.Readies.{Ready}
+use Rattle.layers.specs.Patterns.{changesTo}
+use Rattle.layers.specs.Onward.{Listed, source-few, calls-within, fitting}
+use Rattle.layers.proofs.PatternLaws.{listed-here, ready-first, ready-next, ended, stopped}
+use Rattle.layers.proofs.note_pattern.Statement.{statement}
+use Rattle.layers.proofs.note_pattern.Tie as tie
+
+abbrev Inv-pattern : tie.InvT-pattern
+Inv-pattern words lines source minute path r best₀ p₀ q₀ turned₀ from₀ earliest₀ j₀ best p q turned from earliest j =
+    (j < r)
+    × (length p ≡ 2880)
+    × (length q ≡ 2880)
+    × (length best ≡ 2880)
+    × (best ≡ best₀)
+    × Listed words from
+    × Ready (net (timetableOf words)) source minute (changesTo path j) from earliest (held turned p q)
+
+abbrev μ-pattern : tie.MeasureT-pattern
+μ-pattern words lines source minute path r best₀ p₀ q₀ turned₀ from₀ earliest₀ j₀ best p q turned from earliest j =
+    r - j
+
+pattern-holds : tie.Need-pattern-holds Inv-pattern μ-pattern
+pattern-holds c =
+    (search needs, search needs, search needs, search needs, search needs, search needs, search ready-first)
+
+finish-turned-requires : tie.Need-finish-turned-requires Inv-pattern μ-pattern
+finish-turned-requires c κs =
+    ((search needs, search source-few, search calls-within), (search needs, search needs, search fitting))
+
+step-turned-requires : tie.Need-step-turned-requires Inv-pattern μ-pattern
+step-turned-requires c κs = (
+  (search needs, search needs, search listed-here),
+  ((search needs, search source-few, search calls-within), (search needs, search needs, search fitting)),
+)
+
+pattern-again : tie.Need-pattern-again Inv-pattern μ-pattern
+pattern-again c =
+    (search needs, search needs, search needs, search needs, search needs, search listed-here, search ready-next)
+
+returns : tie.Need-returns Inv-pattern μ-pattern
+returns c = (search ended, search needs)
+
+returns-2 : tie.Need-returns-2 Inv-pattern μ-pattern
+returns-2 c = (search stopped, search needs)
+
+pub note-pattern-spec : {M : Type 1} → statement M
+note-pattern-spec =
+    tie.close
+    (tie.spec
+    Inv-pattern
+    μ-pattern
+    (λ c. search needs)
+    (λ c. search needs)
+    pattern-holds
+    (λ c. search needs)
+    (λ c. search needs)
+    (λ c. search needs)
+    (λ c. search needs)
+    (λ c. search needs)
+    finish-turned-requires
+    (λ c. search needs)
+    (λ c. search needs)
+    step-turned-requires
+    (λ c. search needs)
+    (λ c. search needs)
+    pattern-again
+    (λ c. search needs)
+    returns
+    (λ c. search needs)
+    returns-2)

@@ -1,0 +1,55 @@
+-- The rides noted so far, and then those that are left, make the same penalties as all of them. A ride that is left
+-- fits its words, so that no sum overflows.
+use mathlib.Core.Path.{_≡_}
+use lib.ListN.{length}
+use borrow.Author.Needs.{needs}
+use Rattle.direct.specs.Candidates.{allRead}
+use Rattle.riding.specs.Riding.{Good, left, left-falls}
+use Rattle.layers.specs.Layering.{takenAll}
+use Rattle.layers.specs.Fitting.{Fitting}
+use Rattle.layers.proofs.RideLaws.{fitting-first, fitting-next, fits-here}
+use Rattle.layers.proofs.RideLaws.{noting-first, noting-more, noting-done}
+use Rattle.layers.proofs.note_rides.Statement.{statement}
+use Rattle.layers.proofs.note_rides.Tie as tie
+
+abbrev Inv-loop : tie.InvT-loop
+Inv-loop lines from to earliest p change best₀ c₀ best c =
+    Good c
+    × Fitting p (left lines from to earliest c)
+    × (length best ≡ length best₀)
+    × (takenAll p (change .minutes) (change .points) best₀ (allRead lines from earliest to)
+    ≡ takenAll p (change .minutes) (change .points) best (left lines from to earliest c))
+
+abbrev μ-loop : tie.MeasureT-loop
+μ-loop lines from to earliest p change best₀ c₀ best c = length (left lines from to earliest c)
+
+loop-holds : tie.Need-loop-holds Inv-loop μ-loop
+loop-holds c = (search needs, search fitting-first, search needs, search noting-first)
+
+note-ride-requires : tie.Need-note-ride-requires Inv-loop μ-loop
+note-ride-requires c κs = (search needs, search fits-here, search needs, search needs)
+
+loop-less : tie.Need-loop-less Inv-loop μ-loop
+loop-less c = search left-falls
+
+loop-again : tie.Need-loop-again Inv-loop μ-loop
+loop-again c = (search needs, search fitting-next, search needs, search noting-more)
+
+returns : tie.Need-returns Inv-loop μ-loop
+returns c = (search noting-done, search needs)
+
+pub note-rides-spec : {M : Type 1} → statement M
+note-rides-spec =
+    tie.close
+    (tie.spec
+    Inv-loop
+    μ-loop
+    (λ c. search needs)
+    loop-holds
+    (λ c. search needs)
+    note-ride-requires
+    (λ c. search needs)
+    loop-less
+    loop-again
+    (λ c. search needs)
+    returns)

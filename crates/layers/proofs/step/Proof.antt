@@ -1,0 +1,27 @@
+-- Blank words, the rides noted in them, and the least so far. What the change takes and costs is bounded by question 9.
+use borrow.Author.Needs.{needs}
+use Rattle.layers.proofs.StepLaws.{place-few, change-minutes, change-points, step-is}
+use Rattle.layers.proofs.step.Statement.{statement}
+use Rattle.layers.proofs.step.Tie as tie
+
+station-at-requires : tie.Need-station-at-requires
+station-at-requires c κs = (search needs, search place-few)
+
+note-rides-requires : tie.Need-note-rides-requires
+note-rides-requires c κs = (search needs, (search needs, search needs, search change-minutes, search change-points))
+
+returns : tie.Need-returns
+returns c = (search step-is, (search needs, search needs))
+
+pub step-spec : {M : Type 1} → statement M
+step-spec =
+    tie.close
+    (tie.spec
+    (λ c. search needs)
+    station-at-requires
+    (λ c. search needs)
+    note-rides-requires
+    (λ c. search needs)
+    (λ c. search needs)
+    (λ c. search needs)
+    returns)

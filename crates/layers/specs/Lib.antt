@@ -1,0 +1,9 @@
+pub mod Lowered
+pub mod Lowest
+pub mod Layering
+pub mod Fitting
+pub mod Taken
+pub mod Readies
+pub mod Turning
+pub mod Patterns
+pub mod Onward

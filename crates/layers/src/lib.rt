@@ -1,0 +1,287 @@
+// The least penalties along one stored pattern, change by change: for each minute the least with which one is ready to
+// board at the present station by then.
+ghost use mathlib.Core.Path.{_≡_};
+ghost use mathlib.Core.Bool.{true, not};
+ghost use Prim.Native.Nat.{_+_, _-_, _≤_, _<_};
+ghost use lib.ListN.{length, getD};
+ghost use Rattle.timetable.specs.Words.{timetableOf, isTimetable};
+ghost use Rattle.connections.specs.Connections.{net};
+ghost use Rattle.lookup.specs.Lookup.{callsPlace};
+ghost use Rattle.checking.specs.Question10.{areTables};
+ghost use Rattle.direct.specs.Candidates.{allRead};
+ghost use Rattle.direct.specs.Choosing.{noPoints};
+ghost use Rattle.direct.specs.Turns.{lowered};
+ghost use Rattle.layers.specs.Lowest.{lowest};
+ghost use Rattle.layers.specs.Layering.{takenAll, startOf, firstValue};
+ghost use Rattle.layers.specs.Fitting.{Fits, Fitting};
+ghost use Rattle.layers.specs.Turning.{held};
+ghost use Rattle.layers.specs.Onward.{Listed, Stations, changeWords};
+ghost use Rattle.layers.specs.Patterns.{changesTo};
+ghost use Rattle.layers.specs.Lowered.{Lowered};
+use results::Cost;
+use results::Minutes;
+use results::Points;
+use riding::Ride;
+use timetable::Station;
+
+// The minutes in which one may be ready: 0 to 2,879.
+const MINUTES: usize = 2880;
+
+// The penalty of a minute by which no one is ready; all others are less.
+const NO_POINTS: u32 = u32::MAX;
+
+// Who is ready at a minute is ready at each later one: each penalty is lowered to the least so far.
+fn lowest_so_far(p: &mut [u32])
+    requires { ⌜ length (now p) ≡ 2880 ⌝ }
+    ensures { λ _. ⌜ now (p .exit) ≡ lowest noPoints (now (p .entry)) ⌝ }
+    ensures { λ _. ⌜ length (now (p .exit)) ≡ length (now (p .entry)) ⌝ }
+{
+    let mut least = NO_POINTS;
+    let mut m = 0;
+    while m < MINUTES {
+        least = direct::lesser(least, p[m]);
+        p[m] = least;
+        m += 1;
+    }
+}
+
+// The first minute by which one is ready; 2,880 if no one ever is.
+fn first_value(p: &[u32]) -> usize
+    requires { ⌜ length (now p) ≡ 2880 ⌝ }
+    ensures { λ r. ⌜ (r ≡ firstValue (now (p .entry))) × (r ≤ 2880) ⌝ }
+{
+    let mut m = 0;
+    let first = loop {
+        if MINUTES <= m {
+            break m;
+        }
+        if p[m] < NO_POINTS {
+            break m;
+        }
+        m += 1;
+    };
+    first
+}
+
+// Before the first ride one is ready from the minute of the query on, and has paid nothing.
+fn start(minute: usize, p: &mut [u32])
+    requires { ⌜ (minute < 2880) × (length (now p) ≡ 2880) ⌝ }
+    ensures { λ _. ⌜ now (p .exit) ≡ startOf minute ⌝ }
+    ensures { λ _. ⌜ length (now (p .exit)) ≡ length (now (p .entry)) ⌝ }
+{
+    direct::fill_blank(p);
+    p[minute] = 0;
+    lowest_so_far(p);
+}
+
+// Notes a ride for one who has paid what p holds for its departure: when he can leave again, behind a change that takes
+// and costs so much, and what he has paid by then.
+fn note_ride(p: &[u32], ride: Ride, change: Station, best: &mut [u32])
+    requires { ⌜ (length (now p) ≡ 2880)
+        × Fits (now p) ride
+        × (change .minutes ≤ 240)
+        × (change .points ≤ 1000) ⌝ }
+    ensures { λ _. ⌜ now (best .exit)
+        ≡ lowered
+        (now (best .entry))
+        (ride .arrive + change .minutes)
+        (getD (now (p .entry)) (ride .depart) 0 + ride .points + change .points) ⌝ }
+    ensures { λ _. ⌜ length (now (best .exit)) ≡ length (now (best .entry)) ⌝ }
+{
+    let depart = ride.depart;
+    let paid = p[depart] + ride.points + change.points;
+    let minute = ride.arrive as u32 + change.minutes;
+    direct::note(
+        best,
+        Cost {
+            minutes: Minutes(minute),
+            points: Points(paid),
+        },
+    );
+}
+
+// Notes all rides from one station to another that leave at a minute or later.
+fn note_rides(
+    lines: &[u16],
+    from: usize,
+    to: usize,
+    earliest: usize,
+    p: &[u32],
+    change: Station,
+    best: &mut [u32],
+)
+    requires { ⌜ (1 ≤ from) × (from ≤ 64) × (callsPlace (now lines) from ≤ length (now lines)) ⌝ }
+    requires { ⌜ (length (now p) ≡ 2880)
+        × Fitting (now p) (allRead (now lines) from earliest to)
+        × (change .minutes ≤ 240)
+        × (change .points ≤ 1000) ⌝ }
+    ensures { λ _. ⌜ now (best .exit)
+        ≡ takenAll
+        (now (p .entry))
+        (change .minutes)
+        (change .points)
+        (now (best .entry))
+        (allRead (now (lines .entry)) from earliest to) ⌝ }
+    ensures { λ _. ⌜ length (now (best .exit)) ≡ length (now (best .entry)) ⌝ }
+{
+    let mut c = riding::begin(lines, from, to, earliest);
+    while c.more {
+        note_ride(p, riding::tell(lines, c), change, best);
+        c = riding::next(lines, from, to, earliest, c);
+    }
+}
+
+// One ride and the change at its end: from the least penalties at station from to those at station to. Answers the
+// first minute by which one is ready there.
+fn step(
+    words: &[u16],
+    lines: &[u16],
+    from: usize,
+    to: usize,
+    earliest: usize,
+    p: &[u32],
+    q: &mut [u32],
+) -> usize
+    requires { ⌜ (16384 ≤ length (now words)) × (isTimetable (now words) ≡ true) × Listed (now words) to ⌝ }
+    requires { ⌜ (1 ≤ from) × (from ≤ 64) × (callsPlace (now lines) from ≤ length (now lines)) ⌝ }
+    requires { ⌜ (length (now p) ≡ 2880)
+        × (length (now q) ≡ 2880)
+        × Fitting (now p) (allRead (now lines) from earliest to) ⌝ }
+    ensures { λ _. ⌜ now (q .exit)
+        ≡ changeWords (now (words .entry)) (now (p .entry)) to (allRead (now (lines .entry)) from earliest to) ⌝ }
+    ensures { λ _. ⌜ length (now (q .exit)) ≡ length (now (q .entry)) ⌝ }
+    ensures { λ r. ⌜ (r ≡ firstValue (now (q .exit))) × (r ≤ 2880) ⌝ }
+{
+    let change = timetable::station_at(words, to - 1);
+    direct::fill_blank(q);
+    note_rides(lines, from, to, earliest, p, change, q);
+    lowest_so_far(q);
+    first_value(q)
+}
+
+// The last ride: notes for each minute of arrival the least penalty.
+fn finish(lines: &[u16], from: usize, to: usize, earliest: usize, p: &[u32], best: &mut [u32])
+    requires { ⌜ (1 ≤ from) × (from ≤ 64) × (callsPlace (now lines) from ≤ length (now lines)) ⌝ }
+    requires { ⌜ (length (now p) ≡ 2880) × Fitting (now p) (allRead (now lines) from earliest to) ⌝ }
+    ensures { λ _. ⌜ now (best .exit)
+        ≡ takenAll (now (p .entry)) 0 0 (now (best .entry)) (allRead (now (lines .entry)) from earliest to) ⌝ }
+    ensures { λ _. ⌜ length (now (best .exit)) ≡ length (now (best .entry)) ⌝ }
+{
+    let none = Station {
+        minutes: 0,
+        points: 0,
+    };
+    note_rides(lines, from, to, earliest, p, none, best);
+}
+
+// A step from the array that holds the present penalties, q if they have changed places, to the other.
+fn step_turned(
+    words: &[u16],
+    lines: &[u16],
+    from: usize,
+    to: usize,
+    earliest: usize,
+    turned: bool,
+    p: &mut [u32],
+    q: &mut [u32],
+) -> usize
+    requires { ⌜ (16384 ≤ length (now words)) × (isTimetable (now words) ≡ true) × Listed (now words) to ⌝ }
+    requires { ⌜ (1 ≤ from) × (from ≤ 64) × (callsPlace (now lines) from ≤ length (now lines)) ⌝ }
+    requires { ⌜ (length (now p) ≡ 2880)
+        × (length (now q) ≡ 2880)
+        × Fitting (held turned (now p) (now q)) (allRead (now lines) from earliest to) ⌝ }
+    ensures { λ _. ⌜ held (not turned) (now (p .exit)) (now (q .exit))
+        ≡ changeWords
+        (now (words .entry))
+        (held turned (now (p .entry)) (now (q .entry)))
+        to
+        (allRead (now (lines .entry)) from earliest to) ⌝ }
+    ensures { λ _. ⌜ (length (now (p .exit)) ≡ 2880) × (length (now (q .exit)) ≡ 2880) ⌝ }
+    ensures { λ r. ⌜ (r ≡ firstValue (held (not turned) (now (p .exit)) (now (q .exit)))) × (r ≤ 2880) ⌝ }
+{
+    if turned {
+        return step(words, lines, from, to, earliest, q, p);
+    }
+    step(words, lines, from, to, earliest, p, q)
+}
+
+// The last ride, likewise.
+fn finish_turned(
+    lines: &[u16],
+    from: usize,
+    to: usize,
+    earliest: usize,
+    turned: bool,
+    p: &[u32],
+    q: &[u32],
+    best: &mut [u32],
+)
+    requires { ⌜ (1 ≤ from) × (from ≤ 64) × (callsPlace (now lines) from ≤ length (now lines)) ⌝ }
+    requires { ⌜ (length (now p) ≡ 2880)
+        × (length (now q) ≡ 2880)
+        × Fitting (held turned (now p) (now q)) (allRead (now lines) from earliest to) ⌝ }
+    ensures { λ _. ⌜ now (best .exit)
+        ≡ takenAll
+        (held turned (now (p .entry)) (now (q .entry)))
+        0
+        0
+        (now (best .entry))
+        (allRead (now (lines .entry)) from earliest to) ⌝ }
+    ensures { λ _. ⌜ length (now (best .exit)) ≡ length (now (best .entry)) ⌝ }
+{
+    if turned {
+        finish(lines, from, to, earliest, q, best);
+    } else {
+        finish(lines, from, to, earliest, p, best);
+    }
+}
+
+// Lowers the penalties of the arrival minutes to those of the connections of one pattern: from the source at the minute
+// or later, with changes at the first r - 1 stations of the path, to the station behind them.
+pub fn note_pattern(
+    words: &[u16],
+    lines: &[u16],
+    source: usize,
+    minute: usize,
+    path: &[u16],
+    r: usize,
+    best: &mut [u32],
+)
+    requires { ⌜ (16384 ≤ length (now words))
+        × (isTimetable (now words) ≡ true)
+        × (areTables (now words) (now lines) ≡ true) ⌝ }
+    requires { ⌜ Listed (now words) source × (minute < 2880) ⌝ }
+    requires { ⌜ (1 ≤ r) × (r ≤ length (now path)) × Stations (now words) (now path) r ⌝ }
+    requires { ⌜ length (now best) ≡ 2880 ⌝ }
+    ensures { λ _. ⌜ Lowered
+        (net (timetableOf (now (words .entry))))
+        source
+        minute
+        (changesTo (now (path .entry)) (r - 1))
+        (getD (now (path .entry)) (r - 1) 0)
+        (now (best .entry))
+        (now (best .exit)) ⌝ }
+    ensures { λ _. ⌜ length (now (best .exit)) ≡ length (now (best .entry)) ⌝ }
+{
+    let mut p = [NO_POINTS; MINUTES];
+    let mut q = [NO_POINTS; MINUTES];
+    start(minute, &mut p);
+    let mut turned = false;
+    let mut from = source;
+    let mut earliest = minute;
+    let mut j = 0;
+    'pattern: loop {
+        let to = words::word(path, j) as usize;
+        if j + 1 == r {
+            finish_turned(lines, from, to, earliest, turned, &p, &q, best);
+            break 'pattern;
+        }
+        earliest = step_turned(words, lines, from, to, earliest, turned, &mut p, &mut q);
+        if MINUTES <= earliest {
+            break 'pattern;
+        }
+        turned = !turned;
+        from = to;
+        j += 1;
+    }
+}

@@ -1,0 +1,11 @@
+-- The calls from the first on are those of the station.
+use Rattle.riding.proofs.CursorLaws.{calls-first}
+use borrow.Author.Needs.{needs}
+use Rattle.riding.proofs.begin.Statement.{statement}
+use Rattle.riding.proofs.begin.Tie as tie
+
+returns : tie.Need-returns
+returns c = (search calls-first, search needs)
+
+pub begin-spec : {M : Type 1} → statement M
+begin-spec = tie.close (tie.spec (λ c. search needs) (λ c. search needs) (λ c. search needs) returns)

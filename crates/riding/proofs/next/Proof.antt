@@ -1,0 +1,27 @@
+-- A trip left, else a place left, else a call left: each time what is left is the ride and what is left of the new
+-- cursor.
+use Rattle.riding.proofs.CursorLaws.{next-trip, next-place, place-good, next-call}
+use borrow.Author.Needs.{needs}
+use Rattle.riding.proofs.next.Statement.{statement}
+use Rattle.riding.proofs.next.Tie as tie
+
+returns : tie.Need-returns
+returns c = (search next-trip, search needs)
+
+returns-2 : tie.Need-returns-2
+returns-2 c = (search next-place, search place-good)
+
+returns-3 : tie.Need-returns-3
+returns-3 c = (search next-call, search needs)
+
+pub next-spec : {M : Type 1} → statement M
+next-spec =
+    tie.close
+    (tie.spec
+    (λ c. search needs)
+    (λ c. search needs)
+    returns
+    (λ c. search needs)
+    returns-2
+    (λ c. search needs)
+    returns-3)

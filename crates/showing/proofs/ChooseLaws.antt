@@ -1,0 +1,94 @@
+-- One ride more is tried, and all rides of a cursor one after the other.
+use mathlib.Core.Path.{_≡_, sym, ap, _∙_}
+use mathlib.Core.Bool.{Bool, true, false, cond}
+use mathlib.Core.List.{List, _∷_}
+use Prim.Native.Nat.{ℕ, _+_, _≤_, _<_}
+use native.Mathlib.Omega.{arith}
+use borrow.Author.Tests.{lt-ltb, le-ltb, le-leb, lt-leb}
+use lib.ListN.{getD}
+use Rattle.direct.specs.Candidates.{allRead}
+use Rattle.direct.specs.Choosing.{noPoints}
+use Rattle.riding.specs.declared.Ride.{Ride as RideStruct}
+use Rattle.riding.specs.declared.Cursor.{Cursor}
+use Rattle.riding.specs.Riding.{Tells, left, rideOf, left-none}
+use Rattle.showing.specs.Heads.{noRide, headOf}
+use Rattle.showing.specs.Turns.{tellsOf, tells-is, comesBefore, tried, triedAll, tried-all, Sized}
+
+pub sized-told : (s : RideStruct) (lines : List ℕ) (c : Cursor) → Tells s (rideOf lines c) → Sized s
+sized-told s lines c t =
+    record {
+      trip = omega (arith, t .trip-few);
+      board = t .board-few;
+      alight = t .alight-few;
+      arrive = omega (arith, t .arrive-few);
+    }
+
+module _
+    (first : Bool)
+    (z : List ℕ)
+    (p : ℕ)
+    (best s : RideStruct)
+    (rest top : ℕ)
+    (is : rest ≡ getD z (s .arrive) noPoints)
+    (e : top ≡ 4294967295)
+  where
+    pub try-none : top ≤ rest → best ≡ tried first z p best s
+    unfolding tried
+    try-none h = simp (le-ltb (getD z (s .arrive) noPoints) noPoints (omega (arith, is)))
+
+    module _ (some : rest < top) where
+      pub try-dear : p < s .points + rest → best ≡ tried first z p best s
+      unfolding tried
+      try-dear h =
+          simp (
+            lt-ltb (getD z (s .arrive) noPoints) noPoints (omega (arith, is)),
+            lt-leb (s .points + getD z (s .arrive) noPoints) p (omega (arith, is)),
+          )
+
+      module _ (pays : s .points + rest ≤ p) (r : Bool) (goes : r ≡ comesBefore first s best) where
+        tried-is : tried first z p best s ≡ cond r s best
+        unfolding tried
+        tried-is =
+            rw (
+              lt-ltb (getD z (s .arrive) noPoints) noPoints (omega (arith, is)),
+              le-leb (s .points + getD z (s .arrive) noPoints) p (omega (arith, is)),
+            )
+            (ap (λ b. cond b s best) (sym goes))
+
+        pub try-takes : r ≡ true → s ≡ tried first z p best s
+        try-takes h = sym (tried-is ∙ ap (λ b. cond b s best) h)
+
+        pub try-keeps : r ≡ false → best ≡ tried first z p best s
+        try-keeps h = sym (tried-is ∙ ap (λ b. cond b s best) h)
+
+module _ (lines : List ℕ) (from to ready : ℕ) (first : Bool) (z : List ℕ) (p : ℕ) where
+  abbrev whole : RideStruct
+  whole = triedAll first z p (tellsOf noRide) (allRead lines from ready to)
+
+  pub choose-begins : (c : Cursor) → left lines from to ready c ≡ allRead lines from ready to
+      → whole ≡ triedAll first z p (tellsOf noRide) (left lines from to ready c)
+  choose-begins c e = ap (triedAll first z p (tellsOf noRide)) (sym e)
+
+  -- the choice, once the rides left are tried too
+  abbrev with : RideStruct → Cursor → RideStruct
+  with best c = triedAll first z p best (left lines from to ready c)
+
+  module _ (best : RideStruct) (c : Cursor) (so-far : whole ≡ with best c) where
+    pub choose-more : (d : Cursor) (s new : RideStruct) → Tells s (rideOf lines c) → new ≡ tried first z p best s
+        → left lines from to ready c ≡ rideOf lines c ∷ left lines from to ready d
+        → whole ≡ triedAll first z p new (left lines from to ready d)
+    unfolding triedAll
+    choose-more d s new t n e =
+        let rest = left lines from to ready d in
+        let told = tells-is s (rideOf lines c) t in
+        so-far
+        ∙ ap (triedAll first z p best) e
+        ∙ ap (λ b. triedAll first z p b rest) (ap (tried first z p best) (sym told) ∙ sym n)
+
+    pub choose-done : c .more ≡ false → best ≡ tellsOf (headOf first z p (allRead lines from ready to))
+    unfolding triedAll
+    choose-done e =
+        sym
+        (sym (tried-all first z p (allRead lines from ready to))
+        ∙ so-far
+        ∙ ap (triedAll first z p best) (left-none lines from to ready c e))

@@ -1,0 +1,6 @@
+pub mod RestLaws
+pub mod GatherLaws
+pub mod PatternLaws
+pub mod KeyLaws
+pub mod ChooseLaws
+pub mod WayLaws

@@ -1,0 +1,352 @@
+-- From ride to ride along a path: the ride to take, what is written of it, and where one is behind it.
+use mathlib.Core.Path.{_≡_, refl, sym, ap, subst, _∙_}
+use mathlib.Core.Bool.{Bool, true, false, not}
+use mathlib.Core.Logic.{_⊎_, inl, inr, _↔_}
+use mathlib.Core.List.{List, [], _∷_, _++_}
+use Prim.Native.Nat.{ℕ, _+_, _-_, _*_, _≤_, _<_}
+use native.Mathlib.Numerals.{add-one}
+use native.Mathlib.Omega.{arith}
+use lib.ListN.{length, getD, set, take, drop, length-append, length-take}
+use lib.Seq.{slice, slice-empty, slice-cons, take-at}
+use Rattle.words.specs.Put.{put, put-more}
+use Rattle.timetable.specs.Timetable.{Timetable, Station}
+use Rattle.timetable.specs.Words.{stationCount, stationAt, timetableOf, isTimetable}
+use Rattle.connections.specs.Rides.{Ride}
+use Rattle.connections.specs.Connections.{Change, net, Connection, Boards, ready}
+use Rattle.lists.specs.Lists.{_∈_}
+use Rattle.connections.specs.Sound.{sound}
+use Rattle.lookup.specs.Lookup.{callsPlace}
+use Rattle.direct.specs.Candidates.{allRead}
+use Rattle.reckoning.specs.Greedy.{rideNumbers}
+use Rattle.riding.specs.declared.Ride.{Ride as RideStruct}
+use Rattle.riding.specs.Ridden.{read-rides}
+use Rattle.showing.specs.declared.At.{At}
+use Rattle.showing.specs.declared.Next.{Next}
+use Rattle.showing.specs.Showing.{Given, Fitting, FoundAt}
+use Rattle.showing.specs.Rests.{RestsAt}
+use Rattle.showing.specs.Heads.{noRide, headOf, Chosen, head-cases}
+use Rattle.showing.specs.Going.{Left, Going, goes, begins}
+use Rattle.showing.specs.Turns.{tellsOf}
+use Rattle.showing.specs.OnTheWay.{Standing, Taken, Nothing, Headed, Under, Moved}
+use Rattle.showing.specs.OnTheWay.{Stopped, Gone, Rode}
+use Rattle.showing.proofs.PatternLaws.{is-valid, station-few, station-calls, station-inside}
+use Rattle.showing.proofs.PatternLaws.{ChangeThere, change-there}
+
+true-false : true ≡ false → ⊥
+true-false e = let z : _≡_ {A = ℕ} 0 1 = cc in omega arith
+
+-- ---- one ride
+pub three-put : (i a b c : ℕ) (old mid : List ℕ) → 3 * i + 3 ≤ length old → mid ≡ put (3 * i) (a ∷ b ∷ []) old
+    → set mid (3 * i + 2) c ≡ put (3 * i) (a ∷ b ∷ c ∷ []) old
+three-put i a b c old mid h e =
+    ap (λ l. set l (3 * i + 2) c) e ∙ put-more (3 * i) 2 (a ∷ b ∷ []) old c refl (omega arith)
+
+take-three : (i : ℕ) (ws old : List ℕ) → length ws ≡ 3 → 3 * i + 3 ≤ length old
+    → take (3 * (i + 1)) (put (3 * i) ws old) ≡ take (3 * i) old ++ ws
+unfolding put
+take-three i ws old e h =
+    let long : length (take (3 * i) old ++ ws) ≡ 3 * (i + 1) = simp (length-append, length-take) (omega arith) in
+    take-at (take (3 * i) old ++ ws) (drop (3 * i + length ws) old) (3 * (i + 1)) long
+
+pub moved : (w path : List ℕ) (i left to paid : ℕ) (s : RideStruct) (x : Station) (old new : List ℕ)
+    → new ≡ put (3 * i) (s .trip ∷ s .board ∷ s .alight ∷ []) old
+    → to ≡ getD path i 0
+    → x ≡ stationAt w (to - 1)
+    → paid ≡ left - (s .points + x .points)
+    → Moved w path i left s old new (record { from = to; ready = s .arrive + x .minutes; left = paid })
+moved w path i left to paid s x old new e f g h =
+    let there : x ≡ stationAt w (getD path i 0 - 1) = g ∙ ap (λ k. stationAt w (k - 1)) f in
+    record {
+      wrote = e;
+      from = f;
+      ready = ap (λ x. s .arrive + x .minutes) there;
+      left-then = h ∙ ap (λ x. left - (s .points + x .points)) there;
+    }
+
+-- ---- along the path
+module _ (w lines path : List ℕ) (r v : ℕ) (given : Given w lines path r v) where
+  accepted : isTimetable w ≡ true
+  accepted = given .accepted
+
+  abbrev t : Timetable
+  t = timetableOf w
+
+  abbrev b : ℕ
+  b = getD path (r - 1) 0
+
+  on : (i : ℕ) → i < r → slice i r path ≡ getD path i 0 ∷ slice (i + 1) r path
+  on i h = slice-cons i r path 0 h (given .long) ∙ ap (λ k. getD path i 0 ∷ slice k r path) (sym (add-one i))
+
+  -- ---- the ride to take
+  module _ (minute : ℕ) (at : At) (stands : Standing w minute at) where
+    pub stand-few : at .from ≤ 64
+    stand-few = station-few w accepted (at .from) (stands .least) (stands .most)
+
+    pub stand-calls : callsPlace lines (at .from) ≤ length lines
+    stand-calls = station-calls w accepted (at .from) (stands .least) (stands .most) lines (given .own)
+
+  pub head-taken : (minute i to : ℕ) (at : At) (first : Bool) (z : List ℕ) (s : RideStruct) → i < r
+      → Standing w minute at
+      → RestsAt w path r v minute i z
+      → to ≡ getD path i 0
+      → s ≡ tellsOf (headOf first z (at .left) (allRead lines (at .from) (at .ready) to))
+      → Headed w path r v first i at s
+  unfolding RestsAt Headed
+  head-taken minute i to at first z s inside stands rests is-to is =
+      go (head-cases t (is-valid w accepted) b v minute q y x u p (stands .later) rides told z rests first)
+    where
+      y : ℕ
+      y = getD path i 0
+
+      q : List ℕ
+      q = slice (i + 1) r path
+
+      x : ℕ
+      x = at .from
+
+      u : ℕ
+      u = at .ready
+
+      p : ℕ
+      p = at .left
+
+      rides : List Ride
+      rides = allRead lines x u y
+
+      told : (g : Ride) → g ∈ rides ↔ (Boards (net t) x u g × (g .to ≡ y))
+      told = read-rides w lines x y u accepted (given .own) (stands .least)
+          (station-inside w accepted x (stands .least) (stands .most))
+
+      one : Ride
+      one = headOf first z p rides
+
+      tells : s ≡ tellsOf one
+      tells = is ∙ ap (λ y. tellsOf (headOf first z p (allRead lines x u y))) is-to
+
+      go : ((one ≡ noRide) × ((e : Connection) → ¬ Fitting t b v (y ∷ q) x u p e))
+          ⊎ Chosen t b v first (y ∷ q) x u p one
+          → Nothing w path r v i at s ⊎ Taken w path r v first i at s
+      go (inl h) =
+          inl (record {
+            trip = ap (λ s. s .trip) (tells ∙ ap tellsOf (h .0));
+            none = λ e f. h .1 e (subst (λ q. Fitting t b v q x u p e) (on i inside) f);
+          })
+      go (inr c) =
+          inr (record {
+            ride = one;
+            tells = tells;
+            chosen = subst (λ q. Chosen t b v first q x u p one) (sym (on i inside)) c;
+          })
+
+  -- ---- the ride to station i is written, and one has changed there
+  module _ (i : ℕ) (inside : i < r) where
+    abbrev y : ℕ
+    y = getD path i 0
+
+    abbrev q : List ℕ
+    q = slice (i + 1) r path
+
+    there : ChangeThere w accepted y (given .listed .at i inside .0) (given .listed .at i inside .1)
+    there = change-there w accepted y (given .listed .at i inside .0) (given .listed .at i inside .1)
+
+    -- what goes on behind a ride and the change there goes on where one is
+    module _
+        (a m p₀ d left : ℕ)
+        (s : RideStruct)
+        (ride : Ride)
+        (tells : s ≡ tellsOf ride)
+        (old new : List ℕ)
+        (next : At)
+        (move : Moved w path i left s old new next)
+        (room : 3 * i + 3 ≤ length old)
+      where
+        abbrev w′ : Change
+        w′ = there .change
+
+        written : take (3 * i) old ++ rideNumbers ride ≡ take (3 * (i + 1)) new
+        written =
+            sym
+            (ap (take (3 * (i + 1))) (move .wrote)
+            ∙ take-three i (s .trip ∷ s .board ∷ s .alight ∷ []) old refl room
+            ∙ ap (λ s. take (3 * i) old ++ (s .trip ∷ s .board ∷ s .alight ∷ [])) tells)
+
+        station : w′ .to ≡ next .from
+        station = sound t (is-valid w accepted) .stays w′ (there .listed) ∙ there .at ∙ sym (move .from)
+
+        minute : ready ride w′ ≡ next .ready
+        minute = omega (arith, ap (λ s. s .arrive) tells, there .minutes, move .ready)
+
+        points : left - (ride .points + w′ .points) ≡ next .left
+        points =
+            ap (λ s. left - (s .points + w′ .points)) (sym tells)
+            ∙ ap (λ k. left - (s .points + k)) (there .points)
+            ∙ sym (move .left-then)
+
+        moves : (whole : List ℕ)
+            → Going t b v whole a m p₀ (take (3 * i) old ++ rideNumbers ride) d q (w′ .to) (ready ride w′)
+            (left - (ride .points + w′ .points))
+            → Going t b v whole a m p₀ (take (3 * (i + 1)) new) d q (next .from) (next .ready) (next .left)
+        moves whole g =
+            subst (λ k. Going t b v whole a m p₀ k d q (next .from) (next .ready) (next .left)) written
+            (subst (λ x. Going t b v whole a m p₀ done d q x (next .ready) (next .left)) station
+            (subst (λ u. Going t b v whole a m p₀ done d q (w′ .to) u (next .left)) minute
+            (subst (λ p. Going t b v whole a m p₀ done d q (w′ .to) (ready ride w′) p) points g)))
+          where
+            done : List ℕ
+            done = take (3 * i) old ++ rideNumbers ride
+
+    -- where one is behind it is a listed station
+    next-least : (left : ℕ) (s : RideStruct) (old new : List ℕ) (next : At) → Moved w path i left s old new next
+        → 1 ≤ next .from
+    next-least left s old new next move = omega (arith, move .from, given .listed .at i inside .0)
+
+    next-most : (left : ℕ) (s : RideStruct) (old new : List ℕ) (next : At) → Moved w path i left s old new next
+        → next .from ≤ stationCount w
+    next-most left s old new next move = omega (arith, move .from, given .listed .at i inside .1)
+
+    -- a ride more
+    pub rides-on : (a m p₀ d : ℕ) (at : At) (step : Next) (old new : List ℕ) → length old ≡ 192
+        → Under w path r v a m p₀ d i old at
+        → Rode w path r v false i at old new step
+        → Under w path r v a m p₀ d (i + 1) new (step .at)
+    unfolding Rode
+    rides-on a m p₀ d at step old new rooms under rode = go rode
+      where
+        here : Left t b v (take r path) a m p₀ (take (3 * i) old) d (y ∷ q) (at .from) (at .ready) (at .left)
+        here =
+            subst
+            (λ q. Going t b v (take r path) a m p₀ (take (3 * i) old) d q (at .from) (at .ready) (at .left))
+            (on i inside)
+            (under .going)
+
+        go : Stopped w path r v i at step ⊎ Gone w path r v false i at old new step
+            → Under w path r v a m p₀ d (i + 1) new (step .at)
+        go (inl h) =
+            let e = here .some in
+            let back = sym (on i inside) in
+            absurd (h .none e (subst (λ q. Fitting t b v q (at .from) (at .ready) (at .left) e) back (here .fits)))
+        go (inr h) =
+            let ride = h .taken .ride in
+            let chosen =
+            subst (λ q. Chosen t b v false q (at .from) (at .ready) (at .left) ride) (on i inside) (h .taken .chosen)
+            in
+            record {
+              least = next-least (at .left) (h .ride) old new (step .at) (h .moved);
+              most = next-most (at .left) (h .ride) old new (step .at) (h .moved);
+              going =
+                  moves a m p₀ d (at .left) (h .ride) ride (h .taken .tells) old new (step .at) (h .moved)
+                  (omega (arith, given .few)) (take r path)
+                  (goes t (is-valid w accepted) b v (take r path) a m p₀ y (at .from) (at .ready) (at .left) ride
+                  (there .change) (there .listed) (there .at) q (take (3 * i) old) d here chosen);
+            }
+
+  -- ---- the first ride
+  module _ (a m p : ℕ) (step : Next) where
+    abbrev start : At
+    start = record { from = a; ready = m; left = p }
+
+    pub starts : (old new : List ℕ) → 1 ≤ r → length old ≡ 192
+        → Rode w path r v true 0 (record { from = a; ready = m; left = p }) old new step
+        → not (step .found) ≡ false
+        → Under w path r v a m p (step .depart) 1 new (step .at)
+    unfolding Rode
+    starts old new some rooms rode found = go rode
+      where
+        Goes : List ℕ → ℕ → Type 0
+        Goes whole d =
+            let at = step .at in
+            Going t b v whole a m p (take (3 * 1) new) d (slice 1 r path) (at .from) (at .ready) (at .left)
+
+        go : Stopped w path r v 0 start step ⊎ Gone w path r v true 0 start old new step
+            → Under w path r v a m p (step .depart) 1 new (step .at)
+        go (inl h) = absurd (true-false (sym (ap not (h .found)) ∙ found))
+        go (inr h) =
+            let ride = h .taken .ride in
+            let y = getD path 0 0 in
+            let q = slice 1 r path in
+            let on-way = on 0 (omega arith) in
+            let c = there 0 (omega arith) in
+            let chosen = subst (λ q. Chosen t b v true q a m p ride) on-way (h .taken .chosen) in
+            let first = begins t (is-valid w accepted) b v y a m p ride (c .change) (c .listed) (c .at) q chosen in
+            let goes-on =
+            moves 0 (omega arith) a m p (ride .depart) p (h .ride) ride (h .taken .tells) old new (step .at) (h .moved)
+            (omega arith) (y ∷ q) first
+            in
+            let leaves = h .departs ∙ ap (λ s. s .depart) (h .taken .tells) in
+            record {
+              least = next-least 0 (omega arith) p (h .ride) old new (step .at) (h .moved);
+              most = next-most 0 (omega arith) p (h .ride) old new (step .at) (h .moved);
+              going =
+                  subst (Goes (take r path)) (sym leaves) (subst (λ l. Goes l (ride .depart)) (sym on-way) goes-on);
+            }
+
+    pub none-fits : (old new : List ℕ) → Rode w path r v true 0 (record { from = a; ready = m; left = p }) old new step
+        → not (step .found) ≡ true
+        → FoundAt w path r v a m p (record { found = false; depart = 0 }) new
+    unfolding Rode FoundAt
+    none-fits old new rode e = go rode
+      where
+        go : Stopped w path r v 0 start step ⊎ Gone w path r v true 0 start old new step
+            → (e : Connection) → ¬ Fitting t b v (take r path) a m p e
+        go (inl h) = h .none
+        go (inr h) = absurd (true-false (sym e ∙ ap not (h .found)))
+
+  module _ (a m p d i : ℕ) (rides : List ℕ) (at : At) (under : Under w path r v a m p d i rides at) where
+    abbrev Goes : (i : ℕ) (q : List ℕ) → Type 0
+    Goes i q = Going t b v (take r path) a m p (take (3 * i) rides) d q (at .from) (at .ready) (at .left)
+
+    -- while a station is left, one can leave no earlier than one began
+    pub stands-there : i < r → Standing w m at
+    stands-there inside =
+        let here = subst (Goes i) (on i inside) (under .going) in
+        record { least = under .least; most = under .most; later = here .later }
+
+    -- with no station left it is done
+    pub arrives : i ≤ r → r ≤ i → FoundAt w path r v a m p (record { found = true; depart = d }) rides
+    unfolding FoundAt
+    arrives h g =
+        let end : i ≡ r = omega arith in
+        subst (Goes r) (slice-empty r path) (subst (λ i. Goes i (slice i r path)) end (under .going))
+
+-- ---- what became of a ride
+module _
+    (w path : List ℕ)
+    (r v : ℕ)
+    (first : Bool)
+    (i : ℕ)
+    (at : At)
+    (s : RideStruct)
+    (headed : Headed w path r v first i at s)
+  where
+    pub rode-none : (old new : List ℕ) → s .trip ≡ 65536
+        → Rode w path r v first i at old new (record { found = false; depart = 0; at = at })
+    unfolding Rode Headed
+    rode-none old new e = go headed
+      where
+        go : Nothing w path r v i at s ⊎ Taken w path r v first i at s
+            → Stopped w path r v i at (record { found = false; depart = 0; at = at })
+            ⊎ Gone w path r v first i at old new (record { found = false; depart = 0; at = at })
+        go (inl h) = inl (record { found = refl; none = h .none })
+        go (inr h) = absurd (omega (arith, e, ap (λ s. s .trip) (h .tells), h .chosen .few))
+
+    pub rode-one : (old new : List ℕ) (next : At) → ¬ (s .trip ≡ 65536) → Moved w path i (at .left) s old new next
+        → Rode w path r v first i at old new (record { found = true; depart = s .depart; at = next })
+    unfolding Rode Headed
+    rode-one old new next e move = go headed
+      where
+        go : Nothing w path r v i at s ⊎ Taken w path r v first i at s
+            → Stopped w path r v i at (record { found = true; depart = s .depart; at = next })
+            ⊎ Gone w path r v first i at old new (record { found = true; depart = s .depart; at = next })
+        go (inl h) = absurd (e (h .trip))
+        go (inr h) = inr (record { found = refl; ride = s; departs = refl; taken = h; moved = move })
+
+module _ (w lines path : List ℕ) (r v i : ℕ) (given : Given w lines path r v) (inside : i < r) where
+  pub next-first : 1 ≤ getD path i 0
+  next-first = given .listed .at i inside .0
+
+  pub next-few : getD path i 0 ≤ 64
+  next-few = station-few w (given .accepted) (getD path i 0) next-first (given .listed .at i inside .1)
+
+pub starts-there : (w : List ℕ) (source minute p : ℕ) → 1 ≤ source → source ≤ stationCount w
+    → Standing w minute (record { from = source; ready = minute; left = p })
+starts-there w source minute p h g = record { least = h; most = g; later = omega arith }

@@ -1,0 +1,11 @@
+-- All words are filled.
+use Rattle.showing.proofs.GatherLaws.{cleared}
+use borrow.Author.Needs.{needs}
+use Rattle.showing.proofs.clear.Statement.{statement}
+use Rattle.showing.proofs.clear.Tie as tie
+
+returns : tie.Need-returns
+returns c = (search cleared, search needs)
+
+pub clear-spec : {M : Type 1} → statement M
+clear-spec = tie.close (tie.spec (λ c. search needs) (λ c. search needs) returns)

@@ -1,0 +1,12 @@
+-- All words are cleared, and then those up to minute v are 0.
+use Rattle.showing.proofs.GatherLaws.{last-filled}
+use borrow.Author.Needs.{needs}
+use Rattle.showing.proofs.fill_last.Statement.{statement}
+use Rattle.showing.proofs.fill_last.Tie as tie
+
+returns : tie.Need-returns
+returns c = (search last-filled, search needs)
+
+pub fill-last-spec : {M : Type 1} → statement M
+fill-last-spec =
+    tie.close (tie.spec (λ c. search needs) (λ c. search needs) (λ c. search needs) (λ c. search needs) returns)

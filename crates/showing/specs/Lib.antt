@@ -1,0 +1,9 @@
+pub mod Showing
+pub mod Rests
+pub mod Settling
+pub mod Stepping
+pub mod Foremost
+pub mod Heads
+pub mod Going
+pub mod Turns
+pub mod OnTheWay
