@@ -1,0 +1,4 @@
+pub mod Stopwise
+pub mod Paid
+pub mod Prospects
+pub mod Settled
