@@ -2,3 +2,4 @@ pub mod Stopwise
 pub mod Paid
 pub mod Prospects
 pub mod Settled
+pub mod TimelyLaws
