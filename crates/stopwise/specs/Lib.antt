@@ -1,0 +1,5 @@
+pub mod Stopwise
+pub mod Paid
+pub mod Prospects
+pub mod Settled
+pub mod TimelyLaws
