@@ -2,3 +2,5 @@ pub mod Stopwise
 pub mod Paid
 pub mod Prospects
 pub mod Settled
+pub mod RideStops
+pub mod Riders
