@@ -4,3 +4,5 @@ pub mod Prospects
 pub mod Settled
 pub mod RideStops
 pub mod Riders
+pub mod LeastSettled
+pub mod PaidBounds
