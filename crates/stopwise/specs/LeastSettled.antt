@@ -180,6 +180,6 @@ least-settled w a d v timely s =
       attained = λ i g u. attained-upto w a d v s timely (suc (depart w i)) i (omega arith) g u;
       below =
           λ i p g h.
-            arrived-below w a d v s (h .changed) (boards-below w a d v s (h .changed)) (suc i) p (h .arrived);
+          arrived-below w a d v s (h .changed) (boards-below w a d v s (h .changed)) (suc i) p (h .arrived);
       capped = s .capped;
     }

@@ -6,3 +6,4 @@ pub mod RideStops
 pub mod Riders
 pub mod LeastSettled
 pub mod PaidBounds
+pub mod FrontierStops
