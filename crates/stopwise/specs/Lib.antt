@@ -7,3 +7,4 @@ pub mod Riders
 pub mod LeastSettled
 pub mod PaidBounds
 pub mod FrontierStops
+pub mod Marks

@@ -15,7 +15,7 @@ use Rattle.timetable.specs.Access.{station-is, trip-is, trip-long, stop-is, tri
 use Rattle.lists.specs.Lists.{_∈_}
 use Rattle.lists.specs.Tests.{either}
 use Rattle.connections.specs.Rides.{Ride, noStop, ridePoints, rideAt}
-use Rattle.connections.specs.Connections.{Change, Net, net, noStation, changeAt}
+use Rattle.connections.specs.Connections.{Change, Net, net, Changes, ready, noStation, changeAt}
 use Rattle.connections.specs.RideLaws.{Taken, rides-in, rides-out, changes-in, changes-out, points-split, points-more}
 use Rattle.connections.specs.Sound.{Sound, sound}
 use Rattle.stopwise.specs.Stopwise.{
@@ -28,6 +28,7 @@ use Rattle.stopwise.specs.Stopwise.{
   Goes,
   Ridden,
   ridden,
+  Catches,
 }
 
 abbrev pub netOf : List ℕ → Net
@@ -35,6 +36,10 @@ netOf w = net (timetableOf w)
 
 -- ---- what is paid on a ride
 module _ (w : List ℕ) where
+  pub ridden-none : (i : ℕ) → ridden w i 0 ≡ 0
+  unfolding ridden
+  ridden-none i = refl
+
   pub ridden-one : (i : ℕ) → ridden w i 1 ≡ points w i
   unfolding ridden
   ridden-one i = omega arith
@@ -92,8 +97,8 @@ module _ (w : List ℕ) where
 
   pub record StopsOf (r : Ride) : Type 0 where
     pub i : ℕ
-    pub n : ℕ
-    pub same : SameRide r i n
+    pub m : ℕ
+    pub same : SameRide r i (suc m)
 
   -- this change is that of station c
   pub record SameChange (x : Change) (c : ℕ) : Type 0 where
@@ -225,21 +230,21 @@ module _ (w : List ℕ) (yes : isTimetable w ≡ true) where
 
   -- each ride is taken so
   pub stops-of : (r : Ride) → r ∈ (netOf w) .rides → StopsOf w r
-  stops-of r m =
-      let k = rides-out ((timetableOf w) .trips) r m in
+  stops-of r h =
+      let k = rides-out ((timetableOf w) .trips) r h in
       let z = k .z in
       let l = k .later in
-      let h : z < tripCount w = omega (arith, length-trips w, k .listed) in
-      let n = k .y - k .x in
-      let e : k .x + n ≡ k .y = omega arith in
+      let there : z < tripCount w = omega (arith, length-trips w, k .listed) in
+      let m = k .y - suc (k .x) in
+      let e : k .x + suc m ≡ k .y = omega arith in
       record {
         i = startAt w z + k .x;
-        n = n;
+        m = m;
         same =
             subst
-            (λ r. SameRide w r (startAt w z + k .x) n)
-            (ap (rideAt (trip z h) z (k .x)) e ∙ k .is)
-            (ride-there z h (k .x) n (omega arith) (omega (arith, k .inside)));
+            (λ r. SameRide w r (startAt w z + k .x) (suc m))
+            (ap (rideAt (trip z there) z (k .x)) e ∙ k .is)
+            (ride-there z there (k .x) (suc m) (omega arith) (omega (arith, k .inside)));
       }
 
   -- ---- changes
@@ -271,3 +276,20 @@ module _ (w : List ℕ) (yes : isTimetable w ≡ true) where
       let k = changes-out ((timetableOf w) .stations) x m in
       let s = change-there (k .0) (omega (arith, length-stations w, k .1)) in
       subst (λ x. SameChange w x (x .from)) (k .2) s
+
+  -- who came by a ride to stop j and changes by x can board at stop g
+  pub catches-of : (r : Ride) (x : Change) (j g : ℕ) → Changes (netOf w) r x → r .to ≡ station w j
+      → r .arrive ≡ arrive w j → Goes w g → station w g ≡ x .to → ready r x ≤ depart w g → Catches w j g
+  catches-of r x j g k to comes goes here timely =
+      let s = change-is x (k .listed) in
+      let at : x .from ≡ station w j = k .here ∙ to in
+      record {
+        goes = goes;
+        here = here ∙ s .to ∙ at;
+        timely = omega (arith, timely, comes, s .minutes, ap (changeMinutes w) at);
+      }
+
+  -- and pays what the station asks
+  pub change-costs : (r : Ride) (x : Change) (j : ℕ) → Changes (netOf w) r x → r .to ≡ station w j
+      → x .points ≡ changePoints w (station w j)
+  change-costs r x j k to = change-is x (k .listed) .costs ∙ ap (changePoints w) (k .here ∙ to)

@@ -8,10 +8,11 @@ use Prim.Native.Nat.{ℕ, suc, _+_, _-_, _≤_}
 use native.Mathlib.Omega.{arith}
 use Rattle.timetable.specs.Words.{stationCount, isTimetable, timetableOf}
 use Rattle.timetable.specs.Check.{length-stations}
+use Rattle.lists.specs.Lists.{_∈_}
 use Rattle.connections.specs.Rides.{Ride}
 use Rattle.connections.specs.Connections.{Change, Net}
 use Rattle.reckoning.specs.Along.{Layer, Along, Ends}
-use Rattle.stopwise.specs.Stopwise.{station, arrive, depart, changeMinutes, changePoints, Goes}
+use Rattle.stopwise.specs.Stopwise.{station, arrive, depart, changeMinutes, changePoints, Goes, Ridden, ridden}
 use Rattle.stopwise.specs.Paid.{Rode, Changed, Paid, Arrived}
 use Rattle.stopwise.specs.RideStops.{
   netOf,
@@ -25,7 +26,8 @@ use Rattle.stopwise.specs.RideStops.{
   stops-of,
   spelled-sound,
   change-of,
-  change-is,
+  catches-of,
+  change-costs,
 }
 
 -- the arrival of a rider of the reckoning, stop by stop
@@ -35,6 +37,18 @@ pub record Ended (w : List ℕ) (a d : ℕ) (rev : List ℕ) (b v p : ℕ) : Typ
   pub arrived : Arrived w a d rev (suc i) p
   pub here : station w (suc i) ≡ b
   pub minute : arrive w (suc i) ≡ v
+
+-- a ride, taken by one who has changed at these stations and paid p before, stop by stop
+pub record Aboard (w : List ℕ) (a d : ℕ) (rev : List ℕ) (r : Ride) (p : ℕ) : Type 0 where
+  pub i : ℕ
+  pub m : ℕ
+  pub rides : Ridden w i (suc m)
+  pub from : r .from ≡ station w i
+  pub to : r .to ≡ station w (suc (i + m))
+  pub leaves : r .depart ≡ depart w i
+  pub comes : r .arrive ≡ arrive w (suc (i + m))
+  pub costs : r .points ≡ ridden w i (suc m)
+  pub arrived : Arrived w a d rev (suc (i + m)) (p + r .points)
 
 module _ (w : List ℕ) (yes : isTimetable w ≡ true) (a d : ℕ) where
   abbrev n : Net
@@ -99,70 +113,78 @@ module _ (w : List ℕ) (yes : isTimetable w ≡ true) (a d : ℕ) where
   abbrev ToPaid : List ℕ → Type 0
   ToPaid rev = (g p : ℕ) → Goes w g → Along n a d rev (station w g) (depart w g) p → Paid w a d rev g p
 
-  ends-to : (rev : List ℕ) → ToPaid rev → (b v p : ℕ) → Ends n a d rev b v p → Ended w a d rev b v p
-  ends-to rev paid b v p e =
-      let k = stops-of w yes (e .ride) (e .listed) in
+  ride-from : (rev : List ℕ) → ToPaid rev → (r : Ride) (p : ℕ) → r ∈ n .rides
+      → Along n a d rev (r .from) (r .depart) p → Aboard w a d rev r p
+  ride-from rev paid r p l h =
+      let k = stops-of w yes r l in
       let s = k .same in
-      let o = s .some in
-      let below : Along n a d rev (station w (k .i)) (depart w (k .i)) (e .paid) =
-      along-at rev (e .paid) (s .from) (s .leaves) (e .below) in
-      let g = ridden-goes w (k .i) (k .n) o (s .rides) in
-      let last : k .i + (k .n - 1) ≡ k .i + k .n - 1 = omega arith in
-      let end : k .i + k .n ≡ suc (k .i + k .n - 1) = omega arith in
+      let g = ridden-goes w (k .i) (suc (k .m)) (s .some) (s .rides) in
+      let end : k .i + suc (k .m) ≡ suc (k .i + k .m) = omega arith in
       record {
-        i = k .i + k .n - 1;
-        goes = subst (Goes w) last (s .rides (k .n - 1) (omega arith));
+        i = k .i;
+        m = k .m;
+        rides = s .rides;
+        from = s .from;
+        to = s .to ∙ ap (station w) end;
+        leaves = s .leaves;
+        comes = s .comes ∙ ap (arrive w) end;
+        costs = s .costs;
         arrived =
             record {
               from = k .i;
-              stops = k .n;
-              paid = e .paid;
-              boards = paid (k .i) (e .paid) g below;
-              some = o;
+              stops = suc (k .m);
+              paid = p;
+              boards = paid (k .i) p g (along-at rev p (s .from) (s .leaves) h);
+              some = s .some;
               rides = s .rides;
               to = end;
-              total = omega (arith, e .total, s .costs);
+              total = omega (arith, s .costs);
             };
-        here = ap (station w) (sym end) ∙ sym (s .to) ∙ e .to;
-        minute = ap (arrive w) (sym end) ∙ sym (s .comes) ∙ e .minute;
       }
 
-  -- an arrival before a change
-  change-from : (rev : List ℕ) → ToPaid rev → (c g p : ℕ) → Goes w g
-      → Along n a d (c ∷ rev) (station w g) (depart w g) p → Paid w a d (c ∷ rev) g p
-  change-from rev paid c g p goes h =
-      let r = h .ride in
-      let x = h .change in
-      let s = change-is w yes x (h .changes .listed) in
-      let e = ends-to
-      rev
-      paid
-      (r .to)
-      (r .arrive)
-      (h .paid + r .points)
-      (record {
-        ride = r;
+  ends-to : (rev : List ℕ) → ToPaid rev → (b v p : ℕ) → Ends n a d rev b v p → Ended w a d rev b v p
+  ends-to rev paid b v p e =
+      let k = ride-from rev paid (e .ride) (e .paid) (e .listed) (e .below) in
+      record {
+        i = k .i + k .m;
+        goes = k .rides (k .m) (omega arith);
+        arrived = subst (Arrived w a d rev (suc (k .i + k .m))) (sym (e .total)) (k .arrived);
+        here = sym (k .to) ∙ e .to;
+        minute = sym (k .comes) ∙ e .minute;
+      }
+
+  -- the arrival before a change
+  pub layer-ends : (rev : List ℕ) (c x u p : ℕ) (h : Along n a d (c ∷ rev) x u p)
+      → Ends n a d rev (h .ride .to) (h .ride .arrive) (h .paid + h .ride .points)
+  layer-ends rev c x u p h =
+      record {
+        ride = h .ride;
         paid = h .paid;
         listed = h .listed;
         to = refl;
         minute = refl;
         below = h .below;
         total = refl;
-      }) in
-      let here : station w (suc (e .i)) ≡ x .from = e .here ∙ sym (h .changes .here) in
-      let m = ap (changeMinutes w) here in
+      }
+
+  change-from : (rev : List ℕ) → ToPaid rev → (c g p : ℕ) → Goes w g
+      → Along n a d (c ∷ rev) (station w g) (depart w g) p → Paid w a d (c ∷ rev) g p
+  change-from rev paid c g p goes h =
+      let r = h .ride in
+      let x = h .change in
+      let q = h .paid + r .points in
+      let e = ends-to rev paid (r .to) (r .arrive) q (layer-ends rev c (station w g) (depart w g) p h) in
+      let j = suc (e .i) in
+      let here : station w j ≡ c = e .here ∙ sym (h .changes .here) ∙ h .at in
+      let costs = change-costs w yes r x j (h .changes) (sym (e .here)) in
       record {
-        at = suc (e .i);
-        before = h .paid + r .points;
+        at = j;
+        before = q;
         rode = e .arrived;
-        here = here ∙ h .at;
+        here = here;
         catches =
-            record {
-              goes = goes;
-              here = sym (h .to) ∙ s .to ∙ sym here;
-              timely = omega (arith, h .timely, e .minute, m, s .minutes);
-            };
-        total = omega (arith, h .total, s .costs, ap (changePoints w) (h .at));
+            catches-of w yes r x j g (h .changes) (sym (e .here)) (sym (e .minute)) goes (sym (h .to)) (h .timely);
+        total = omega (arith, h .total, costs, ap (changePoints w) here);
       }
 
   paid-from : (rev : List ℕ) → ToPaid rev
@@ -180,3 +202,7 @@ module _ (w : List ℕ) (yes : isTimetable w ≡ true) (a d : ℕ) where
 
   pub ends-arrived : (rev : List ℕ) (b v p : ℕ) → Ends (netOf w) a d rev b v p → Ended w a d rev b v p
   ends-arrived rev b v p e = ends-to rev (paid-from rev) b v p e
+
+  pub aboard : (rev : List ℕ) (r : Ride) (p : ℕ) → r ∈ (netOf w) .rides
+      → Along (netOf w) a d rev (r .from) (r .depart) p → Aboard w a d rev r p
+  aboard rev r p l h = ride-from rev (paid-from rev) r p l h
