@@ -12,10 +12,10 @@ use Rattle.timetable.specs.Words.{isTimetable}
 use Rattle.lists.specs.Tests.{either}
 use Rattle.reckoning.specs.Along.{Arrives, Frontier}
 use Rattle.stopwise.specs.Stopwise.{station, arrive, unreached, Goes}
-use Rattle.stopwise.specs.Paid.{Arrived, Arrives as ArrivesAt, LeastArrivals, OnFrontier}
+use Rattle.stopwise.specs.Paid.{Arrived, LeastArrivals, OnFrontier}
 use Rattle.stopwise.specs.Settled.{Timely}
 use Rattle.stopwise.specs.RideStops.{netOf}
-use Rattle.stopwise.specs.Riders.{Ended, arrived-ends, ends-arrived}
+use Rattle.stopwise.specs.Riders.{arrived-ends, ends-arrived}
 use Rattle.stopwise.specs.PaidBounds.{arrived-most}
 
 -- an arrival is on the frontier, and p is what v has there
@@ -48,7 +48,8 @@ module _ (w : List ℕ) (yes : isTimetable w ≡ true) (a d : ℕ) (v : List ℕ
       → Arrives (netOf w) a d (station w (suc i)) (arrive w (suc i)) (getD v (suc i) 0)
   reaches i g h =
       let z = least .attained i g h in
-      record { changed = z .changed; ends = arrived-ends w yes a d (z .changed) (suc i) (getD v (suc i) 0) (z .arrived) }
+      let r = z .changed in
+      record { changed = r; ends = arrived-ends w yes a d r (suc i) (getD v (suc i) 0) (z .arrived) }
 
   pub on-frontier-lies : (i : ℕ) → OnFrontier w a v (suc i)
       → Frontier (netOf w) a d (station w (suc i)) (arrive w (suc i)) (getD v (suc i) 0)

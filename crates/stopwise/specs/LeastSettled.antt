@@ -7,7 +7,17 @@ use mathlib.Core.List.{List, [], _∷_}
 use Prim.Native.Nat.{ℕ, zero, suc, _+_, _-_, _≤_, _<_}
 use native.Mathlib.Omega.{arith}
 use lib.ListN.{getD}
-use Rattle.stopwise.specs.Stopwise.{station, depart, points, changePoints, unreached, Goes, Ridden, ridden, Catches}
+use Rattle.stopwise.specs.Stopwise.{
+  station,
+  depart,
+  points,
+  changePoints,
+  unreached,
+  Goes,
+  Ridden,
+  ridden,
+  Catches,
+}
 use Rattle.stopwise.specs.Paid.{Changed, Paid, Arrived, Arrives, LeastArrivals}
 use Rattle.stopwise.specs.Settled.{FromStart, FromStop, FromChange, Settled, Timely}
 use Rattle.stopwise.specs.RideStops.{ridden-one, ridden-more, ridden-once, ridden-on}

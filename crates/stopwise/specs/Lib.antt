@@ -8,3 +8,5 @@ pub mod LeastSettled
 pub mod PaidBounds
 pub mod FrontierStops
 pub mod Marks
+pub mod StoredMarks
+pub mod Visits

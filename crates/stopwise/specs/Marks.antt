@@ -8,19 +8,17 @@ use Prim.Native.Nat.{ℕ, zero, suc, _+_, _≤_, _<_}
 use native.Mathlib.Omega.{arith}
 use lib.ListN.{getD}
 use Rattle.timetable.specs.Words.{isTimetable}
-use Rattle.lists.specs.Lists.{_∈_}
-use Rattle.connections.specs.Rides.{Ride}
-use Rattle.connections.specs.Connections.{Change, Net, Connection, direct, onward, Boards, Changes, Feasible, ready}
+use Rattle.connections.specs.Connections.{Net, Connection, direct, onward, Feasible, ready}
 use Rattle.connections.specs.Connections.{arrival, penalty, stations}
 use Rattle.connections.specs.Feasibility.{earlier, has-stations}
 use Rattle.connections.specs.Sound.{Sound}
 use Rattle.reckoning.specs.Along.{Along, Ends, Frontier}
-use Rattle.reckoning.specs.AlongLaws.{boards-at, boarded, changed, join}
+use Rattle.reckoning.specs.AlongLaws.{boarded, changed, join}
 use Rattle.reckoning.specs.Frontiers.{arrives}
 use Rattle.reckoning.specs.Sets.{Way}
 use Rattle.reckoning.specs.Continuing.{Closing, Continuing, continuing-exactly}
 use Rattle.stopwise.specs.Stopwise.{station, arrive, depart, points, changePoints, Goes, Ridden, ridden, Catches}
-use Rattle.stopwise.specs.Paid.{Paid, Arrived, LeastArrivals, OnFrontier}
+use Rattle.stopwise.specs.Paid.{Paid, Arrived, LeastArrivals}
 use Rattle.stopwise.specs.Prospects.{Allows, Onto, OnwardIn, Onward, GoesOn, Ends as EndsWell}
 use Rattle.stopwise.specs.Settled.{Timely}
 use Rattle.stopwise.specs.RideStops.{
@@ -85,11 +83,11 @@ module _
     abbrev n : Net
     n = netOf w
 
-    ok : Sound (netOf w)
+    abbrev ok : Sound (netOf w)
     ok = spelled-sound w yes
 
     -- ---- ends
-    ends-closes : (rev : List ℕ) (b : ℕ) → EndsWell w a d e rev b → Closing n (spelled-sound w yes) a d rev b × (b ≢ a)
+    ends-closes : (rev : List ℕ) (b : ℕ) → EndsWell w a d e rev b → Closing n ok a d rev b × (b ≢ a)
     ends-closes rev b h =
         let j = suc (h .i) in
         let k = allows .within (h .i) (h .paid) (h .goes) .0 (h .within) in
@@ -118,7 +116,7 @@ module _
         let l = lies-on-frontier w yes a d v least timely rev i p g h at (λ q. other (sym here ∙ q)) in
         allows .within i p g .1 (l .on, omega (arith, l .is))
 
-    closes-ends : (rev : List ℕ) (b : ℕ) → Closing n (spelled-sound w yes) a d rev b → b ≢ a → EndsWell w a d e rev b
+    closes-ends : (rev : List ℕ) (b : ℕ) → Closing n ok a d rev b → b ≢ a → EndsWell w a d e rev b
     closes-ends rev b h other =
         let k = ends-arrived w yes a d rev b (h .minute) (h .paid) (h .ends) in
         record {

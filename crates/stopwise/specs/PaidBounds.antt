@@ -1,5 +1,5 @@
--- No one on the way has paid 3,166,901 points, stop by stop: a stop ridden from costs 100 points at the most and takes a
--- minute at least, and each change, which costs 1,000 at the most, comes after a minute of a ride.
+-- No one on the way has paid 3,166,901 points, stop by stop: a stop ridden from costs 100 points at the most and takes
+-- a minute at least, and each change, which costs 1,000 at the most, comes after a minute of a ride.
 use mathlib.Core.Path.{_≡_, ap, subst}
 use mathlib.Core.List.{List, [], _∷_}
 use Prim.Native.Nat.{ℕ, zero, suc, _+_, _*_, _≤_, _<_}
@@ -16,16 +16,16 @@ module _ (w : List ℕ) (timely : Timely w) where
     pub forward : depart w i < arrive w (suc (i + k))
     pub cheap : ridden w i (suc k) + 100 * depart w i ≤ 100 * arrive w (suc (i + k))
 
-  pub ride-cheap : (k i : ℕ) → Ridden w i (suc k) → Cheap i k
-  ride-cheap zero i r =
+  pub stops-cheap : (k i : ℕ) → Ridden w i (suc k) → Cheap i k
+  stops-cheap zero i r =
       let e : i + 0 ≡ i = omega arith in
       let g = subst (Goes w) e (r 0 (omega arith)) in
       let to = ap (λ j. arrive w (suc j)) e in
       let forward = timely .before i g in
       record { forward = omega arith; cheap = omega (arith, timely .cheap i g, ridden-one w i) }
-  ride-cheap (suc k) i r =
+  stops-cheap (suc k) i r =
       let e : i + suc k ≡ suc (i + k) = omega arith in
-      let b = ride-cheap k i (λ j h. r j (omega arith)) in
+      let b = stops-cheap k i (λ j h. r j (omega arith)) in
       let g = subst (Goes w) e (r (suc k) (omega arith)) in
       let waits = timely .waits (i + k) (r k (omega arith)) g in
       let forward = timely .before (suc (i + k)) g in
@@ -50,7 +50,7 @@ module _ (w : List ℕ) (timely : Timely w) where
             → p + 1100 * d + 1000 ≤ 1100 * arrive w j
         go zero o r e t = absurd (omega arith)
         go (suc k) o r e t =
-            let c = ride-cheap k (h .from) r in
+            let c = stops-cheap k (h .from) r in
             let f : suc (h .from + k) ≡ j = omega (arith, e) in
             let to = ap (arrive w) f in
             omega (arith, c .forward, c .cheap, t, rate (h .from) (h .paid) (h .boards))

@@ -8,15 +8,15 @@ use native.Mathlib.Numerals.{add-one}
 use native.Mathlib.Omega.{arith}
 use lib.Dec.{T, leb, ltb, leb→le, ltb→lt, nltb→le, nleb→lt}
 use lib.ListN.{length, getD}
-use Rattle.timetable.specs.Timetable.{Trip, valid}
-use Rattle.timetable.specs.Words.{stationCount, tripCount, stationAt, stopAt, startAt, tripAt, timetableOf, isTimetable}
+use Rattle.timetable.specs.Timetable.{Trip}
+use Rattle.timetable.specs.Words.{stationCount, tripCount, stationAt, stopAt, startAt, timetableOf, isTimetable}
 use Rattle.timetable.specs.Check.{length-stations, length-trips}
 use Rattle.timetable.specs.Access.{station-is, trip-is, trip-long, stop-is, trip-stops, spelled-valid}
 use Rattle.lists.specs.Lists.{_∈_}
 use Rattle.lists.specs.Tests.{either}
 use Rattle.connections.specs.Rides.{Ride, noStop, ridePoints, rideAt}
 use Rattle.connections.specs.Connections.{Change, Net, net, Changes, ready, noStation, changeAt}
-use Rattle.connections.specs.RideLaws.{Taken, rides-in, rides-out, changes-in, changes-out, points-split, points-more}
+use Rattle.connections.specs.RideLaws.{rides-in, rides-out, changes-in, changes-out, points-split, points-more}
 use Rattle.connections.specs.Sound.{Sound, sound}
 use Rattle.stopwise.specs.Stopwise.{
   station,
@@ -266,10 +266,8 @@ module _ (w : List ℕ) (yes : isTimetable w ≡ true) where
   pub change-of : (c : ℕ) → 1 ≤ c → c ≤ stationCount w → ChangeOf w c
   change-of c h g =
       let e : suc (c - 1) ≡ c = omega arith in
-      record {
-        change = changeAt ((timetableOf w) .stations) (c - 1);
-        same = subst (SameChange w (changeAt ((timetableOf w) .stations) (c - 1))) e (change-there (c - 1) (omega arith));
-      }
+      let x = changeAt ((timetableOf w) .stations) (c - 1) in
+      record { change = x; same = subst (SameChange w x) e (change-there (c - 1) (omega arith)) }
 
   pub change-is : (x : Change) → x ∈ (netOf w) .changes → SameChange w x (x .from)
   change-is x m =

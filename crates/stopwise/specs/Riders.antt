@@ -4,24 +4,19 @@ use mathlib.Core.Path.{_≡_, refl, sym, ap, subst, _∙_}
 use mathlib.Core.Bool.{true}
 use mathlib.Core.Logic.{_↔_}
 use mathlib.Core.List.{List, [], _∷_}
-use Prim.Native.Nat.{ℕ, suc, _+_, _-_, _≤_}
+use Prim.Native.Nat.{ℕ, suc, _+_, _≤_}
 use native.Mathlib.Omega.{arith}
-use Rattle.timetable.specs.Words.{stationCount, isTimetable, timetableOf}
+use Rattle.timetable.specs.Words.{stationCount, isTimetable}
 use Rattle.timetable.specs.Check.{length-stations}
 use Rattle.lists.specs.Lists.{_∈_}
 use Rattle.connections.specs.Rides.{Ride}
-use Rattle.connections.specs.Connections.{Change, Net}
-use Rattle.reckoning.specs.Along.{Layer, Along, Ends}
+use Rattle.connections.specs.Connections.{Net}
+use Rattle.reckoning.specs.Along.{Along, Ends}
 use Rattle.stopwise.specs.Stopwise.{station, arrive, depart, changeMinutes, changePoints, Goes, Ridden, ridden}
-use Rattle.stopwise.specs.Paid.{Rode, Changed, Paid, Arrived}
+use Rattle.stopwise.specs.Paid.{Changed, Paid, Arrived}
 use Rattle.stopwise.specs.RideStops.{
   netOf,
   ridden-goes,
-  SameRide,
-  RideOf,
-  StopsOf,
-  SameChange,
-  ChangeOf,
   ride-of,
   stops-of,
   spelled-sound,
