@@ -1,0 +1,3 @@
+pub mod Parts
+pub mod Ways
+pub mod Passed
