@@ -1,3 +1,5 @@
 pub mod Parts
 pub mod Ways
+pub mod Zeros
 pub mod Passed
+pub mod Routes

@@ -50,6 +50,10 @@ abbrev pub Caught : (w first : List ℕ) → Type 0
 Caught w first = (i : ℕ) → Goes w i → getD first (suc i) 0 ≡ catch w (suc i)
 
 module _ (w e : List ℕ) (d : ℕ) where
+  -- one who leaves stop i from minute d on ends well if they have paid less than word i
+  abbrev pub Limits : (leaving : List ℕ) → Type 0
+  Limits leaving = (i x : ℕ) → Goes w i → d ≤ depart w i → (x < getD leaving i 0) ↔ Onward w e i x
+
   -- one of the list leaves station c from minute d on, and one who boards there, having paid x, ends well
   pub record Later (l : List ℕ) (c x : ℕ) : Type 0 where
     pub g : ℕ
@@ -148,7 +152,7 @@ module _ (w e first : List ℕ) (d : ℕ) (t : Timely w) (o : InOrder w) (is-fir
 
   -- all were passed
   module _ (q leaving high : List ℕ) (p : Passed w e d (order w) q leaving high) where
-    pub passed-all : (i x : ℕ) → Goes w i → d ≤ depart w i → (x < getD leaving i 0) ↔ Onward w e i x
+    pub passed-all : Limits w e d leaving
     passed-all i x g h = p .well i x (o .all i g) h
 
     passed-there : (i x : ℕ) → Goes w i → d ≤ depart w i → catch w (suc i) < nowhere
