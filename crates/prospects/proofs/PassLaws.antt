@@ -7,7 +7,7 @@ use native.Mathlib.Omega.{arith}
 use native.Mathlib.Numerals.{add-one}
 use borrow.Author.Tests.{lt-ltb, le-ltb}
 use lib.Dec.{ltb}
-use lib.ListN.{length, getD, take, drop, set, take-append-drop}
+use lib.ListN.{length, getD, take, drop, set, replicate, take-append-drop, drop-of-length-le}
 use lib.Seq.{length-take-le, getD-take, drop-cons}
 use Rattle.lists.specs.Lists.{_∈_}
 use Rattle.timetable.specs.Timetable.{Station, Stop}
@@ -15,7 +15,19 @@ use Rattle.timetable.specs.Words.{stationCount, stationAt, stopAt}
 use Rattle.timetable.specs.Access.{stations-few}
 use Rattle.chains.specs.Order.{order, catch}
 use Rattle.stopwise.specs.Stopwise.{station, depart, points, changePoints, nowhere, Goes}
-use Rattle.prospects.specs.Passed.{Passed, ontoBound, leaveBound, passed-early, passed-more}
+use Rattle.prospects.specs.Passed.{
+  Limits,
+  Passed,
+  ontoBound,
+  leaveBound,
+  passed-none,
+  passed-early,
+  passed-more,
+  passed-all,
+  passed-bounded,
+}
+use Rattle.prospects.specs.Zeros.{ZeroTo, zero-each, zero-replicate}
+use Rattle.stopwise.specs.Prospects.{Bounded}
 use Rattle.prospects.specs.Routes.{Routes}
 
 module _ (w first q : List ℕ) (j f : ℕ) (is-f : f ≡ getD first j 0) where
@@ -136,3 +148,34 @@ module _
             (passed-more w e first d (r .timely) (r .ordered) (r .caught) (take p (order w)) (drop (p + 1) (order w)) q
             leaving high i parts known (rw is-s at timely) b h is-b (rw is-s at is-h) long-q long-leaving long-high
             stations-most))
+
+-- ---- the pass
+module _ (w departures first : List ℕ) (n : ℕ) (r : Routes w departures n first) (e : List ℕ) (d : ℕ) where
+  pub pass-first : (q leaving old : List ℕ) → length old ≡ 2048 → ZeroTo (length old) leaving
+      → length leaving ≡ length old
+      → Passed w e d (drop n (order w)) q leaving (replicate 65 0)
+  pass-first q leaving old long zeros same =
+      let none : drop n (order w) ≡ [] =
+      drop-of-length-le (order w) {i = n}
+      (omega (arith, ap length (r .departing), length-take-le n departures (r .within))) in
+      subst (λ l. Passed w e d l q leaving (replicate 65 0)) (sym none)
+      (passed-none w e d q leaving (replicate 65 0) (zero-each leaving (length old) same zeros) (zero-replicate 65))
+
+  pub pass-next : (q leaving high : List ℕ) (p : ℕ) → 0 < p → Passed w e d (drop p (order w)) q leaving high
+      → Passed w e d (drop (p - 1 + 1) (order w)) q leaving high
+  pass-next q leaving high p h k =
+      let back : p ≡ p - 1 + 1 = omega arith in
+      subst (λ m. Passed w e d (drop m (order w)) q leaving high) back k
+
+  module _ (q leaving high : List ℕ) (p : ℕ) (done : p ≤ 0)
+      (k : Passed w e d (drop p (order w)) q leaving high) where
+    all : Passed w e d (order w) q leaving high
+    all =
+        let none : p ≡ 0 = omega arith in
+        subst (λ m. Passed w e d (drop m (order w)) q leaving high) none k
+
+    pub passes-all : Limits w e d leaving
+    passes-all = passed-all w e first d (r .timely) (r .ordered) (r .caught) q leaving high all
+
+    pub passes-bounded : Bounded w e d first q
+    passes-bounded = passed-bounded w e first d (r .timely) (r .ordered) (r .caught) q leaving high all
