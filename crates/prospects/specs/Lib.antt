@@ -3,3 +3,4 @@ pub mod Ways
 pub mod Zeros
 pub mod Passed
 pub mod Routes
+pub mod Arrivals
