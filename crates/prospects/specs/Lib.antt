@@ -4,3 +4,4 @@ pub mod Zeros
 pub mod Passed
 pub mod Routes
 pub mod Arrivals
+pub mod Front
