@@ -5,3 +5,4 @@ pub mod Passed
 pub mod Routes
 pub mod Arrivals
 pub mod Front
+pub mod Allowing
