@@ -143,7 +143,7 @@ module _
             (sym left)
             (subst
             (λ (z : Stop).
-              Passed w e d (i ∷ drop (p + 1) (order w)) (set q i h) (set leaving i b) (set high (z .station) h))
+            Passed w e d (i ∷ drop (p + 1) (order w)) (set q i h) (set leaving i b) (set high (z .station) h))
             (sym is-s)
             (passed-more w e first d (r .timely) (r .ordered) (r .caught) (take p (order w)) (drop (p + 1) (order w)) q
             leaving high i parts known (rw is-s at timely) b h is-b (rw is-s at is-h) long-q long-leaving long-high

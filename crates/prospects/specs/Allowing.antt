@@ -75,29 +75,29 @@ module _ (w : List ℕ) (a : ℕ) (v : List ℕ) (t : Timely w) where
             elsewhere = (λ z. absurd (omega (arith, e .below, top-here c a (sym h ∙ z))));
             reached =
                 elim (ℕ-discrete c a) [
-                  yes z ↦ absurd (omega (arith, e .below, top-here c a z))
-                | no z ↦ omega (arith, e .below, top-other c a z, same i g h)
+                  | yes z ↦ absurd (omega (arith, e .below, top-here c a z))
+                  | no z ↦ omega (arith, e .below, top-other c a z, same i g h)
                 ];
             least =
                 (λ j b z late.
-                  let p = place j b (z ∙ h) in
-                  omega (
-                    arith,
-                    e .least (p .r) (p .from) (p .to) (subst (λ m. arrive w m ≤ arrive w (suc i)) (p .is) late),
-                    ap (λ m. getD v′ m 0) (p .is),
-                    same i g h,
-                    same j b (z ∙ h),
-                  ));
+                let p = place j b (z ∙ h) in
+                omega (
+                  arith,
+                  e .least (p .r) (p .from) (p .to) (subst (λ m. arrive w m ≤ arrive w (suc i)) (p .is) late),
+                  ap (λ m. getD v′ m 0) (p .is),
+                  same i g h,
+                  same j b (z ∙ h),
+                ));
             first =
                 (λ j b z late.
-                  let p = place j b (z ∙ h) in
-                  omega (
-                    arith,
-                    e .first (p .r) (p .from) (p .to) (subst (λ m. arrive w m < arrive w (suc i)) (p .is) late),
-                    ap (λ m. getD v′ m 0) (p .is),
-                    same i g h,
-                    same j b (z ∙ h),
-                  ));
+                let p = place j b (z ∙ h) in
+                omega (
+                  arith,
+                  e .first (p .r) (p .from) (p .to) (subst (λ m. arrive w m < arrive w (suc i)) (p .is) late),
+                  ap (λ m. getD v′ m 0) (p .is),
+                  same i g h,
+                  same j b (z ∙ h),
+                ));
           }
 
       from-frontier : OnFrontier w a v (suc i) → Here
@@ -106,28 +106,28 @@ module _ (w : List ℕ) (a : ℕ) (v : List ℕ) (t : Timely w) where
             below = omega (arith, e .reached, top-other c a (λ z. e .elsewhere (h ∙ z)), same i g h);
             least =
                 (λ r from to late.
-                  let p = arrives-at w arrivals first s c some listed r from to in
-                  let here : station w (suc (p .i)) ≡ c = ap (station w) (p .next) ∙ p .here in
-                  omega (
-                    arith,
-                    e .least (p .i) (p .goes) (here ∙ sym h)
-                    (subst (λ m. arrive w m ≤ arrive w (suc i)) (sym (p .next)) late),
-                    ap (λ m. getD v′ m 0) (p .next),
-                    same i g h,
-                    same (p .i) (p .goes) here,
-                  ));
+                let p = arrives-at w arrivals first s c some listed r from to in
+                let here : station w (suc (p .i)) ≡ c = ap (station w) (p .next) ∙ p .here in
+                omega (
+                  arith,
+                  e .least (p .i) (p .goes) (here ∙ sym h)
+                      (subst (λ m. arrive w m ≤ arrive w (suc i)) (sym (p .next)) late),
+                  ap (λ m. getD v′ m 0) (p .next),
+                  same i g h,
+                  same (p .i) (p .goes) here,
+                ));
             first =
                 (λ r from to late.
-                  let p = arrives-at w arrivals first s c some listed r from to in
-                  let here : station w (suc (p .i)) ≡ c = ap (station w) (p .next) ∙ p .here in
-                  omega (
-                    arith,
-                    e .first (p .i) (p .goes) (here ∙ sym h)
-                    (subst (λ m. arrive w m < arrive w (suc i)) (sym (p .next)) late),
-                    ap (λ m. getD v′ m 0) (p .next),
-                    same i g h,
-                    same (p .i) (p .goes) here,
-                  ));
+                let p = arrives-at w arrivals first s c some listed r from to in
+                let here : station w (suc (p .i)) ≡ c = ap (station w) (p .next) ∙ p .here in
+                omega (
+                  arith,
+                  e .first (p .i) (p .goes) (here ∙ sym h)
+                      (subst (λ m. arrive w m < arrive w (suc i)) (sym (p .next)) late),
+                  ap (λ m. getD v′ m 0) (p .next),
+                  same i g h,
+                  same (p .i) (p .goes) here,
+                ));
           }
 
       this-station : (x : ℕ) → (x < getD v″ (suc i) 0) ↔ (OnFrontier w a v (suc i) × (x ≤ getD v (suc i) 0))
@@ -136,28 +136,29 @@ module _ (w : List ℕ) (a : ℕ) (v : List ℕ) (t : Timely w) where
           let known : (x < getD v″ (suc i) 0) ↔ (Here × (x ≤ getD v′ (suc i) 0)) =
           subst
           (λ m.
-            (x < getD v″ m 0)
-            ↔ (Front w arrivals (getD first c 0) (getD first (c + 1) 0) (topOf c a) v′ m × (x ≤ getD v′ m 0)))
+          (x < getD v″ m 0)
+          ↔ (Front w arrivals (getD first c 0) (getD first (c + 1) 0) (topOf c a) v′ m × (x ≤ getD v′ m 0)))
           (sym (p .is))
-          (f .at (p .r) x (p .from) (p .to)) in
-          (λ e. let d = known .0 e in (to-frontier (d .0), omega (arith, d .1, same i g h)),
-          λ e. known .1 (from-frontier (e .0), omega (arith, e .1, same i g h)))
+          (f .at (p .r) x (p .from) (p .to)) in (
+            λ e. let d = known .0 e in (to-frontier (d .0), omega (arith, d .1, same i g h)),
+            λ e. known .1 (from-frontier (e .0), omega (arith, e .1, same i g h)),
+          )
 
     other-station : (i : ℕ) → Goes w i → station w (suc i) ≢ c → getD v″ (suc i) 0 ≡ getD v′ (suc i) 0
     other-station i g n =
         f .off (suc i)
         (λ r from to z.
-          n (ap (station w) z ∙ arrives-at w arrivals first s c some listed r from to .here))
+        n (ap (station w) z ∙ arrives-at w arrivals first s c some listed r from to .here))
 
     pub allowing-more : Allowing w a v (c + 1) v″
     allowing-more =
         record {
           at =
               (λ i x g h.
-                elim (ℕ-discrete (station w (suc i)) c) [
-                  yes z ↦ this-station i g z x
+              elim (ℕ-discrete (station w (suc i)) c) [
+                | yes z ↦ this-station i g z x
                 | no z ↦ rw (other-station i g z) (k .at i x g (omega arith))
-                ]);
+              ]);
           off = (λ i g h. other-station i g (λ z. omega arith) ∙ k .off i g (omega arith));
           long = f .long ∙ k .long;
         }

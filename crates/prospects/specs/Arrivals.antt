@@ -73,18 +73,22 @@ placed-within (suc n) l f t k e h m =
     (subst (λ x. k ∈ x) (slice-cons f t l 0 (omega arith) h) m)
     (λ z. record { r = f; from = omega arith; to = omega arith; is = z })
     (λ j.
-      let p = placed-within n l (suc f) t k (omega arith) h j in
-      record { r = p .r; from = omega (arith, p .from); to = p .to; is = p .is })
+    let p = placed-within n l (suc f) t k (omega arith) h j in
+    record { r = p .r; from = omega (arith, p .from); to = p .to; is = p .is })
 
 pub placed : (l : List ℕ) (f t k : ℕ) → f ≤ t → t ≤ length l → k ∈ slice f t l → Placed l f t k
 placed l f t k a b m = placed-within (t - f) l f t k (omega arith) b m
 
--- a part of the array, place by place
-pub record Run (w arrivals : List ℕ) (from end : ℕ) : Type 0 where
+-- a part of the array, place by place: each stop stands there once
+pub record Held (arrivals : List ℕ) (from end : ℕ) : Type 0 where
   pub ordered : from ≤ end
   pub inside : end ≤ length arrivals
   pub stop : (r : ℕ) → from ≤ r → r < end → getD arrivals r 0 < 2048
   pub once : (r s : ℕ) → from ≤ r → r < s → s < end → getD arrivals s 0 ≢ getD arrivals r 0
+
+-- and the minutes rise
+pub record Run (w arrivals : List ℕ) (from end : ℕ) : Type 0 where
+  pub held : Held arrivals from end
   pub rising : (r s : ℕ) → from ≤ r → r < s → s < end → arrive w (getD arrivals r 0) ≤ arrive w (getD arrivals s 0)
 
 module _ (w arrivals first : List ℕ) (a : Arrivals w arrivals first) (c : ℕ) (some : 1 ≤ c)
@@ -108,22 +112,28 @@ module _ (w arrivals first : List ℕ) (a : Arrivals w arrivals first) (c : ℕ)
   behind : (r s : ℕ) → from ≤ r → r < s → s < end → getD arrivals s 0 ∈ slice (suc r) end arrivals
   behind r s h g k = slice-in arrivals (suc r) s end g k room
 
-  pub run-of : Timely w → Run w arrivals (getD first c 0) (getD first (c + 1) 0)
-  run-of t =
+  held-of : Timely w → Held arrivals (getD first c 0) (getD first (c + 1) 0)
+  held-of t =
       record {
         ordered = a .rises c some listed;
         inside = room;
         stop =
             (λ r h g.
-              let k = arrives-at r h g in
-              omega (arith, k .next, t .few (k .i) (k .goes), t .stops));
+            let k = arrives-at r h g in
+            omega (arith, k .next, t .few (k .i) (k .goes), t .stops));
         once =
             (λ r s h g k z.
-              distinct-rest (slice from r arrivals) (getD arrivals r 0 ∷ slice (suc r) end arrivals)
-              (subst Distinct (parts r h (omega arith)) (a .once c some listed)) .0
-              (Memᴰ·cast (sym z) (behind r s h g k)));
+            distinct-rest (slice from r arrivals) (getD arrivals r 0 ∷ slice (suc r) end arrivals)
+            (subst Distinct (parts r h (omega arith)) (a .once c some listed)) .0
+            (Memᴰ·cast (sym z) (behind r s h g k)));
+      }
+
+  pub run-of : Timely w → Run w arrivals (getD first c 0) (getD first (c + 1) 0)
+  run-of t =
+      record {
+        held = held-of t;
         rising =
             (λ r s h g k.
-              a .rising c (getD arrivals r 0) (getD arrivals s 0) (slice from r arrivals) (slice (suc r) end arrivals)
-              some listed (parts r h (omega arith)) (behind r s h g k));
+            a .rising c (getD arrivals r 0) (getD arrivals s 0) (slice from r arrivals) (slice (suc r) end arrivals)
+            some listed (parts r h (omega arith)) (behind r s h g k));
       }

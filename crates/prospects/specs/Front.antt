@@ -12,7 +12,7 @@ use lib.Dec.{ltb, eqb}
 use lib.ListN.{length, getD, set, length-set}
 use lib.Seq.{getD-set-same, getD-set-other}
 use Rattle.stopwise.specs.Stopwise.{arrive}
-use Rattle.prospects.specs.Arrivals.{Run}
+use Rattle.prospects.specs.Arrivals.{Held, Run}
 
 -- ---- the least of the words of the arrivals at places from up to to, or top if that is less
 pub record Least (arrivals v : List ℕ) (top from to x : ℕ) : Type 0 where
@@ -32,13 +32,13 @@ module _ (arrivals v : List ℕ) (top from : ℕ) where
         most = omega (arith, l .most);
         below =
             (λ r h g.
-              elim (ℕ-discrete r to) [
-                yes z ↦ omega (arith, ap (λ k. getD v (getD arrivals k 0) 0) z)
+            elim (ℕ-discrete r to) [
+              | yes z ↦ omega (arith, ap (λ k. getD v (getD arrivals k 0) 0) z)
               | no z ↦ omega (arith, l .below r h (omega arith))
-              ]);
+            ]);
         greatest =
             (λ y h g.
-              omega (arith, l .greatest y h (λ r a b. g r a (omega arith)), g to on (omega arith)));
+            omega (arith, l .greatest y h (λ r a b. g r a (omega arith)), g to on (omega arith)));
       }
 
 -- two stretches
@@ -51,14 +51,14 @@ least-join arrivals v v₀ top from mid to x y on off a b same =
       most = omega (arith, a .most, b .most);
       below =
           (λ r h g.
-            elim (decLt r mid) [
-              yes z ↦ omega (arith, b .most, a .below r h z)
+          elim (decLt r mid) [
+            | yes z ↦ omega (arith, b .most, a .below r h z)
             | no z ↦ omega (arith, b .below r (omega arith) g, same r (omega arith) g)
-            ]);
+          ]);
       greatest =
           (λ z h g.
-            b .greatest z (a .greatest z h (λ r i j. g r i (omega arith)))
-            (λ r i j. omega (arith, g r (omega arith) j, same r i j)));
+          b .greatest z (a .greatest z h (λ r i j. g r i (omega arith)))
+          (λ r i j. omega (arith, g r (omega arith) j, same r i j)));
     }
 
 -- ---- the arrivals of the minute of the one at place p: those from p up to q
@@ -78,8 +78,8 @@ module _ (w arrivals : List ℕ) (p : ℕ) where
         later = omega arith;
         same =
             (λ r h g.
-              let here : r ≡ p = omega arith in
-              ap (λ k. arrive w (getD arrivals k 0)) here);
+            let here : r ≡ p = omega arith in
+            ap (λ k. arrive w (getD arrivals k 0)) here);
       }
 
   module _ (q : ℕ) (m : MinuteTo w arrivals p q) where
@@ -90,10 +90,10 @@ module _ (w arrivals : List ℕ) (p : ℕ) where
           later = omega (arith, m .later);
           same =
               (λ r h g.
-                elim (ℕ-discrete r q) [
-                  yes z ↦ ap (λ k. arrive w (getD arrivals k 0)) z ∙ sym is-b ∙ e ∙ is-a
+              elim (ℕ-discrete r q) [
+                | yes z ↦ ap (λ k. arrive w (getD arrivals k 0)) z ∙ sym is-b ∙ e ∙ is-a
                 | no z ↦ m .same r h (omega arith)
-                ]);
+              ]);
         }
 
     pub minute-out : (end : ℕ) → q ≡ end → MinuteEnd w arrivals p end q
@@ -125,12 +125,12 @@ module _ (before low u : ℕ) where
   mark-some : (x : ℕ) → x < markOf before low u → (u < before) × (u ≡ low) × (x ≤ u)
   mark-some x h =
       elim (decLt u before) [
-        yes a ↦
-          elim (ℕ-discrete u low) [
-            yes b ↦ (a, b, omega (arith, mark-low a b))
-          | no b ↦ absurd (omega (arith, mark-other a b))
-          ]
-      | no a ↦ absurd (omega (arith, mark-high (omega arith)))
+        | yes a ↦
+            elim (ℕ-discrete u low) [
+              | yes b ↦ (a, b, omega (arith, mark-low a b))
+              | no b ↦ absurd (omega (arith, mark-other a b))
+            ]
+        | no a ↦ absurd (omega (arith, mark-high (omega arith)))
       ]
 
 pub record Marked (arrivals : List ℕ) (before low from to : ℕ) (v v′ : List ℕ) : Type 0 where
@@ -139,7 +139,7 @@ pub record Marked (arrivals : List ℕ) (before low from to : ℕ) (v v′ : Lis
   pub off : (k : ℕ) → ((r : ℕ) → from ≤ r → r < to → k ≢ getD arrivals r 0) → getD v′ k 0 ≡ getD v k 0
   pub long : length v′ ≡ length v
 
-module _ (w arrivals : List ℕ) (begin end before low from : ℕ) (run : Run w arrivals begin end) (v : List ℕ) where
+module _ (arrivals : List ℕ) (begin end before low from : ℕ) (run : Held arrivals begin end) (v : List ℕ) where
   pub marked-none : Marked arrivals before low from from v v
   marked-none = record { at = (λ r h g. absurd (omega arith)); off = (λ k h. refl); long = refl }
 
@@ -152,8 +152,8 @@ module _ (w arrivals : List ℕ) (begin end before low from : ℕ) (run : Run w 
       record {
         at =
             (λ r h g.
-              elim (ℕ-discrete r to) [
-                yes z ↦
+            elim (ℕ-discrete r to) [
+              | yes z ↦
                   rw z
                   (getD-set-same v′ (getD arrivals to 0) x 0 (omega (arith, m .long, run .stop to (omega arith) c))
                   ∙ is-x
@@ -162,11 +162,11 @@ module _ (w arrivals : List ℕ) (begin end before low from : ℕ) (run : Run w 
                   getD-set-other v′ (getD arrivals to 0) (getD arrivals r 0) x 0
                   (λ y. run .once r to (omega arith) (omega arith) c (sym y))
                   ∙ m .at r h (omega arith)
-              ]);
+            ]);
         off =
             (λ k h.
-              getD-set-other v′ (getD arrivals to 0) k x 0 (h to b (omega arith))
-              ∙ m .off k (λ r i j. h r i (omega arith)));
+            getD-set-other v′ (getD arrivals to 0) k x 0 (h to b (omega arith))
+            ∙ m .off k (λ r i j. h r i (omega arith)));
         long = length-set v′ (getD arrivals to 0) x ∙ m .long;
       }
     where
@@ -225,8 +225,8 @@ module _ (w arrivals : List ℕ) (from end top : ℕ) (v : List ℕ) where
     differ : (r s : ℕ) → from ≤ r → r < end → from ≤ s → s < end → r ≢ s → at r ≢ at s
     differ r s a b c d n z =
         elim (decLt r s) [
-          yes h ↦ run .once r s a h d (sym z)
-        | no h ↦ run .once s r c (omega arith) b z
+          | yes h ↦ run .held .once r s a h d (sym z)
+          | no h ↦ run .held .once s r c (omega arith) b z
         ]
 
     within : q ≤ end
@@ -240,8 +240,8 @@ module _ (w arrivals : List ℕ) (from end top : ℕ) (v : List ℕ) where
         let step : arrive w (at p) < arrive w (at q) =
         omega (arith, run .rising p q a b (omega arith), m .next (omega arith)) in
         elim (ℕ-discrete s q) [
-          yes z ↦ omega (arith, ap (λ i. arrive w (at i)) z)
-        | no z ↦ omega (arith, run .rising q s (omega arith) (omega arith) g)
+          | yes z ↦ omega (arith, ap (λ i. arrive w (at i)) z)
+          | no z ↦ omega (arith, run .rising q s (omega arith) (omega arith) g)
         ]
 
     still : (r : ℕ) → p ≤ r → r < end → getD v′ (at r) 0 ≡ getD v (at r) 0
@@ -266,25 +266,25 @@ module _ (w arrivals : List ℕ) (from end top : ℕ) (v : List ℕ) where
             below = omega (arith, f .least .most);
             least =
                 (λ s i j e.
-                  let s-before : s < q =
-                  elim (decLt s q) [
-                    yes z ↦ z
+                let s-before : s < q =
+                elim (decLt s q) [
+                  | yes z ↦ z
                   | no z ↦ absurd (omega (arith, behind s (omega arith) j, m .minute .same r a b))
-                  ] in
-                  omega (arith, low-now .below s i s-before));
+                ] in
+                omega (arith, low-now .below s i s-before));
             first =
                 (λ s i j e.
-                  let s-before : s < p =
-                  elim (decLt s p) [
-                    yes z ↦ z
+                let s-before : s < p =
+                elim (decLt s p) [
+                  | yes z ↦ z
                   | no z ↦
                       elim (decLt s q) [
-                        yes y ↦
-                          absurd (omega (arith, m .minute .same s (omega arith) y, m .minute .same r a b))
-                      | no y ↦ absurd (omega (arith, behind s (omega arith) j, m .minute .same r a b))
+                        | yes y ↦
+                            absurd (omega (arith, m .minute .same s (omega arith) y, m .minute .same r a b))
+                        | no y ↦ absurd (omega (arith, behind s (omega arith) j, m .minute .same r a b))
                       ]
-                  ] in
-                  omega (arith, f .least .below s i s-before));
+                ] in
+                omega (arith, f .least .below s i s-before));
           }
 
       from-front : Front (at r) → (u < low) × (u ≡ low′)
@@ -298,21 +298,22 @@ module _ (w arrivals : List ℕ) (from end top : ℕ) (v : List ℕ) where
           let down : getD v (at r) 0 ≤ low′ =
           low-now .greatest (getD v (at r) 0) (omega (arith, g .below))
           (λ s i j.
-            g .least s i (omega (arith, within))
-            (elim (decLt s p) [
-              yes z ↦ omega (arith, f .earlier s r i z a room)
+          g .least s i (omega (arith, within))
+          (elim (decLt s p) [
+            | yes z ↦ omega (arith, f .earlier s r i z a room)
             | no z ↦ omega (arith, m .minute .same s (omega arith) j, m .minute .same r a b)
-            ])) in
+          ])) in
           (up, omega (arith, down, low-now .below r (omega arith) b))
 
       this-minute : (x : ℕ) → (x < getD v″ (at r) 0) ↔ (Front (at r) × (x ≤ getD v (at r) 0))
       unfolding u
       this-minute x =
-          rw (k .at r a b, still r a (omega (arith, within)))
-          (λ h. let g = mark-some low low′ (getD v (at r) 0) x h in (to-front (g .0) (g .1), g .2),
-          λ h.
-            let g = from-front (h .0) in
-            omega (arith, mark-low low low′ (getD v (at r) 0) (g .0) (g .1), h .1))
+          rw (k .at r a b, still r a (omega (arith, within))) (
+            λ h. let g = mark-some low low′ (getD v (at r) 0) x h in (to-front (g .0) (g .1), g .2),
+            λ h.
+                let g = from-front (h .0) in
+                omega (arith, mark-low low low′ (getD v (at r) 0) (g .0) (g .1), h .1),
+          )
 
     pub fronting-more : Fronting q low′ v″
     fronting-more =
@@ -323,27 +324,27 @@ module _ (w arrivals : List ℕ) (from end top : ℕ) (v : List ℕ) where
               record {
                 at =
                     (λ r x h g.
-                      elim (decLt r p) [
-                        yes z ↦
+                    elim (decLt r p) [
+                      | yes z ↦
                           rw
                           (k .off (at r)
                           (λ s i j.
-                            differ r s h (omega (arith, within)) (omega (arith, f .begun)) (omega (arith, within))
-                            (omega arith)))
+                          differ r s h (omega (arith, within)) (omega (arith, f .begun)) (omega (arith, within))
+                          (omega arith)))
                           (f .fronted .at r x h z)
                       | no z ↦ this-minute r (omega arith) g x
-                      ]);
+                    ]);
                 off =
                     (λ j h.
-                      k .off j (λ r a b. h r (omega (arith, f .begun)) b)
-                      ∙ f .fronted .off j (λ r a b. h r a (omega (arith, m .minute .later))));
+                    k .off j (λ r a b. h r (omega (arith, f .begun)) b)
+                    ∙ f .fronted .off j (λ r a b. h r a (omega (arith, m .minute .later))));
                 long = k .long ∙ f .fronted .long;
               };
           least = low-now;
           earlier =
               (λ r s h g i j.
-                elim (decLt r p) [
-                  yes z ↦ omega (arith, f .earlier r p h z (omega arith) more, behind s i j)
+              elim (decLt r p) [
+                | yes z ↦ omega (arith, f .earlier r p h z (omega arith) more, behind s i j)
                 | no z ↦ omega (arith, m .minute .same r (omega arith) g, behind s i j)
-                ]);
+              ]);
         }

@@ -7,7 +7,6 @@ use mathlib.Core.Logic.{_⊎_, inl, inr, _↔_, _≢_}
 use mathlib.Core.List.{List, [], _∷_, _++_, List·Memᴰ·head as here, List·Memᴰ·tail as there, append-assoc}
 use mathlib.Core.List.{Memᴰ·append-right, Memᴰ·cast}
 use Prim.Native.Nat.{ℕ, zero, suc, _+_, _-_, _≤_, _<_, max}
-
 use native.Mathlib.Omega.{arith}
 use native.Mathlib.Decide.{ℕ-discrete, decLe, decLt}
 use borrow.Author.Tests.{lt-ltb, le-ltb}
@@ -120,7 +119,7 @@ module _ (w e first : List ℕ) (d : ℕ) (t : Timely w) (o : InOrder w) (is-fir
     module _ (q us ys : List ℕ) (some : catch w (suc i) < nowhere)
         (parts : order w ≡ us ++ (catch w (suc i) ∷ ys))
         (bound : (x : ℕ) → (x < getD q (catch w (suc i)) 0)
-            ↔ Later w e d (catch w (suc i) ∷ ys) (station w (catch w (suc i))) x) where
+        ↔ Later w e d (catch w (suc i) ∷ ys) (station w (catch w (suc i))) x) where
       abbrev f : ℕ
       f = catch w (suc i)
 
@@ -162,8 +161,8 @@ module _ (w e first : List ℕ) (d : ℕ) (t : Timely w) (o : InOrder w) (is-fir
         let s = standing (o .all (catch w (suc i)) (c .goes)) in
         caught-well i g h q (s .front) (s .back) some (s .whole)
         (λ y.
-          p .behind (catch w (suc i)) y (s .front) (s .back) (s .whole)
-          (omega (arith, reached i g h (catch w (suc i)) c)))
+        p .behind (catch w (suc i)) y (s .front) (s .back) (s .whole)
+        (omega (arith, reached i g h (catch w (suc i)) c)))
         x
 
     pub passed-bounded : Bounded w e d first q
@@ -171,10 +170,10 @@ module _ (w e first : List ℕ) (d : ℕ) (t : Timely w) (o : InOrder w) (is-fir
         record {
           there =
               (λ i x g h some.
-                rw (is-first i g) (passed-there i x g h (rw (is-first i g) at some)));
+              rw (is-first i g) (passed-there i x g h (rw (is-first i g) at some)));
           none =
               (λ i x g h some o′.
-                o .caught-none i (o′ .g) g (rw (is-first i g) at some) (o′ .catches));
+              o .caught-none i (o′ .g) g (rw (is-first i g) at some) (o′ .catches));
         }
 
   -- ---- one departure more
@@ -221,12 +220,12 @@ module _ (w e first : List ℕ) (d : ℕ) (t : Timely w) (o : InOrder w) (is-fir
     changes x =
         rw (is-first i goes)
         (elim (decLt (catch w (suc i)) nowhere) [
-          yes some ↦
-            rw (lt-ltb (catch w (suc i)) nowhere some)
-            (let c = changes-some some x in (λ h. c .0 (omega arith), λ h. omega (arith, c .1 h)))
-        | no none ↦
-            rw (le-ltb (catch w (suc i)) nowhere (omega arith))
-            (λ h. absurd (omega arith), λ h. absurd (o .caught-none i (h .g) goes (omega arith) (h .catches)))
+          | yes some ↦
+              rw (lt-ltb (catch w (suc i)) nowhere some)
+              (let c = changes-some some x in (λ h. c .0 (omega arith), λ h. omega (arith, c .1 h)))
+          | no none ↦
+              rw (le-ltb (catch w (suc i)) nowhere (omega arith))
+              (λ h. absurd (omega arith), λ h. absurd (o .caught-none i (h .g) goes (omega arith) (h .catches)))
         ])
 
     leaves : (x : ℕ) → (x < leaveBound w first e q leaving i) ↔ Onward w e i x
@@ -240,12 +239,12 @@ module _ (w e first : List ℕ) (d : ℕ) (t : Timely w) (o : InOrder w) (is-fir
             → Ways w e i x
         to h =
             elim (decLt (x + points w i) (getD e (suc i) 0)) [
-              yes a ↦ inl a
-            | no a ↦
-                elim (decLt (x + points w i) (getD leaving (suc i) 0)) [
-                  yes b ↦ inr (inl (stays (x + points w i) .0 b))
-                | no b ↦ inr (inr (changes (x + points w i) .0 (omega arith)))
-                ]
+              | yes a ↦ inl a
+              | no a ↦
+                  elim (decLt (x + points w i) (getD leaving (suc i) 0)) [
+                    | yes b ↦ inr (inl (stays (x + points w i) .0 b))
+                    | no b ↦ inr (inr (changes (x + points w i) .0 (omega arith)))
+                  ]
             ]
 
         from : Ways w e i x → x < leaveBound w first e q leaving i
@@ -279,8 +278,8 @@ module _ (w e first : List ℕ) (d : ℕ) (t : Timely w) (o : InOrder w) (is-fir
       now-only : (k x : ℕ) → x < getD (set leaving i b) k 0 → Goes w k
       now-only k x g =
           elim (ℕ-discrete k i) [
-            yes z ↦ subst (Goes w) (sym z) goes
-          | no z ↦ p .only k x (rw (getD-set-other leaving i k b 0 z) at g)
+            | yes z ↦ subst (Goes w) (sym z) goes
+            | no z ↦ p .only k x (rw (getD-set-other leaving i k b 0 z) at g)
           ]
 
       -- the highest of the station
@@ -290,9 +289,9 @@ module _ (w e first : List ℕ) (d : ℕ) (t : Timely w) (o : InOrder w) (is-fir
           to : x < h → Later w e d (i ∷ l) (station w i) x
           to g =
               elim (decLt x b) [
-                yes a ↦
-                  record { g = i; listed = here refl; here = refl; timely = timely; onward = known x .0 a }
-              | no a ↦ later-more w e d i l (station w i) x (p .highest (station w i) x .0 (omega arith))
+                | yes a ↦
+                    record { g = i; listed = here refl; here = refl; timely = timely; onward = known x .0 a }
+                | no a ↦ later-more w e d i l (station w i) x (p .highest (station w i) x .0 (omega arith))
               ]
 
           from : Later w e d (i ∷ l) (station w i) x → x < h
@@ -301,25 +300,26 @@ module _ (w e first : List ℕ) (d : ℕ) (t : Timely w) (o : InOrder w) (is-fir
               (g .listed)
               (λ z. omega (arith, known x .1 (subst (λ k. Onward w e k x) z (g .onward))))
               (λ j.
-                omega (
-                  arith,
-                  p .highest (station w i) x .1
-                  (record { g = g .g; listed = j; here = g .here; timely = g .timely; onward = g .onward }),
-                ))
+              omega (
+                arith,
+                p .highest (station w i) x .1
+                    (record { g = g .g; listed = j; here = g .here; timely = g .timely; onward = g .onward }),
+              ))
 
       now-highest : (c x : ℕ) → (x < getD (set high (station w i) h) c 0) ↔ Later w e d (i ∷ l) c x
       now-highest c x =
           elim (ℕ-discrete c (station w i)) [
-            yes z ↦ rw (z, getD-set-same high (station w i) h 0 (omega (arith, listed))) (higher x)
-          | no z ↦
-              rw (getD-set-other high (station w i) c h 0 z)
-              (λ g. later-more w e d i l c x (p .highest c x .0 g),
-              λ g.
-                p .highest c x .1
-                (cons-cases
-                (g .listed)
-                (λ y. absurd (z (sym (g .here) ∙ ap (station w) y)))
-                (λ j. record { g = g .g; listed = j; here = g .here; timely = g .timely; onward = g .onward })))
+            | yes z ↦ rw (z, getD-set-same high (station w i) h 0 (omega (arith, listed))) (higher x)
+            | no z ↦
+                rw (getD-set-other high (station w i) c h 0 z) (
+                  λ g. later-more w e d i l c x (p .highest c x .0 g),
+                  λ g.
+                      p .highest c x .1
+                      (cons-cases
+                      (g .listed)
+                      (λ y. absurd (z (sym (g .here) ∙ ap (station w) y)))
+                      (λ j. record { g = g .g; listed = j; here = g .here; timely = g .timely; onward = g .onward })),
+                )
           ]
 
       now-behind : (k x : ℕ) (xs ys : List ℕ) → i ∷ l ≡ xs ++ (k ∷ ys) → d ≤ depart w k

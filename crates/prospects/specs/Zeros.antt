@@ -19,8 +19,8 @@ pub zero-more : (v : List ℕ) (n i m : ℕ) → n ≡ m → length v ≡ m → 
 unfolding ZeroTo
 zero-more v n i m long same h z k g =
     elim (ℕ-discrete k i) [
-      yes e ↦ rw e (getD-set-same v i 0 0 (omega arith))
-    | no e ↦ getD-set-other v i k 0 0 e ∙ z k (omega arith)
+      | yes e ↦ rw e (getD-set-same v i 0 0 (omega arith))
+      | no e ↦ getD-set-other v i k 0 0 e ∙ z k (omega arith)
     ]
 
 pub zero-all : (v : List ℕ) (n i m : ℕ) → n ≡ m → n ≤ i → ZeroTo i v → ZeroTo m v
@@ -36,6 +36,6 @@ zero-each v n long z k =
 pub zero-replicate : (n k : ℕ) → _≡_ {A = ℕ} (getD (replicate n 0) k 0) 0
 zero-replicate n k =
     elim (decLt k n) [
-      yes h ↦ getD-replicate n k 0 0 h
-    | no h ↦ List·getD-eq-default (replicate n 0) 0 (omega (arith, length-replicate {A = ℕ} n 0))
+      | yes h ↦ getD-replicate n k 0 0 h
+      | no h ↦ List·getD-eq-default (replicate n 0) 0 (omega (arith, length-replicate {A = ℕ} n 0))
     ]

@@ -1,17 +1,185 @@
 // Two passes of a store call: which arrivals are on the frontier, and who can still end well.
 ghost use mathlib.Core.Path.{_≡_};
-ghost use Prim.Native.Nat.{_+_, _-_, _≤_, _<_, max};
+ghost use mathlib.Core.Bool.{true};
+ghost use Prim.Native.Nat.{_+_, _-_, _≤_, _<_, min, max};
 ghost use lib.ListN.{length, getD, drop};
-ghost use Rattle.timetable.specs.Words.{stationCount};
-ghost use Rattle.stopwise.specs.Stopwise.{station, nowhere};
-ghost use Rattle.stopwise.specs.Prospects.{Bounded};
+ghost use Rattle.timetable.specs.Words.{stationCount, isTimetable};
+ghost use Rattle.stopwise.specs.Stopwise.{station, arrive, nowhere};
+ghost use Rattle.stopwise.specs.Prospects.{Allows, Bounded};
+ghost use Rattle.stopwise.specs.Settled.{Timely};
 ghost use Rattle.chains.specs.Order.{order as departures};
+ghost use Rattle.prospects.specs.Arrivals.{Arrivals, Held, Run};
+ghost use Rattle.prospects.specs.Front.{Least, MinuteEnd, markOf, Marked, Fronted};
+ghost use Rattle.prospects.specs.Allowing.{topOf};
 ghost use Rattle.prospects.specs.Passed.{Limits, Passed, ontoBound, leaveBound};
 ghost use Rattle.prospects.specs.Zeros.{ZeroTo};
 ghost use Rattle.prospects.specs.Routes.{Routes};
 
 // No stop.
 const NOWHERE: usize = 65535;
+
+// More than anyone on the way has paid.
+const UNREACHED: u32 = 3166901;
+
+// ---- which arrivals are on the frontier
+
+fn lesser(a: u32, b: u32) -> u32
+    ensures { λ r. ⌜ r ≡ min a b ⌝ }
+{
+    if b < a {
+        return b;
+    }
+    a
+}
+
+// The minute of the arrival at place r.
+fn minute_at(words: &[u16], arrivals: &[u16], r: usize) -> u32
+    requires { ⌜ (16384 ≤ length (now words))
+        × (stationCount (now words) ≤ 64)
+        × (r < length (now arrivals))
+        × (getD (now arrivals) r 0 < 2048) ⌝ }
+    ensures { λ m. ⌜ m ≡ arrive (now (words .entry)) (getD (now (arrivals .entry)) r 0) ⌝ }
+{
+    let j = words::word(arrivals, r) as usize;
+    timetable::stop_at(words, j).arrive
+}
+
+// Where the arrivals end that are of the same minute as the one at place p, among those up to place end.
+fn minute_end(words: &[u16], arrivals: &[u16], begin: usize, p: usize, end: usize) -> usize
+    requires { ⌜ (16384 ≤ length (now words))
+        × (stationCount (now words) ≤ 64)
+        × Run (now words) (now arrivals) begin end
+        × (begin ≤ p)
+        × (p < end) ⌝ }
+    ensures { λ q. ⌜ MinuteEnd (now (words .entry)) (now (arrivals .entry)) p end q ⌝ }
+{
+    let minute = minute_at(words, arrivals, p);
+    let mut q = p + 1;
+    loop {
+        if q == end {
+            break;
+        }
+        let m = minute_at(words, arrivals, q);
+        if m != minute {
+            break;
+        }
+        q += 1;
+    }
+    q
+}
+
+// The least of top and the words of the arrivals at places p up to q.
+fn least(arrivals: &[u16], begin: usize, p: usize, q: usize, end: usize, v: &[u32], top: u32) -> u32
+    requires { ⌜ Held (now arrivals) begin end
+        × (begin ≤ p)
+        × (p ≤ q)
+        × (q ≤ end)
+        × (length (now v) ≡ 2048) ⌝ }
+    ensures { λ x. ⌜ Least (now (arrivals .entry)) (now (v .entry)) top p q x ⌝ }
+{
+    let mut low = top;
+    let mut r = p;
+    while r < q {
+        let j = words::word(arrivals, r) as usize;
+        low = lesser(low, v[j]);
+        r += 1;
+    }
+    low
+}
+
+// What is allowed at an arrival: before is the least that was paid on arrivals of earlier minutes, low the least with
+// those of its own.
+fn mark(before: u32, low: u32, u: u32) -> u32
+    ensures { λ r. ⌜ r ≡ markOf before low u ⌝ }
+{
+    if before <= u {
+        return 0;
+    }
+    if u != low {
+        return 0;
+    }
+    u + 1
+}
+
+// Marks the arrivals at places p up to q.
+fn mark_all(
+    arrivals: &[u16],
+    begin: usize,
+    p: usize,
+    q: usize,
+    end: usize,
+    before: u32,
+    low: u32,
+    v: &mut [u32],
+)
+    requires { ⌜ Held (now arrivals) begin end
+        × (begin ≤ p)
+        × (p ≤ q)
+        × (q ≤ end)
+        × (length (now v) ≡ 2048) ⌝ }
+    ensures { λ _. ⌜ Marked (now (arrivals .entry)) before low p q (now (v .entry)) (now (v .exit)) ⌝ }
+    ensures { λ _. ⌜ length (now (v .exit)) ≡ length (now (v .entry)) ⌝ }
+{
+    let mut r = p;
+    while r < q {
+        let j = words::word(arrivals, r) as usize;
+        let u = v[j];
+        v[j] = mark(before, low, u);
+        r += 1;
+    }
+}
+
+// The arrivals of one station, at places begin up to end, where less than top is to have been paid.
+fn allow_station(words: &[u16], arrivals: &[u16], begin: usize, end: usize, top: u32, v: &mut [u32])
+    requires { ⌜ (16384 ≤ length (now words))
+        × (stationCount (now words) ≤ 64)
+        × Run (now words) (now arrivals) begin end
+        × (length (now v) ≡ 2048) ⌝ }
+    ensures { λ _. ⌜ Fronted (now (words .entry)) (now (arrivals .entry)) begin end top (now (v .entry)) end
+        (now (v .exit)) ⌝ }
+    ensures { λ _. ⌜ length (now (v .exit)) ≡ length (now (v .entry)) ⌝ }
+{
+    let mut low = top;
+    let mut p = begin;
+    while p < end {
+        let q = minute_end(words, arrivals, begin, p, end);
+        let before = low;
+        low = least(arrivals, begin, p, q, end, v, before);
+        mark_all(arrivals, begin, p, q, end, before, low, v);
+        p = q;
+    }
+}
+
+// Less than this is to have been paid at station c.
+fn top_of(c: usize, source: usize) -> u32
+    ensures { λ r. ⌜ r ≡ topOf c source ⌝ }
+{
+    if c == source {
+        return 0;
+    }
+    UNREACHED
+}
+
+// From the least penalties on arrival to what is allowed there: at an arrival on the frontier of its station as much as
+// that least penalty, one being added so that 0 allows nothing, and 0 elsewhere and at the source.
+pub fn allow(words: &[u16], arrivals: &[u16], first: &[u32], source: usize, v: &mut [u32])
+    requires { ⌜ (16384 ≤ length (now words))
+        × (isTimetable (now words) ≡ true)
+        × Timely (now words)
+        × Arrivals (now words) (now arrivals) (now first)
+        × (length (now v) ≡ 2048) ⌝ }
+    ensures { λ _. ⌜ Allows (now (words .entry)) source (now (v .entry)) (now (v .exit)) ⌝ }
+    ensures { λ _. ⌜ length (now (v .exit)) ≡ 2048 ⌝ }
+{
+    let stations = words::word(words, 0) as usize;
+    let mut c = 1;
+    while c <= stations {
+        let begin = first[c] as usize;
+        let end = first[c + 1] as usize;
+        allow_station(words, arrivals, begin, end, top_of(c, source), v);
+        c += 1;
+    }
+}
 
 // ---- who can still end well
 

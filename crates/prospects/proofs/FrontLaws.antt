@@ -1,0 +1,89 @@
+-- The loops over the arrivals of a station: what they read lies inside, and what they keep.
+use mathlib.Core.Path.{_≡_, refl, sym, ap, subst, _∙_}
+use mathlib.Core.Bool.{true}
+use mathlib.Core.List.{List}
+use Prim.Native.Nat.{ℕ, suc, _+_, _≤_, _<_, min}
+use native.Mathlib.Omega.{arith}
+use lib.ListN.{length, getD, set}
+use Rattle.timetable.specs.Timetable.{Stop}
+use Rattle.timetable.specs.Words.{stationCount, stopAt}
+use Rattle.stopwise.specs.Stopwise.{arrive}
+use Rattle.stopwise.specs.Settled.{Timely}
+use Rattle.prospects.specs.Arrivals.{Arrivals, Held, Run, run-of}
+use Rattle.prospects.specs.Front.{
+  Least,
+  MinuteTo,
+  MinuteEnd,
+  markOf,
+  Marked,
+  Fronted,
+  Fronting,
+  least-more,
+  minute-more,
+  marked-more,
+  fronting-more,
+}
+
+pub minute-is : (w arrivals : List ℕ) (r j : ℕ) (s : Stop) → j ≡ getD arrivals r 0 → s ≡ stopAt w j
+    → s .arrive ≡ arrive w (getD arrivals r 0)
+minute-is w arrivals r j s is-j is-s = ap (λ (z : Stop). z .arrive) is-s ∙ ap (arrive w) is-j
+
+-- ---- places
+module _ (arrivals : List ℕ) (begin end q r : ℕ) (held : Held arrivals begin end) (on : r < q) (most : q ≤ end) where
+  pub place-inside : r < length arrivals
+  place-inside = omega (arith, held .inside)
+
+  pub stop-inside : (v : List ℕ) (p j : ℕ) → begin ≤ p → p ≤ r → length v ≡ 2048 → j ≡ getD arrivals r 0
+      → j < length v
+  stop-inside v p j a b long is-j = omega (arith, held .stop r (omega arith) (omega arith))
+
+  pub stop-inside-now : (v v₀ : List ℕ) (p j : ℕ) → begin ≤ p → p ≤ r → length v₀ ≡ 2048 → length v ≡ length v₀
+      → j ≡ getD arrivals r 0 → j < length v
+  stop-inside-now v v₀ p j a b long same is-j = omega (arith, held .stop r (omega arith) (omega arith))
+
+module _ (w arrivals : List ℕ) (begin p end : ℕ) (run : Run w arrivals begin end) (a : begin ≤ p) where
+  module _ (b : p < end) where
+    pub first-place : p < length arrivals
+    first-place = omega (arith, run .held .inside)
+
+    pub first-stop : getD arrivals p 0 < 2048
+    first-stop = run .held .stop p a b
+
+  module _ (q : ℕ) (most : q ≤ end) (m : MinuteTo w arrivals p q) (n : q ≡ end → ⊥) where
+    pub next-place : q < length arrivals
+    next-place = omega (arith, n, run .held .inside)
+
+    pub next-stop : getD arrivals q 0 < 2048
+    next-stop = run .held .stop q (omega (arith, m .later)) (omega (arith, n))
+
+-- ---- the least
+module _ (arrivals v : List ℕ) (top p q r low : ℕ) (l : Least arrivals v top p r low) where
+  pub least-turn : (j x : ℕ) → p ≤ r → j ≡ getD arrivals r 0 → x ≡ min low (getD v j 0)
+      → Least arrivals v top p (r + 1) x
+  least-turn j x a is-j is-x =
+      subst
+      (Least arrivals v top p (r + 1))
+      (sym (is-x ∙ ap (λ k. min low (getD v k 0)) is-j))
+      (least-more arrivals v top p r low a l)
+
+  pub least-all : r ≤ q → q ≤ r → Least arrivals v top p q low
+  least-all a b =
+      let done : r ≡ q = omega arith in
+      subst (λ k. Least arrivals v top p k low) done l
+
+-- ---- marks
+module _ (arrivals : List ℕ) (before low p q r : ℕ) (v v′ : List ℕ) (m : Marked arrivals before low p r v v′) where
+  pub mark-turn : (begin end j x : ℕ) → Held arrivals begin end → begin ≤ p → p ≤ r → r < q → q ≤ end
+      → length v ≡ 2048 → j ≡ getD arrivals r 0 → x ≡ markOf before low (getD v′ j 0)
+      → Marked arrivals before low p (r + 1) v (set v′ j x)
+  mark-turn begin end j x held a b c d long is-j is-x =
+      subst
+      (λ k. Marked arrivals before low p (r + 1) v (set v′ k x))
+      (sym is-j)
+      (marked-more arrivals begin end before low p held v r (getD v′ (getD arrivals r 0) 0) x v′ a b (omega arith) long
+      m refl (is-x ∙ ap (λ k. markOf before low (getD v′ k 0)) is-j))
+
+  pub marks-all : r ≤ q → q ≤ r → Marked arrivals before low p q v v′
+  marks-all a b =
+      let done : r ≡ q = omega arith in
+      subst (λ k. Marked arrivals before low p k v v′) done m
