@@ -2,7 +2,7 @@
 use mathlib.Core.Path.{_≡_, refl, sym, ap, subst, _∙_}
 use mathlib.Core.Bool.{true}
 use mathlib.Core.List.{List}
-use Prim.Native.Nat.{ℕ, suc, _+_, _≤_, _<_, min}
+use Prim.Native.Nat.{ℕ, suc, _+_, _-_, _≤_, _<_, min}
 use native.Mathlib.Omega.{arith}
 use lib.ListN.{length, getD, set}
 use Rattle.timetable.specs.Timetable.{Stop}
@@ -21,6 +21,7 @@ use Rattle.prospects.specs.Front.{
   least-more,
   minute-more,
   marked-more,
+  fronting-none,
   fronting-more,
 }
 
@@ -87,3 +88,27 @@ module _ (arrivals : List ℕ) (before low p q r : ℕ) (v v′ : List ℕ) (m :
   marks-all a b =
       let done : r ≡ q = omega arith in
       subst (λ k. Marked arrivals before low p k v v′) done m
+
+-- ---- the end of a minute
+module _ (w arrivals : List ℕ) (p end q : ℕ) (m : MinuteEnd w arrivals p end q) where
+  pub end-past : p ≤ q
+  end-past = omega (arith, m .minute .later)
+
+  pub end-most : q ≤ end
+  end-most = m .most
+
+  pub end-nearer : p < end → end - q < end - p
+  end-nearer h = omega (arith, m .minute .later)
+
+  pub end-behind : (begin : ℕ) → begin ≤ p → begin ≤ q
+  end-behind begin h = omega (arith, m .minute .later)
+
+pub run-held : (w arrivals : List ℕ) (begin end : ℕ) → Run w arrivals begin end → Held arrivals begin end
+run-held w arrivals begin end r = r .held
+
+pub run-ordered : (w arrivals : List ℕ) (begin end : ℕ) → Run w arrivals begin end → begin ≤ end
+run-ordered w arrivals begin end r = r .held .ordered
+
+pub front-first : (w arrivals : List ℕ) (begin end top : ℕ) (v : List ℕ) → Run w arrivals begin end
+    → Fronting w arrivals begin end top v begin top v
+front-first w arrivals begin end top v r = fronting-none w arrivals begin end top v (r .held .ordered)
