@@ -8,8 +8,10 @@ use lib.ListN.{length, getD, set}
 use Rattle.timetable.specs.Timetable.{Stop}
 use Rattle.timetable.specs.Words.{stationCount, stopAt}
 use Rattle.stopwise.specs.Stopwise.{arrive}
+use Rattle.stopwise.specs.Prospects.{Allows}
 use Rattle.stopwise.specs.Settled.{Timely}
 use Rattle.prospects.specs.Arrivals.{Arrivals, Held, Run, run-of}
+use Rattle.prospects.specs.Allowing.{topOf, Allowing, allowing-more, allowing-all}
 use Rattle.prospects.specs.Front.{
   Least,
   MinuteTo,
@@ -112,3 +114,41 @@ run-ordered w arrivals begin end r = r .held .ordered
 pub front-first : (w arrivals : List ℕ) (begin end top : ℕ) (v : List ℕ) → Run w arrivals begin end
     → Fronting w arrivals begin end top v begin top v
 front-first w arrivals begin end top v r = fronting-none w arrivals begin end top v (r .held .ordered)
+
+-- ---- all stations
+module _
+    (w arrivals first : List ℕ)
+    (c : ℕ)
+    (few : stationCount w ≤ 64)
+    (s : Arrivals w arrivals first)
+    (on : c ≤ stationCount w)
+  where
+    pub first-inside : c < length first
+    first-inside = omega (arith, s .long-first)
+
+    pub next-inside : c + 1 < length first
+    next-inside = omega (arith, s .long-first)
+
+module _ (w arrivals first : List ℕ) (c begin end : ℕ) (is-begin : begin ≡ getD first c 0)
+    (is-end : end ≡ getD first (c + 1) 0) where
+  pub part-run : Arrivals w arrivals first → 1 ≤ c → c ≤ stationCount w → Timely w → Run w arrivals begin end
+  part-run s some on t = rw (is-begin, is-end) (run-of w arrivals first s c some on t)
+
+  pub part-fronted : (v v′ : List ℕ) (source top : ℕ) → top ≡ topOf c source
+      → Fronted w arrivals begin end top v end v′
+      → Fronted w arrivals (getD first c 0) (getD first (c + 1) 0) (topOf c source) v (getD first (c + 1) 0) v′
+  part-fronted v v′ source top is-top f = rw (is-begin, is-end, is-top) at f
+
+module _ (w : List ℕ) (source : ℕ) (v : List ℕ) (c stations : ℕ) (v′ : List ℕ) (t : Timely w)
+    (is : stations ≡ stationCount w) (k : Allowing w source v c v′) where
+  pub station-listed : c ≤ stations → c ≤ stationCount w
+  station-listed h = omega arith
+
+  pub stations-more : (arrivals first v″ : List ℕ) → Arrivals w arrivals first → 1 ≤ c → c ≤ stations
+      → Fronted w arrivals (getD first c 0) (getD first (c + 1) 0) (topOf c source) v′ (getD first (c + 1) 0) v″
+      → Allowing w source v (c + 1) v″
+  stations-more arrivals first v″ s some on f =
+      allowing-more w source v t arrivals first s c some (omega arith) v′ v″ k f
+
+  pub stations-all : stations < c → Allows w source v v′
+  stations-all h = allowing-all w source v t c v′ (omega arith) k

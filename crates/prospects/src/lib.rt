@@ -150,6 +150,14 @@ fn allow_station(words: &[u16], arrivals: &[u16], begin: usize, end: usize, top:
     }
 }
 
+// Where the arrivals of station c begin.
+fn place_at(first: &[u32], c: usize) -> usize
+    requires { ⌜ c < length (now first) ⌝ }
+    ensures { λ r. ⌜ r ≡ getD (now (first .entry)) c 0 ⌝ }
+{
+    first[c] as usize
+}
+
 // Less than this is to have been paid at station c.
 fn top_of(c: usize, source: usize) -> u32
     ensures { λ r. ⌜ r ≡ topOf c source ⌝ }
@@ -158,6 +166,25 @@ fn top_of(c: usize, source: usize) -> u32
         return 0;
     }
     UNREACHED
+}
+
+// The arrivals of station c.
+fn allow_part(words: &[u16], arrivals: &[u16], first: &[u32], c: usize, source: usize, v: &mut [u32])
+    requires { ⌜ (16384 ≤ length (now words))
+        × Timely (now words)
+        × Arrivals (now words) (now arrivals) (now first)
+        × (1 ≤ c)
+        × (c ≤ stationCount (now words))
+        × (stationCount (now words) ≤ 64)
+        × (length (now v) ≡ 2048) ⌝ }
+    ensures { λ _. ⌜ Fronted (now (words .entry)) (now (arrivals .entry)) (getD (now (first .entry)) c 0)
+        (getD (now (first .entry)) (c + 1) 0) (topOf c source) (now (v .entry))
+        (getD (now (first .entry)) (c + 1) 0) (now (v .exit)) ⌝ }
+    ensures { λ _. ⌜ length (now (v .exit)) ≡ length (now (v .entry)) ⌝ }
+{
+    let begin = place_at(first, c);
+    let end = place_at(first, c + 1);
+    allow_station(words, arrivals, begin, end, top_of(c, source), v);
 }
 
 // From the least penalties on arrival to what is allowed there: at an arrival on the frontier of its station as much as
@@ -174,9 +201,7 @@ pub fn allow(words: &[u16], arrivals: &[u16], first: &[u32], source: usize, v: &
     let stations = words::word(words, 0) as usize;
     let mut c = 1;
     while c <= stations {
-        let begin = first[c] as usize;
-        let end = first[c + 1] as usize;
-        allow_station(words, arrivals, begin, end, top_of(c, source), v);
+        allow_part(words, arrivals, first, c, source, v);
         c += 1;
     }
 }
