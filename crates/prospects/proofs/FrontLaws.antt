@@ -1,8 +1,7 @@
 -- The loops over the arrivals of a station: what they read lies inside, and what they keep.
 use mathlib.Core.Path.{_≡_, refl, sym, ap, subst, _∙_}
-use mathlib.Core.Bool.{true}
 use mathlib.Core.List.{List}
-use Prim.Native.Nat.{ℕ, suc, _+_, _-_, _≤_, _<_, min}
+use Prim.Native.Nat.{ℕ, _+_, _-_, _≤_, _<_, min}
 use native.Mathlib.Omega.{arith}
 use lib.ListN.{length, getD, set}
 use Rattle.timetable.specs.Timetable.{Stop}
@@ -21,10 +20,8 @@ use Rattle.prospects.specs.Front.{
   Fronted,
   Fronting,
   least-more,
-  minute-more,
   marked-more,
   fronting-none,
-  fronting-more,
 }
 
 pub minute-is : (w arrivals : List ℕ) (r j : ℕ) (s : Stop) → j ≡ getD arrivals r 0 → s ≡ stopAt w j

@@ -1,12 +1,10 @@
 -- The words that a turn of the pass computes are the bounds that it needs.
 use mathlib.Core.Path.{_≡_, refl, sym, ap, subst, _∙_}
-use mathlib.Core.Bool.{cond, true}
 use mathlib.Core.List.{List, [], _∷_, _++_, Memᴰ·append-right, List·Memᴰ·head as here}
 use Prim.Native.Nat.{ℕ, suc, _+_, _-_, _≤_, _<_, max}
 use native.Mathlib.Omega.{arith}
 use native.Mathlib.Numerals.{add-one}
 use borrow.Author.Tests.{lt-ltb, le-ltb}
-use lib.Dec.{ltb}
 use lib.ListN.{length, getD, take, drop, set, replicate, take-append-drop, drop-of-length-le}
 use lib.Seq.{length-take-le, getD-take, drop-cons}
 use Rattle.lists.specs.Lists.{_∈_}

@@ -1,12 +1,12 @@
 -- The frontiers of all stations, one after the other. At the start's own station no one is to end, so nothing is low
 -- enough there.
 use mathlib.Core.Path.{_≡_, refl, sym, ap, subst, _∙_}
-use mathlib.Core.Bool.{Bool, true, false, cond}
+use mathlib.Core.Bool.{cond}
 use mathlib.Core.Logic.{_↔_, _≢_}
 use mathlib.Core.List.{List}
-use Prim.Native.Nat.{ℕ, zero, suc, _+_, _≤_, _<_}
+use Prim.Native.Nat.{ℕ, suc, _+_, _≤_, _<_}
 use native.Mathlib.Omega.{arith}
-use native.Mathlib.Decide.{ℕ-discrete, decLt}
+use native.Mathlib.Decide.{ℕ-discrete}
 use borrow.Author.Tests.{eq-eqb, ne-eqb}
 use lib.Dec.{eqb}
 use lib.ListN.{length, getD}
@@ -15,7 +15,7 @@ use Rattle.stopwise.specs.Stopwise.{station, arrive, unreached, Goes}
 use Rattle.stopwise.specs.Paid.{OnFrontier}
 use Rattle.stopwise.specs.Prospects.{Allows}
 use Rattle.stopwise.specs.Settled.{Timely}
-use Rattle.prospects.specs.Arrivals.{part, Arrivals, ArrivesAt, Placed, placed, arrives-at}
+use Rattle.prospects.specs.Arrivals.{part, Arrivals, Placed, placed, arrives-at}
 use Rattle.lists.specs.Lists.{_∈_}
 use Rattle.prospects.specs.Front.{Front, Fronted}
 

@@ -2,14 +2,14 @@
 -- place by place.
 use mathlib.Core.Path.{_≡_, refl, sym, ap, subst, _∙_}
 use mathlib.Core.Logic.{_≢_}
-use mathlib.Core.List.{List, [], _∷_, _++_, Memᴰ·cast, Memᴰ·append-right, List·Memᴰ·head as here}
+use mathlib.Core.List.{List, _∷_, _++_, Memᴰ·cast, Memᴰ·append-right, List·Memᴰ·head as here}
 use Prim.Native.Nat.{ℕ, zero, suc, _+_, _-_, _≤_, _<_}
 use native.Mathlib.Omega.{arith}
 use lib.ListN.{length, getD, take, drop, take-append-drop}
 use lib.Seq.{slice, slice-empty, slice-cons, length-take-le, take-take, drop-append-le}
 use Rattle.lists.specs.Lists.{_∈_, Distinct}
 use Rattle.lists.specs.Members.{none, cons-cases}
-use Rattle.timetable.specs.Words.{stationCount, stopCount}
+use Rattle.timetable.specs.Words.{stationCount}
 use Rattle.stopwise.specs.Stopwise.{station, arrive, Goes}
 use Rattle.stopwise.specs.Settled.{Timely}
 use Rattle.prospects.specs.Parts.{distinct-rest}

@@ -1,10 +1,10 @@
 -- The arrivals of one station, minute by minute: one is on the frontier if it has paid less than all of earlier
 -- minutes, and no more than those of its own minute. So the least before the minute and the least with it decide.
 use mathlib.Core.Path.{_≡_, refl, sym, ap, subst, _∙_}
-use mathlib.Core.Bool.{Bool, true, false, cond, _&&_}
+use mathlib.Core.Bool.{cond, _&&_}
 use mathlib.Core.Logic.{_↔_, _≢_}
 use mathlib.Core.List.{List}
-use Prim.Native.Nat.{ℕ, zero, suc, _+_, _≤_, _<_, min}
+use Prim.Native.Nat.{ℕ, suc, _+_, _≤_, _<_, min}
 use native.Mathlib.Omega.{arith}
 use native.Mathlib.Decide.{ℕ-discrete, decLt}
 use borrow.Author.Tests.{lt-ltb, le-ltb, eq-eqb, ne-eqb}
@@ -157,7 +157,7 @@ module _ (arrivals : List ℕ) (begin end before low from : ℕ) (run : Held arr
                   rw z
                   (getD-set-same v′ (getD arrivals to 0) x 0 (omega (arith, m .long, run .stop to (omega arith) c))
                   ∙ is-x
-                  ∙ ap (markOf before low) (is-u ∙ m .off (getD arrivals to 0) (others to)))
+                  ∙ ap (markOf before low) (is-u ∙ m .off (getD arrivals to 0) others))
               | no z ↦
                   getD-set-other v′ (getD arrivals to 0) (getD arrivals r 0) x 0
                   (λ y. run .once r to (omega arith) (omega arith) c (sym y))
@@ -170,8 +170,8 @@ module _ (arrivals : List ℕ) (begin end before low from : ℕ) (run : Held arr
         long = length-set v′ (getD arrivals to 0) x ∙ m .long;
       }
     where
-      others : (k : ℕ) (r : ℕ) → from ≤ r → r < to → getD arrivals to 0 ≢ getD arrivals r 0
-      others k r h g = run .once r to (omega arith) g c
+      others : (r : ℕ) → from ≤ r → r < to → getD arrivals to 0 ≢ getD arrivals r 0
+      others r h g = run .once r to (omega arith) g c
 
 -- ---- a station
 module _ (w arrivals : List ℕ) (from end top : ℕ) (v : List ℕ) where
@@ -233,7 +233,7 @@ module _ (w arrivals : List ℕ) (from end top : ℕ) (v : List ℕ) where
     within = m .most
 
     -- minutes behind
-    pub behind : (s : ℕ) → q ≤ s → s < end → arrive w (at p) < arrive w (at s)
+    behind : (s : ℕ) → q ≤ s → s < end → arrive w (at p) < arrive w (at s)
     behind s h g =
         let a = f .begun in
         let b = m .minute .later in

@@ -1,36 +1,34 @@
--- A pass over the departures, the last first. Whatever one who leaves a stop rides to or changes to leaves later, and so
--- was passed already: its bound is known. Of the departures of one station, those passed are the ones at or behind the
--- last passed, which are those that a change to it can board as well.
+-- A pass over the departures, the last first. Whatever one who leaves a stop rides to or changes to leaves later, so
+-- it was passed already and its bound is known. Of the departures of one station those passed are the ones at or behind
+-- the last passed, which are those that one who can change to it can board as well.
 use mathlib.Core.Path.{_≡_, refl, sym, ap, subst, _∙_}
-use mathlib.Core.Bool.{Bool, true, false, cond}
-use mathlib.Core.Logic.{_⊎_, inl, inr, _↔_, _≢_}
-use mathlib.Core.List.{List, [], _∷_, _++_, List·Memᴰ·head as here, List·Memᴰ·tail as there, append-assoc}
+use mathlib.Core.Bool.{cond}
+use mathlib.Core.Logic.{inl, inr, _↔_, _≢_}
+use mathlib.Core.List.{
+  List,
+  [],
+  _∷_,
+  _++_,
+  List·Memᴰ·head as here,
+  List·Memᴰ·tail as there,
+  append-assoc,
+}
 use mathlib.Core.List.{Memᴰ·append-right, Memᴰ·cast}
-use Prim.Native.Nat.{ℕ, zero, suc, _+_, _-_, _≤_, _<_, max}
+use Prim.Native.Nat.{ℕ, suc, _+_, _-_, _≤_, _<_, max}
 use native.Mathlib.Omega.{arith}
-use native.Mathlib.Decide.{ℕ-discrete, decLe, decLt}
+use native.Mathlib.Decide.{ℕ-discrete, decLt}
 use borrow.Author.Tests.{lt-ltb, le-ltb}
 use lib.Dec.{ltb}
 use lib.ListN.{length, getD, set}
 use lib.Seq.{getD-set-same, getD-set-other}
 use Rattle.lists.specs.Lists.{_∈_, Distinct}
 use Rattle.lists.specs.Members.{none, cons-cases, append-cases}
-use Rattle.timetable.specs.Words.{stationCount, stopCount}
-use Rattle.stopwise.specs.Stopwise.{
-  station,
-  arrive,
-  depart,
-  points,
-  changePoints,
-  ready,
-  nowhere,
-  Goes,
-  Catches,
-}
-use Rattle.stopwise.specs.Prospects.{Onto, Onward, OntoWell, Bounded}
+use Rattle.timetable.specs.Words.{stationCount}
+use Rattle.stopwise.specs.Stopwise.{station, depart, points, changePoints, nowhere, Goes, Catches}
+use Rattle.stopwise.specs.Prospects.{Onward, OntoWell, Bounded}
 use Rattle.stopwise.specs.Settled.{Timely}
 use Rattle.chains.specs.Order.{order, catch, InOrder}
-use Rattle.prospects.specs.Parts.{Standing, standing, first-same, rest-same, apart, distinct-rest}
+use Rattle.prospects.specs.Parts.{standing, first-same, rest-same, distinct-rest}
 use Rattle.prospects.specs.Ways.{Ways, onward-ways}
 
 -- what one who arrives at stop j can have paid, less than that, to end well after a change there: first has for each

@@ -4,7 +4,7 @@ use mathlib.Core.List.{List}
 use Prim.Native.Nat.{ℕ, zero, suc, _+_, _<_}
 use lib.ListN.{getD}
 use Rattle.stopwise.specs.Stopwise.{points, Goes}
-use Rattle.stopwise.specs.Prospects.{Onto, OnwardIn, Onward, OntoWell}
+use Rattle.stopwise.specs.Prospects.{OnwardIn, Onward, OntoWell}
 
 module _ (w e : List ℕ) (i x : ℕ) where
   abbrev pub Ways : Type 0

@@ -169,7 +169,14 @@ fn top_of(c: usize, source: usize) -> u32
 }
 
 // The arrivals of station c.
-fn allow_part(words: &[u16], arrivals: &[u16], first: &[u32], c: usize, source: usize, v: &mut [u32])
+fn allow_part(
+    words: &[u16],
+    arrivals: &[u16],
+    first: &[u32],
+    c: usize,
+    source: usize,
+    v: &mut [u32],
+)
     requires { ⌜ (16384 ≤ length (now words))
         × Timely (now words)
         × Arrivals (now words) (now arrivals) (now first)
