@@ -9,7 +9,7 @@ use Rattle.timetable.specs.Words.{stationCount, stopAt}
 use Rattle.stopwise.specs.Stopwise.{arrive}
 use Rattle.stopwise.specs.Prospects.{Allows}
 use Rattle.stopwise.specs.Settled.{Timely}
-use Rattle.prospects.specs.Arrivals.{Arrivals, Held, Run, run-of}
+use Rattle.prospects.specs.Arrivals.{Arrivals, Held, Run, held-part, run-of}
 use Rattle.prospects.specs.Allowing.{topOf, Allowing, allowing-more, allowing-all}
 use Rattle.prospects.specs.Front.{
   Least,
@@ -29,25 +29,27 @@ pub minute-is : (w arrivals : List ℕ) (r j : ℕ) (s : Stop) → j ≡ getD ar
 minute-is w arrivals r j s is-j is-s = ap (λ (z : Stop). z .arrive) is-s ∙ ap (arrive w) is-j
 
 -- ---- places
-module _ (arrivals : List ℕ) (begin end q r : ℕ) (held : Held arrivals begin end) (on : r < q) (most : q ≤ end) where
+module _ (arrivals : List ℕ) (p q r : ℕ) (held : Held arrivals p q) (on : r < q) where
   pub place-inside : r < length arrivals
   place-inside = omega (arith, held .inside)
 
-  pub stop-inside : (v : List ℕ) (p j : ℕ) → begin ≤ p → p ≤ r → length v ≡ 2048 → j ≡ getD arrivals r 0
-      → j < length v
-  stop-inside v p j a b long is-j = omega (arith, held .stop r (omega arith) (omega arith))
+  pub stop-inside : (v : List ℕ) (j : ℕ) → p ≤ r → length v ≡ 2048 → j ≡ getD arrivals r 0 → j < length v
+  stop-inside v j a long is-j = omega (arith, held .stop r a on)
 
-  pub stop-inside-now : (v v₀ : List ℕ) (p j : ℕ) → begin ≤ p → p ≤ r → length v₀ ≡ 2048 → length v ≡ length v₀
+  pub stop-inside-now : (v v₀ : List ℕ) (j : ℕ) → p ≤ r → length v₀ ≡ 2048 → length v ≡ length v₀
       → j ≡ getD arrivals r 0 → j < length v
-  stop-inside-now v v₀ p j a b long same is-j = omega (arith, held .stop r (omega arith) (omega arith))
+  stop-inside-now v v₀ j a long same is-j = omega (arith, held .stop r a on)
 
-module _ (w arrivals : List ℕ) (begin p end : ℕ) (run : Run w arrivals begin end) (a : begin ≤ p) where
+pub held-ordered : (arrivals : List ℕ) (p q : ℕ) → Held arrivals p q → p ≤ q
+held-ordered arrivals p q held = held .ordered
+
+module _ (w arrivals : List ℕ) (p end : ℕ) (run : Run w arrivals p end) where
   module _ (b : p < end) where
     pub first-place : p < length arrivals
     first-place = omega (arith, run .held .inside)
 
     pub first-stop : getD arrivals p 0 < 2048
-    first-stop = run .held .stop p a b
+    first-stop = run .held .stop p (omega arith) b
 
   module _ (q : ℕ) (most : q ≤ end) (m : MinuteTo w arrivals p q) (n : q ≡ end → ⊥) where
     pub next-place : q < length arrivals
@@ -73,15 +75,15 @@ module _ (arrivals v : List ℕ) (top p q r low : ℕ) (l : Least arrivals v top
 
 -- ---- marks
 module _ (arrivals : List ℕ) (before low p q r : ℕ) (v v′ : List ℕ) (m : Marked arrivals before low p r v v′) where
-  pub mark-turn : (begin end j x : ℕ) → Held arrivals begin end → begin ≤ p → p ≤ r → r < q → q ≤ end
-      → length v ≡ 2048 → j ≡ getD arrivals r 0 → x ≡ markOf before low (getD v′ j 0)
+  pub mark-turn : (j x : ℕ) → Held arrivals p q → p ≤ r → r < q → length v ≡ 2048 → j ≡ getD arrivals r 0
+      → x ≡ markOf before low (getD v′ j 0)
       → Marked arrivals before low p (r + 1) v (set v′ j x)
-  mark-turn begin end j x held a b c d long is-j is-x =
+  mark-turn j x held a b long is-j is-x =
       subst
       (λ k. Marked arrivals before low p (r + 1) v (set v′ k x))
       (sym is-j)
-      (marked-more arrivals begin end before low p held v r (getD v′ (getD arrivals r 0) 0) x v′ a b (omega arith) long
-      m refl (is-x ∙ ap (λ k. markOf before low (getD v′ k 0)) is-j))
+      (marked-more arrivals q before low p held v r (getD v′ (getD arrivals r 0) 0) x v′ a b long m refl
+      (is-x ∙ ap (λ k. markOf before low (getD v′ k 0)) is-j))
 
   pub marks-all : r ≤ q → q ≤ r → Marked arrivals before low p q v v′
   marks-all a b =
@@ -89,21 +91,27 @@ module _ (arrivals : List ℕ) (before low p q r : ℕ) (v v′ : List ℕ) (m :
       subst (λ k. Marked arrivals before low p k v v′) done m
 
 -- ---- the end of a minute
-module _ (w arrivals : List ℕ) (p end q : ℕ) (m : MinuteEnd w arrivals p end q) where
-  pub end-past : p ≤ q
-  end-past = omega (arith, m .minute .later)
+module _ (w arrivals : List ℕ) (begin end p : ℕ) (run : Run w arrivals begin end) (a : begin ≤ p) where
+  pub run-from : p < end → Run w arrivals p end
+  run-from b =
+      record {
+        held = held-part arrivals begin end (run .held) p end a (omega arith) (omega arith);
+        rising = (λ r s h g k. run .rising r s (omega arith) g k);
+      }
 
+  module _ (q : ℕ) (m : MinuteEnd w arrivals p end q) where
+    pub minute-held : Held arrivals p q
+    minute-held = held-part arrivals begin end (run .held) p q a (omega (arith, m .minute .later)) (m .most)
+
+    pub end-behind : begin ≤ q
+    end-behind = omega (arith, m .minute .later)
+
+module _ (w arrivals : List ℕ) (p end q : ℕ) (m : MinuteEnd w arrivals p end q) where
   pub end-most : q ≤ end
   end-most = m .most
 
   pub end-nearer : p < end → end - q < end - p
   end-nearer h = omega (arith, m .minute .later)
-
-  pub end-behind : (begin : ℕ) → begin ≤ p → begin ≤ q
-  end-behind begin h = omega (arith, m .minute .later)
-
-pub run-held : (w arrivals : List ℕ) (begin end : ℕ) → Run w arrivals begin end → Held arrivals begin end
-run-held w arrivals begin end r = r .held
 
 pub run-ordered : (w arrivals : List ℕ) (begin end : ℕ) → Run w arrivals begin end → begin ≤ end
 run-ordered w arrivals begin end r = r .held .ordered

@@ -86,6 +86,16 @@ pub record Held (arrivals : List ℕ) (from end : ℕ) : Type 0 where
   pub stop : (r : ℕ) → from ≤ r → r < end → getD arrivals r 0 < 2048
   pub once : (r s : ℕ) → from ≤ r → r < s → s < end → getD arrivals s 0 ≢ getD arrivals r 0
 
+pub held-part : (arrivals : List ℕ) (from end : ℕ) → Held arrivals from end → (p q : ℕ) → from ≤ p → p ≤ q → q ≤ end
+    → Held arrivals p q
+held-part arrivals from end held p q a b c =
+    record {
+      ordered = b;
+      inside = omega (arith, held .inside);
+      stop = (λ r h g. held .stop r (omega arith) (omega arith));
+      once = (λ r s h g k. held .once r s (omega arith) g (omega arith));
+    }
+
 -- and the minutes rise
 pub record Run (w arrivals : List ℕ) (from end : ℕ) : Type 0 where
   pub held : Held arrivals from end

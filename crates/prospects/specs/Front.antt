@@ -139,28 +139,28 @@ pub record Marked (arrivals : List ℕ) (before low from to : ℕ) (v v′ : Lis
   pub off : (k : ℕ) → ((r : ℕ) → from ≤ r → r < to → k ≢ getD arrivals r 0) → getD v′ k 0 ≡ getD v k 0
   pub long : length v′ ≡ length v
 
-module _ (arrivals : List ℕ) (begin end before low from : ℕ) (run : Held arrivals begin end) (v : List ℕ) where
+module _ (arrivals : List ℕ) (end before low from : ℕ) (held : Held arrivals from end) (v : List ℕ) where
   pub marked-none : Marked arrivals before low from from v v
   marked-none = record { at = (λ r h g. absurd (omega arith)); off = (λ k h. refl); long = refl }
 
-  pub marked-more : (to u x : ℕ) (v′ : List ℕ) → begin ≤ from → from ≤ to → to < end → length v ≡ 2048
+  pub marked-more : (to u x : ℕ) (v′ : List ℕ) → from ≤ to → to < end → length v ≡ 2048
       → Marked arrivals before low from to v v′
       → u ≡ getD v′ (getD arrivals to 0) 0
       → x ≡ markOf before low u
       → Marked arrivals before low from (to + 1) v (set v′ (getD arrivals to 0) x)
-  marked-more to u x v′ a b c long m is-u is-x =
+  marked-more to u x v′ b c long m is-u is-x =
       record {
         at =
             (λ r h g.
             elim (ℕ-discrete r to) [
               | yes z ↦
                   rw z
-                  (getD-set-same v′ (getD arrivals to 0) x 0 (omega (arith, m .long, run .stop to (omega arith) c))
+                  (getD-set-same v′ (getD arrivals to 0) x 0 (omega (arith, m .long, held .stop to b c))
                   ∙ is-x
                   ∙ ap (markOf before low) (is-u ∙ m .off (getD arrivals to 0) others))
               | no z ↦
                   getD-set-other v′ (getD arrivals to 0) (getD arrivals r 0) x 0
-                  (λ y. run .once r to (omega arith) (omega arith) c (sym y))
+                  (λ y. held .once r to h (omega arith) c (sym y))
                   ∙ m .at r h (omega arith)
             ]);
         off =
@@ -171,7 +171,7 @@ module _ (arrivals : List ℕ) (begin end before low from : ℕ) (run : Held arr
       }
     where
       others : (r : ℕ) → from ≤ r → r < to → getD arrivals to 0 ≢ getD arrivals r 0
-      others r h g = run .once r to (omega arith) g c
+      others r h g = held .once r to h g c
 
 -- ---- a station
 module _ (w arrivals : List ℕ) (from end top : ℕ) (v : List ℕ) where

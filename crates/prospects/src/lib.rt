@@ -45,11 +45,10 @@ fn minute_at(words: &[u16], arrivals: &[u16], r: usize) -> u32
 }
 
 // Where the arrivals end that are of the same minute as the one at place p, among those up to place end.
-fn minute_end(words: &[u16], arrivals: &[u16], begin: usize, p: usize, end: usize) -> usize
+fn minute_end(words: &[u16], arrivals: &[u16], p: usize, end: usize) -> usize
     requires { ⌜ (16384 ≤ length (now words))
         × (stationCount (now words) ≤ 64)
-        × Run (now words) (now arrivals) begin end
-        × (begin ≤ p)
+        × Run (now words) (now arrivals) p end
         × (p < end) ⌝ }
     ensures { λ q. ⌜ MinuteEnd (now (words .entry)) (now (arrivals .entry)) p end q ⌝ }
 {
@@ -69,12 +68,8 @@ fn minute_end(words: &[u16], arrivals: &[u16], begin: usize, p: usize, end: usiz
 }
 
 // The least of top and the words of the arrivals at places p up to q.
-fn least(arrivals: &[u16], begin: usize, p: usize, q: usize, end: usize, v: &[u32], top: u32) -> u32
-    requires { ⌜ Held (now arrivals) begin end
-        × (begin ≤ p)
-        × (p ≤ q)
-        × (q ≤ end)
-        × (length (now v) ≡ 2048) ⌝ }
+fn least(arrivals: &[u16], p: usize, q: usize, v: &[u32], top: u32) -> u32
+    requires { ⌜ Held (now arrivals) p q × (length (now v) ≡ 2048) ⌝ }
     ensures { λ x. ⌜ Least (now (arrivals .entry)) (now (v .entry)) top p q x ⌝ }
 {
     let mut low = top;
@@ -102,21 +97,8 @@ fn mark(before: u32, low: u32, u: u32) -> u32
 }
 
 // Marks the arrivals at places p up to q.
-fn mark_all(
-    arrivals: &[u16],
-    begin: usize,
-    p: usize,
-    q: usize,
-    end: usize,
-    before: u32,
-    low: u32,
-    v: &mut [u32],
-)
-    requires { ⌜ Held (now arrivals) begin end
-        × (begin ≤ p)
-        × (p ≤ q)
-        × (q ≤ end)
-        × (length (now v) ≡ 2048) ⌝ }
+fn mark_all(arrivals: &[u16], p: usize, q: usize, before: u32, low: u32, v: &mut [u32])
+    requires { ⌜ Held (now arrivals) p q × (length (now v) ≡ 2048) ⌝ }
     ensures { λ _. ⌜ Marked (now (arrivals .entry)) before low p q (now (v .entry)) (now (v .exit)) ⌝ }
     ensures { λ _. ⌜ length (now (v .exit)) ≡ length (now (v .entry)) ⌝ }
 {
@@ -142,10 +124,10 @@ fn allow_station(words: &[u16], arrivals: &[u16], begin: usize, end: usize, top:
     let mut low = top;
     let mut p = begin;
     while p < end {
-        let q = minute_end(words, arrivals, begin, p, end);
+        let q = minute_end(words, arrivals, p, end);
         let before = low;
-        low = least(arrivals, begin, p, q, end, v, before);
-        mark_all(arrivals, begin, p, q, end, before, low, v);
+        low = least(arrivals, p, q, v, before);
+        mark_all(arrivals, p, q, before, low, v);
         p = q;
     }
 }

@@ -5,11 +5,11 @@ use borrow.Author.Needs.{needs}
 use lib.ListN.{length}
 use Rattle.prospects.specs.Front.{Fronting, fronting-more, fronting-all}
 use Rattle.prospects.proofs.FrontLaws.{
-  end-past,
   end-most,
   end-nearer,
   end-behind,
-  run-held,
+  run-from,
+  minute-held,
   run-ordered,
   front-first,
 }
@@ -31,9 +31,9 @@ allow-station-spec =
     Inv-loop
     μ-loop
     (λ c. (search needs, (search run-ordered, (search needs, search front-first))))
-    (λ c. search needs)
-    (λ c κs. (search run-held, search needs, search end-past, search end-most, search needs))
-    (λ c κs. (search run-held, search needs, search end-past, search end-most, search needs))
+    (λ c κs. (search needs, search needs, search run-from, search needs))
+    (λ c κs. (search minute-held, search needs))
+    (λ c κs. (search minute-held, search needs))
     (λ c. search end-nearer)
     (λ c. (search end-behind, (search end-most, (search needs, search fronting-more))))
     (λ c. search needs)
