@@ -17,4 +17,5 @@ unfoldable pub firstReady : (w : List ℕ) (minute : ℕ) → List ℕ → ℕ
 firstReady w minute l = firstOr nowhere (firstOf (λ g. leb minute (depart w g)) l)
 
 pub record Caught (w catches : List ℕ) : Type 0 where
+  pub fits : (j : ℕ) → getD catches j 0 < 65536
   pub is : (i : ℕ) → Goes w i → getD catches (suc i) 0 ≡ catch w (suc i)
