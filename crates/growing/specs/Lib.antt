@@ -1,3 +1,9 @@
 pub mod Tree
 pub mod Numbering
 pub mod ArcOrder
+pub mod NodeWords
+pub mod Held
+pub mod Parents
+pub mod Growth
+pub mod Finished
+pub mod Says

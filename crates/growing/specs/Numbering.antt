@@ -6,22 +6,21 @@ use mathlib.Core.Bool.{Bool, true, false, not}
 use mathlib.Core.Logic.{inl, inr, _≢_}
 use mathlib.Core.List.{List, [], _∷_, _++_, map, map-append, List·Memᴰ·head as here, List·Memᴰ·tail as there}
 use mathlib.Core.List.{Memᴰ·map, Memᴰ·of-map, Memᴰ·cast}
-use Prim.Native.Nat.{ℕ, zero, suc, _+_, _≤_, _<_}
+use Prim.Native.Nat.{ℕ, zero, suc, _<_}
 use native.Mathlib.Omega.{arith}
 use lib.Dec.{T, not-T}
 use lib.ListN.{length, getD, length-append}
 use Rattle.timetable.specs.Timetable.{stationsMost}
-use Rattle.lists.specs.Lists.{_∈_, keep, filter, any, concatMap, range, before, same, sort, Rising, tail}
+use Rattle.lists.specs.Lists.{_∈_, keep, filter, concatMap, range, before, same, sort, Rising, tail}
 use Rattle.lists.specs.Tests.{T-true, T-false}
 use Rattle.lists.specs.Members.{append-cases, filter-in, filter-out, any-in, any-out, concatMap-in, concatMap-out}
 use Rattle.lists.specs.Members.{range-in, range-out, same-eq, same-refl}
 use Rattle.lists.specs.Order.{before-head, before-tail, before-cases, before-same, before-irrefl}
 use Rattle.lists.specs.Sorting.{Inside, sort-out, sort-rising}
-use Rattle.lists.specs.Pigeonhole.{Within}
 use Rattle.stores.specs.Words.{beginnings, front, final, keyed, nodes, count, place}
-use Rattle.stores.specs.Sequences.{rejoin, begin-nonempty, begin-closed, begin-within, final-within}
-use Rattle.stores.specs.Nodes.{node-out, node-in, nodes-made, nodes-unique}
-use Rattle.growing.specs.Tree.{hasArc, hasKid, allStations, arcsOf, kidsOf, children, rooted, nodeAt, Made}
+use Rattle.stores.specs.Sequences.{rejoin, begin-nonempty, begin-within, final-within}
+use Rattle.stores.specs.Nodes.{node-in, nodes-made, nodes-unique}
+use Rattle.growing.specs.Tree.{hasArc, hasKid, allStations, kidsOf, children, rooted, Made}
 
 -- ---- a sequence with one station more
 module _ (a b : ℕ) where

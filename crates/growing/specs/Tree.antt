@@ -71,6 +71,7 @@ wordOf ps source lo v =
 -- The nodes below lo have been taken: words 0 to n are the root, their kids and no others, and the first m targets are
 -- those of their arcs, node by node.
 pub record Grown (ps : List (List ℕ)) (source : ℕ) (work targets : List ℕ) (n m lo : ℕ) : Type 0 where
+  pub source-listed : source ≤ stationsMost
   pub inside : lo ≤ suc n
   pub node-count : n ≡ length (concatMap (children ps) (take lo (rooted ps)))
   pub arc-count : m ≡ length (concatMap (arcsOf ps) (take lo (rooted ps)))
