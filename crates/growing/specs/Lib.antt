@@ -7,3 +7,5 @@ pub mod Parents
 pub mod Growth
 pub mod Finished
 pub mod Says
+pub mod Marks
+pub mod Laid

@@ -49,7 +49,7 @@ parent-below ps v h =
     (place-append (front q) ([] ∷ take v ns) (q ∷ drop (suc v) ns) m)
     (omega (arith, long, place-bound (front q) ([] ∷ take v ns) m)))
 
-last-of : (source : ℕ) (q : List ℕ) → q ≢ [] → final (source ∷ q) ≡ final q
+pub last-of : (source : ℕ) (q : List ℕ) → q ≢ [] → final (source ∷ q) ≡ final q
 last-of source [] h = absurd (h refl)
 last-of source (x ∷ q) h = refl
 
