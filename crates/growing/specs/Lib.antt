@@ -9,3 +9,4 @@ pub mod Finished
 pub mod Says
 pub mod Marks
 pub mod Laid
+pub mod Taking

@@ -2,18 +2,18 @@
 -- kids.
 use mathlib.Core.Path.{_≡_, refl, sym, ap, subst, _∙_}
 use mathlib.Core.Bool.{Bool, true, false}
-use mathlib.Core.List.{List, [], _∷_, _++_}
+use mathlib.Core.List.{List, [], _∷_, _++_, map, map-append}
 use Prim.Native.Nat.{ℕ, zero, suc, _+_, _-_, _≤_, _<_}
 use native.Mathlib.Nat.{add-zero}
 use native.Mathlib.Numerals.{add-one}
 use native.Mathlib.Omega.{arith}
 use borrow.Author.Tests.{eq-eqb, ne-eqb}
 use lib.Dec.{T, eqb}
-use lib.ListN.{length, getD, drop, length-append}
+use lib.ListN.{length, getD, drop, length-map}
 use lib.Seq.{drop-cons}
 use Rattle.timetable.specs.Timetable.{stationsMost}
 use Rattle.lists.specs.Lists.{keep, filter, range}
-use Rattle.growing.specs.Tree.{hasArc, hasKid, allStations, arcsOf, kidsOf, Flags}
+use Rattle.growing.specs.Tree.{hasArc, hasKid, allStations, arcsOf, kidsOf, nodeWord, Flags}
 
 -- station b, if its flag is 1
 unfoldable pub marked : (flag b : ℕ) → List ℕ
@@ -26,6 +26,26 @@ marksFrom b (x ∷ l) = marked x b ++ marksFrom (suc b) l
 
 abbrev pub marks : List ℕ → List ℕ
 marks flags = marksFrom 1 flags
+
+-- the words of the kids of v that end with these stations
+unfoldable pub kidWords : (v : ℕ) → List ℕ → List ℕ
+kidWords v bs = map (λ b. nodeWord b v 0) bs
+
+pub kid-words : (v : ℕ) (bs : List ℕ) → kidWords v bs ≡ map (λ b. nodeWord b v 0) bs
+unfolding kidWords
+kid-words v bs = refl
+
+pub kid-words-long : (v : ℕ) (bs : List ℕ) → length (kidWords v bs) ≡ length bs
+unfolding kidWords
+kid-words-long v bs = length-map bs (λ b. nodeWord b v 0)
+
+pub kid-words-append : (v : ℕ) (a b : List ℕ) → kidWords v (a ++ b) ≡ kidWords v a ++ kidWords v b
+unfolding kidWords
+kid-words-append v a b = map-append (λ b. nodeWord b v 0) a b
+
+pub kid-words-none : (v : ℕ) → kidWords v [] ≡ []
+unfolding kidWords
+kid-words-none v = refl
 
 pub marks-none : (b : ℕ) → marksFrom b [] ≡ []
 unfolding marksFrom
