@@ -1,3 +1,4 @@
 pub mod Writing
 pub mod MarkLaws
 pub mod TakeLaws
+pub mod LayLaws

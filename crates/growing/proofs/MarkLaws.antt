@@ -12,8 +12,7 @@ use Rattle.words.specs.Put.{put, put-none, put-one}
 use Rattle.growing.specs.Tree.{nodeWord}
 use Rattle.growing.specs.Marks.{marked, marksFrom, marks, marks-none, marks-more, marked-yes, marked-no}
 use Rattle.growing.specs.Marks.{kidWords, kid-words-none, kid-words-append, kid-words-long}
-use Rattle.growing.proofs.Writing.{Writing, writing-first, writing-as, writing-room, writing-more}
-use Rattle.growing.proofs.Writing.{writing-done, writing-long}
+use Rattle.growing.proofs.Writing.{Writing, writing-first, writing-room, writing-more, writing-done}
 
 -- ---- one flag
 module _ (count flag : ℕ) where
@@ -97,168 +96,142 @@ pub count-first : (flags : List ℕ) → length (marks flags) ≡ 0 + length (ma
 count-first flags = omega arith
 
 -- ---- written so far: the targets
-module _ (old out flags : List ℕ) (at here j : ℕ)
-    (w : Writing (marks flags) (marksFrom (j + 1) (drop j flags)) old out at here)
-    (long : length flags ≡ 64) where
-  module _ (h : j < 64) where
-    next-mark : Writing (marks flags) (marked (getD flags j 0) (j + 1) ++ marksFrom (j + 1 + 1) (drop (j + 1) flags)) old
-        out at here
-    next-mark =
-        writing-as
-        (marks flags)
-        (marksFrom (j + 1) (drop j flags))
-        (marked (getD flags j 0) (j + 1) ++ marksFrom (j + 1 + 1) (drop (j + 1) flags))
-        old
-        out
-        at
-        here
-        (marks-more flags j (omega arith))
-        w
-
-    pub target-room : here + length (marked (getD flags j 0) (j + 1)) ≤ length out
-    target-room =
-        writing-room
-        (marks flags)
-        (marked (getD flags j 0) (j + 1))
-        (marksFrom (j + 1 + 1) (drop (j + 1) flags))
-        old
-        out
-        at
-        here
-        next-mark
-
-    pub target-more : (out′ : List ℕ) (here′ : ℕ) → out′ ≡ put here (marked (getD flags j 0) (j + 1)) out
-        → here′ ≡ here + length (marked (getD flags j 0) (j + 1))
-        → Writing (marks flags) (marksFrom (j + 1 + 1) (drop (j + 1) flags)) old out′ at here′
-    target-more =
-        writing-more
-        (marks flags)
-        (marked (getD flags j 0) (j + 1))
-        (marksFrom (j + 1 + 1) (drop (j + 1) flags))
-        old
-        out
-        at
-        here
-        next-mark
-
-  pub targets-done : 64 ≤ j → out ≡ put at (marks flags) old
-  targets-done h =
-      writing-done
-      (marks flags)
-      old
-      out
-      at
-      here
-      (writing-as
-      (marks flags)
-      (marksFrom (j + 1) (drop j flags))
-      []
-      old
-      out
-      at
-      here
-      (ap (marksFrom (j + 1)) (drop-of-length-le flags {i = j} (omega arith)) ∙ marks-none (j + 1))
-      w)
-
 pub targets-first : (old flags : List ℕ) (at : ℕ) → at + length (marks flags) ≤ length old
     → Writing (marks flags) (marksFrom (0 + 1) (drop 0 flags)) old old at at
-targets-first old flags at h =
-    writing-as
-    (marks flags)
-    (marks flags)
-    (marksFrom (0 + 1) (drop 0 flags))
-    old
-    old
-    at
-    at
-    refl
-    (writing-first (marks flags) old at h)
+targets-first old flags at h = writing-first (marks flags) old at h
+
+module _
+    (old out flags : List ℕ)
+    (at here j : ℕ)
+    (w : Writing (marks flags) (marksFrom (j + 1) (drop j flags)) old out at here)
+    (long : length flags ≡ 64)
+  where
+    module _ (h : j < 64) where
+      abbrev this : List ℕ
+      this = marked (getD flags j 0) (j + 1)
+
+      abbrev rest : List ℕ
+      rest = marksFrom (j + 1 + 1) (drop (j + 1) flags)
+
+      pub target-room : here + length (marked (getD flags j 0) (j + 1)) ≤ length out
+      target-room =
+          writing-room
+          (marks flags)
+          (marksFrom (j + 1) (drop j flags))
+          this
+          rest
+          old
+          out
+          at
+          here
+          w
+          (marks-more flags j (omega arith))
+
+      pub target-more : (out′ : List ℕ) (here′ : ℕ) → out′ ≡ put here (marked (getD flags j 0) (j + 1)) out
+          → here′ ≡ here + length (marked (getD flags j 0) (j + 1))
+          → Writing (marks flags) (marksFrom (j + 1 + 1) (drop (j + 1) flags)) old out′ at here′
+      target-more =
+          writing-more
+          (marks flags)
+          (marksFrom (j + 1) (drop j flags))
+          this
+          rest
+          old
+          out
+          at
+          here
+          w
+          (marks-more flags j (omega arith))
+
+    pub targets-done : 64 ≤ j → out ≡ put at (marks flags) old
+    targets-done h =
+        writing-done
+        (marks flags)
+        (marksFrom (j + 1) (drop j flags))
+        old
+        out
+        at
+        here
+        w
+        (ap (marksFrom (j + 1)) (drop-of-length-le flags {i = j} (omega arith)) ∙ marks-none (j + 1))
 
 -- ---- written so far: the words of kids
-module _ (old out flags : List ℕ) (v at here j : ℕ)
-    (w : Writing (kidWords v (marks flags)) (kidWords v (marksFrom (j + 1) (drop j flags))) old out at here)
-    (long : length flags ≡ 64) where
-  module _ (h : j < 64) where
-    abbrev this : List ℕ
-    this = kidWords v (marked (getD flags j 0) (j + 1))
-
-    abbrev others : List ℕ
-    others = kidWords v (marksFrom (j + 1 + 1) (drop (j + 1) flags))
-
-    this-long : length this ≡ length (marked (getD flags j 0) (j + 1))
-    this-long = kid-words-long v (marked (getD flags j 0) (j + 1))
-
-    next-kid : Writing (kidWords v (marks flags)) (this ++ others) old out at here
-    next-kid =
-        writing-as
-        (kidWords v (marks flags))
-        (kidWords v (marksFrom (j + 1) (drop j flags)))
-        (this ++ others)
-        old
-        out
-        at
-        here
-        (ap (kidWords v) (marks-more flags j (omega arith))
-        ∙ kid-words-append v (marked (getD flags j 0) (j + 1)) (marksFrom (j + 1 + 1) (drop (j + 1) flags)))
-        w
-
-    pub kid-room : here + length (marked (getD flags j 0) (j + 1)) ≤ length out
-    kid-room =
-        omega (
-          arith,
-          this-long,
-          writing-room (kidWords v (marks flags)) this others old out at here next-kid,
-        )
-
-    pub kid-more : (out′ : List ℕ) (here′ : ℕ) → out′ ≡ put here (kidWords v (marked (getD flags j 0) (j + 1))) out
-        → here′ ≡ here + length (marked (getD flags j 0) (j + 1))
-        → Writing (kidWords v (marks flags)) (kidWords v (marksFrom (j + 1 + 1) (drop (j + 1) flags))) old out′ at here′
-    kid-more out′ here′ e f =
-        writing-more
-        (kidWords v (marks flags))
-        this
-        others
-        old
-        out
-        at
-        here
-        next-kid
-        out′
-        here′
-        e
-        (omega (arith, f, this-long))
-
-  pub kids-done : 64 ≤ j → out ≡ put at (kidWords v (marks flags)) old
-  kids-done h =
-      writing-done
-      (kidWords v (marks flags))
-      old
-      out
-      at
-      here
-      (writing-as
-      (kidWords v (marks flags))
-      (kidWords v (marksFrom (j + 1) (drop j flags)))
-      []
-      old
-      out
-      at
-      here
-      (ap (λ l. kidWords v (marksFrom (j + 1) l)) (drop-of-length-le flags {i = j} (omega arith))
-      ∙ ap (kidWords v) (marks-none (j + 1))
-      ∙ kid-words-none v)
-      w)
-
 pub kids-first : (old flags : List ℕ) (v at : ℕ) → at + length (marks flags) ≤ length old
     → Writing (kidWords v (marks flags)) (kidWords v (marksFrom (0 + 1) (drop 0 flags))) old old at at
 kids-first old flags v at h =
-    writing-as
-    (kidWords v (marks flags))
-    (kidWords v (marks flags))
-    (kidWords v (marksFrom (0 + 1) (drop 0 flags)))
-    old
-    old
-    at
-    at
-    refl
-    (writing-first (kidWords v (marks flags)) old at (omega (arith, kid-words-long v (marks flags))))
+    writing-first (kidWords v (marks flags)) old at (omega (arith, kid-words-long v (marks flags)))
+
+module _
+    (old out flags : List ℕ)
+    (v at here j : ℕ)
+    (w : Writing (kidWords v (marks flags)) (kidWords v (marksFrom (j + 1) (drop j flags))) old out at here)
+    (long : length flags ≡ 64)
+  where
+    module _ (h : j < 64) where
+      abbrev kid : List ℕ
+      kid = kidWords v (marked (getD flags j 0) (j + 1))
+
+      abbrev others : List ℕ
+      others = kidWords v (marksFrom (j + 1 + 1) (drop (j + 1) flags))
+
+      kid-long : length kid ≡ length (marked (getD flags j 0) (j + 1))
+      kid-long = kid-words-long v (marked (getD flags j 0) (j + 1))
+
+      next-kid : kidWords v (marksFrom (j + 1) (drop j flags)) ≡ kid ++ others
+      next-kid =
+          ap (kidWords v) (marks-more flags j (omega arith))
+          ∙ kid-words-append v (marked (getD flags j 0) (j + 1)) (marksFrom (j + 1 + 1) (drop (j + 1) flags))
+
+      pub kid-room : here + length (marked (getD flags j 0) (j + 1)) ≤ length out
+      kid-room =
+          omega (
+            arith,
+            kid-long,
+            writing-room
+                (kidWords v (marks flags))
+                (kidWords v (marksFrom (j + 1) (drop j flags)))
+                kid
+                others
+                old
+                out
+                at
+                here
+                w
+                next-kid,
+          )
+
+      pub kid-more : (out′ : List ℕ) (here′ : ℕ)
+          → out′ ≡ put here (kidWords v (marked (getD flags j 0) (j + 1))) out
+          → here′ ≡ here + length (marked (getD flags j 0) (j + 1))
+          → Writing (kidWords v (marks flags)) (kidWords v (marksFrom (j + 1 + 1) (drop (j + 1) flags))) old out′ at
+          here′
+      kid-more out′ here′ e f =
+          writing-more
+          (kidWords v (marks flags))
+          (kidWords v (marksFrom (j + 1) (drop j flags)))
+          kid
+          others
+          old
+          out
+          at
+          here
+          w
+          next-kid
+          out′
+          here′
+          e
+          (omega (arith, f, kid-long))
+
+    pub kids-done : 64 ≤ j → out ≡ put at (kidWords v (marks flags)) old
+    kids-done h =
+        writing-done
+        (kidWords v (marks flags))
+        (kidWords v (marksFrom (j + 1) (drop j flags)))
+        old
+        out
+        at
+        here
+        w
+        (ap (λ l. kidWords v (marksFrom (j + 1) l)) (drop-of-length-le flags {i = j} (omega arith))
+        ∙ ap (kidWords v) (marks-none (j + 1))
+        ∙ kid-words-none v)

@@ -18,59 +18,55 @@ pub writing-first : (whole old : List ℕ) (at : ℕ) → at + length whole ≤ 
 writing-first whole old at h =
     record { done = []; is-whole = refl; is-out = sym (put-none at old); is-here = omega arith; room = h }
 
--- what is left, said otherwise
-pub writing-as : (whole left next old out : List ℕ) (at here : ℕ) → left ≡ next → Writing whole left old out at here
-    → Writing whole next old out at here
-writing-as whole left next old out at here e w =
-    record {
-      done = w .done;
-      is-whole = ap (λ l. w .done ++ l) (sym e) ∙ w .is-whole;
-      is-out = w .is-out;
-      is-here = w .is-here;
-      room = w .room;
-    }
+-- the next part of what is left
+module _
+    (whole left part rest old out : List ℕ)
+    (at here : ℕ)
+    (w : Writing whole left old out at here)
+    (next : left ≡ part ++ rest)
+  where
+    long : length whole ≡ length (w .done) + (length part + length rest)
+    long =
+        omega (
+          arith,
+          ap length (w .is-whole),
+          ap length next,
+          length-append (w .done) left,
+          length-append part rest,
+        )
 
-module _ (whole part rest old out : List ℕ) (at here : ℕ) (w : Writing whole (part ++ rest) old out at here) where
-  long : length whole ≡ length (w .done) + (length part + length rest)
-  long =
-      omega (arith, ap length (w .is-whole), length-append (w .done) (part ++ rest), length-append part rest)
+    kept : length out ≡ length old
+    kept = ap length (w .is-out) ∙ length-put at (w .done) old (omega (arith, long, w .room))
 
-  kept : length out ≡ length old
-  kept = ap length (w .is-out) ∙ length-put at (w .done) old (omega (arith, long, w .room))
+    pub writing-room : here + length part ≤ length out
+    writing-room = omega (arith, long, kept, w .is-here, w .room)
 
-  pub writing-room : here + length part ≤ length out
-  writing-room = omega (arith, long, kept, w .is-here, w .room)
+    pub writing-more : (out′ : List ℕ) (here′ : ℕ) → out′ ≡ put here part out → here′ ≡ here + length part
+        → Writing whole rest old out′ at here′
+    writing-more out′ here′ e f =
+        record {
+          done = w .done ++ part;
+          is-whole = append-assoc (w .done) part rest ∙ ap (λ l. w .done ++ l) (sym next) ∙ w .is-whole;
+          is-out =
+              e
+              ∙ (λ i. put (w .is-here i) part (w .is-out i))
+              ∙ put-append at (length (w .done)) (w .done) part old refl (omega (arith, long, w .room));
+          is-here = omega (arith, f, w .is-here, length-append (w .done) part);
+          room = w .room;
+        }
 
-  pub writing-more : (out′ : List ℕ) (here′ : ℕ) → out′ ≡ put here part out → here′ ≡ here + length part
-      → Writing whole rest old out′ at here′
-  writing-more out′ here′ e f =
-      record {
-        done = w .done ++ part;
-        is-whole = append-assoc (w .done) part rest ∙ w .is-whole;
-        is-out =
-            e
-            ∙ (λ i. put (w .is-here i) part (w .is-out i))
-            ∙ put-append at (length (w .done)) (w .done) part old refl (omega (arith, long, w .room));
-        is-here = omega (arith, f, w .is-here, length-append (w .done) part);
-        room = w .room;
-      }
+-- nothing is left
+module _
+    (whole left old out : List ℕ)
+    (at here : ℕ)
+    (w : Writing whole left old out at here)
+    (none : left ≡ [])
+  where
+    all-done : w .done ≡ whole
+    all-done = sym (append-nil (w .done)) ∙ ap (λ l. w .done ++ l) (sym none) ∙ w .is-whole
 
-module _ (whole old out : List ℕ) (at here : ℕ) (w : Writing whole [] old out at here) where
-  all-done : w .done ≡ whole
-  all-done = sym (append-nil (w .done)) ∙ w .is-whole
+    pub writing-done : out ≡ put at whole old
+    writing-done = w .is-out ∙ ap (λ l. put at l old) all-done
 
-  pub writing-done : out ≡ put at whole old
-  writing-done = w .is-out ∙ ap (λ l. put at l old) all-done
-
-  pub writing-end : here ≡ at + length whole
-  writing-end = w .is-here ∙ ap (λ l. at + length l) all-done
-
-pub writing-long : (whole left old out : List ℕ) (at here : ℕ) → Writing whole left old out at here
-    → length out ≡ length old
-writing-long whole left old out at here w =
-    ap length (w .is-out)
-    ∙ length-put
-    at
-    (w .done)
-    old
-    (omega (arith, w .room, ap length (w .is-whole), length-append (w .done) left))
+    pub writing-end : here ≡ at + length whole
+    writing-end = w .is-here ∙ ap (λ l. at + length l) all-done

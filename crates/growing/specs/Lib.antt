@@ -10,3 +10,4 @@ pub mod Says
 pub mod Marks
 pub mod Laid
 pub mod Taking
+pub mod LaidSteps

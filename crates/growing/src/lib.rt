@@ -160,3 +160,140 @@ pub fn take_node(
         fits: true,
     }
 }
+
+// Station and parent of each node from 1 to n.
+fn write_nodes(work: &[u32], n: usize, store: &mut [u16])
+    requires { ⌜ (n < length (now work)) × (n ≤ 16383) × (2 + 2 * n ≤ length (now store)) ⌝ }
+    ensures { λ _. ⌜ now (store .exit) ≡ put 2 (entriesTo (now (work .entry)) 1 (suc n)) (now (store .entry)) ⌝ }
+    ensures { λ _. ⌜ length (now (store .exit)) ≡ length (now (store .entry)) ⌝ }
+{
+    let mut v = 1;
+    while v < n + 1 {
+        let x = work[v];
+        words::put_two(store, 2 * v, node_station(x), node_parent(x));
+        v += 1;
+    }
+}
+
+// An arc of node v, if its target is b. Answers the index behind it.
+fn write_arc(store: &mut [u16], at: usize, target: u8, b: u32, v: u32) -> usize
+    requires { ⌜ (b < 65536) × (v < 65536) × (at + length (arcWords target b v) ≤ length (now store)) ⌝ }
+    ensures { λ _. ⌜ now (store .exit) ≡ put at (arcWords target b v) (now (store .entry)) ⌝ }
+    ensures { λ _. ⌜ length (now (store .exit)) ≡ length (now (store .entry)) ⌝ }
+    ensures { λ r. ⌜ r ≡ at + length (arcWords target b v) ⌝ }
+{
+    if target as u32 == b {
+        words::put_two(store, at, b, v);
+        return at + 2;
+    }
+    at
+}
+
+// The arcs of node v to b, among the targets from index first to end. Answers the index behind them.
+fn write_hits(
+    targets: &[u8],
+    first: usize,
+    end: usize,
+    b: u32,
+    v: u32,
+    store: &mut [u16],
+    at: usize,
+) -> usize
+    requires { ⌜ (b < 65536)
+        × (v < 65536)
+        × (end ≤ length (now targets))
+        × (at + length (hitsTo (now targets) b v first end) ≤ length (now store)) ⌝ }
+    ensures { λ _. ⌜ now (store .exit)
+        ≡ put at (hitsTo (now (targets .entry)) b v first end) (now (store .entry)) ⌝ }
+    ensures { λ _. ⌜ length (now (store .exit)) ≡ length (now (store .entry)) ⌝ }
+    ensures { λ r. ⌜ r ≡ at + length (hitsTo (now (targets .entry)) b v first end) ⌝ }
+{
+    let mut here = at;
+    let mut i = first;
+    while i < end {
+        here = write_arc(store, here, targets[i], b, v);
+        i += 1;
+    }
+    here
+}
+
+// The arcs of all nodes to b. Answers the index behind them.
+fn write_arcs_to(
+    work: &[u32],
+    targets: &[u8],
+    n: usize,
+    b: u32,
+    store: &mut [u16],
+    at: usize,
+) -> usize
+    requires { ⌜ (b < 65536)
+        × (n < length (now work))
+        × (n ≤ 16383)
+        × (length (now targets) ≡ 16384)
+        × (total (now work) 0 (suc n) ≤ 16384)
+        × (at + length (nodeHits (now work) (now targets) b 0 0 (suc n)) ≤ length (now store)) ⌝ }
+    ensures { λ _. ⌜ now (store .exit)
+        ≡ put at (nodeHits (now (work .entry)) (now (targets .entry)) b 0 0 (suc n)) (now (store .entry)) ⌝ }
+    ensures { λ _. ⌜ length (now (store .exit)) ≡ length (now (store .entry)) ⌝ }
+    ensures { λ r. ⌜ r ≡ at + length (nodeHits (now (work .entry)) (now (targets .entry)) b 0 0 (suc n)) ⌝ }
+{
+    let mut here = at;
+    let mut i = 0;
+    let mut v = 0;
+    while v < n + 1 {
+        let end = i + node_arcs(work[v]) as usize;
+        here = write_hits(targets, i, end, b, v as u32, store, here);
+        i = end;
+        v += 1;
+    }
+    here
+}
+
+// The arcs to the stations, one station after the other.
+fn write_arcs(
+    work: &[u32],
+    targets: &[u8],
+    n: usize,
+    stations: usize,
+    store: &mut [u16],
+    at: usize,
+)
+    requires { ⌜ (stations ≤ 64)
+        × (n < length (now work))
+        × (n ≤ 16383)
+        × (length (now targets) ≡ 16384)
+        × (total (now work) 0 (suc n) ≤ 16384)
+        × (at + length (hitsOf (now work) (now targets) n 1 (suc stations)) ≤ length (now store)) ⌝ }
+    ensures { λ _. ⌜ now (store .exit)
+        ≡ put at (hitsOf (now (work .entry)) (now (targets .entry)) n 1 (suc stations)) (now (store .entry)) ⌝ }
+    ensures { λ _. ⌜ length (now (store .exit)) ≡ length (now (store .entry)) ⌝ }
+{
+    let mut here = at;
+    let mut b = 1;
+    while b < stations + 1 {
+        here = write_arcs_to(work, targets, n, b as u32, store, here);
+        b += 1;
+    }
+}
+
+// Writes the store of a tree all nodes of which have been taken: n and m, the nodes, and the arcs, which rise by target
+// and then predecessor.
+pub fn write_store(
+    work: &[u32],
+    targets: &[u8],
+    n: usize,
+    m: usize,
+    stations: usize,
+    store: &mut [u16],
+)
+    requires { ⌜ Whole stations (now work) (now targets) n m × (2 + 2 * n + 2 * m ≤ length (now store)) ⌝ }
+    ensures { λ _. ⌜ ((ps : List (List ℕ)) (source : ℕ)
+        → Made stations ps
+        → Grown ps source (now (work .entry)) (now (targets .entry)) n m (suc n)
+        → now (store .exit) ≡ put 0 (encode ps) (now (store .entry))) ⌝ }
+    ensures { λ _. ⌜ length (now (store .exit)) ≡ length (now (store .entry)) ⌝ }
+{
+    words::put_two(store, 0, n as u32, m as u32);
+    write_nodes(work, n, store);
+    write_arcs(work, targets, n, stations, store, 2 + 2 * n);
+}
