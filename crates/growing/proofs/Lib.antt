@@ -2,3 +2,4 @@ pub mod Writing
 pub mod MarkLaws
 pub mod TakeLaws
 pub mod LayLaws
+pub mod StoreLaws
