@@ -1,0 +1,1 @@
+// The least penalties on arrival.
