@@ -5,15 +5,11 @@ use mathlib.Core.Path.{_≡_}
 use mathlib.Core.Logic.{_⊎_, _≢_}
 use mathlib.Core.List.{List}
 use Prim.Native.Nat.{ℕ, suc, _+_, _≤_, _<_, min}
-use lib.ListN.{getD, set}
+use lib.ListN.{getD}
 use Rattle.lists.specs.Lists.{_∈_}
 use Rattle.stopwise.specs.Stopwise.{station, depart, points, changePoints, unreached, Goes, Catches}
 use Rattle.stopwise.specs.Settled.{FromStart, FromStop, FromChange}
 use Rattle.chains.specs.Order.{catch}
-
--- the words with the one at place k lowered to x, if it is higher
-unfoldable pub lowered : (k x : ℕ) → List ℕ → List ℕ
-lowered k x l = set l k (min (getD l k 0) x)
 
 -- what one has paid who leaves at stop k, and changes at the next
 abbrev pub changed : (w v : List ℕ) (k : ℕ) → ℕ

@@ -1,0 +1,20 @@
+-- What the pass goes by: the departures in their order, and for each arrival the departure that it catches.
+use mathlib.Core.Path.{_≡_}
+use mathlib.Core.Bool.{true}
+use mathlib.Core.List.{List}
+use Prim.Native.Nat.{ℕ, suc}
+use lib.ListN.{length, getD, take}
+use Rattle.timetable.specs.Words.{isTimetable}
+use Rattle.stopwise.specs.Stopwise.{Goes}
+use Rattle.stopwise.specs.Settled.{Timely}
+use Rattle.chains.specs.Order.{order, catch, InOrder}
+
+abbrev pub departures : List ℕ → List ℕ
+departures = order
+
+pub record Arranged (w listed caught : List ℕ) : Type 0 where
+  pub timetable : isTimetable w ≡ true
+  pub timely : Timely w
+  pub ordered : InOrder w
+  pub departs : take (length (departures w)) listed ≡ departures w
+  pub catches : (i : ℕ) → Goes w i → getD caught (suc i) 0 ≡ catch w (suc i)
