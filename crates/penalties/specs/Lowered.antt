@@ -1,5 +1,5 @@
 -- The two small sums of a turn: a word of a list that is lowered, and the least that one has paid who boards.
-use mathlib.Core.Path.{_≡_, refl, sym, ap, _∙_}
+use mathlib.Core.Path.{_≡_, ap, _∙_}
 use mathlib.Core.Bool.{cond}
 use mathlib.Core.Logic.{_≢_}
 use mathlib.Core.List.{List}

@@ -3,14 +3,14 @@
 use mathlib.Core.Path.{_≡_, refl, sym, ap, subst, _∙_}
 use mathlib.Core.Logic.{_⊎_, inl, inr}
 use mathlib.Core.List.{List, [], _∷_, _++_, append-assoc, List·Memᴰ·head as here, List·Memᴰ·tail as there}
-use mathlib.Core.List.{Memᴰ·append-left, Memᴰ·append-right, Memᴰ·cast}
+use mathlib.Core.List.{Memᴰ·append-left, Memᴰ·append-right}
 use Prim.Native.Nat.{ℕ, suc, _≤_, _<_}
 use native.Mathlib.Omega.{arith}
 use native.Mathlib.Decide.{decLt}
 use Rattle.lists.specs.Lists.{_∈_, Distinct}
 use Rattle.lists.specs.Members.{cons-cases, append-cases, none}
 use Rattle.timetable.specs.Words.{stationCount}
-use Rattle.stopwise.specs.Stopwise.{station, arrive, depart, ready, nowhere, Goes, Catches}
+use Rattle.stopwise.specs.Stopwise.{station, depart, nowhere, Goes, Catches}
 use Rattle.stopwise.specs.Settled.{Timely}
 use Rattle.chains.specs.Order.{order, catch, InOrder}
 

@@ -1,26 +1,16 @@
--- The pass from its beginning to its end: with nothing done no one has arrived anywhere, departures before minute d leave
--- all as it is, and with all departures done the penalties settle each other.
-use mathlib.Core.Path.{_≡_, refl, sym, ap, subst, _∙_}
-use mathlib.Core.Bool.{Bool, true, false, cond}
-use mathlib.Core.Logic.{_⊎_, _≢_, inl, inr}
-use mathlib.Core.List.{List, [], _∷_, _++_}
-use Prim.Native.Nat.{ℕ, suc, _+_, _≤_, _<_, min}
+-- Where the pass begins and ends: with nothing done no one has arrived anywhere, and with all departures done the
+-- penalties settle each other.
+use mathlib.Core.Path.{_≡_}
+use mathlib.Core.List.{List, []}
+use Prim.Native.Nat.{ℕ, suc, _≤_, _<_}
 use native.Mathlib.Omega.{arith}
-use native.Mathlib.Decide.{decLe, decLt, ℕ-discrete}
-use borrow.Author.Tests.{eqb-true, eqb-false}
-use lib.Dec.{eqb}
-use lib.ListN.{length, getD, set, take, drop, replicate, length-replicate, getD-replicate, List·getD-eq-default}
-use lib.Seq.{getD-set-same, getD-set-other, set-out}
-use Rattle.lists.specs.Lists.{_∈_}
+use native.Mathlib.Decide.{decLt}
+use lib.ListN.{getD, replicate, length-replicate, getD-replicate, List·getD-eq-default}
 use Rattle.lists.specs.Members.{none}
-use Rattle.timetable.specs.Words.{isTimetable}
-use Rattle.stopwise.specs.Stopwise.{station, depart, points, changePoints, unreached, Goes, Catches}
-use Rattle.stopwise.specs.Settled.{Settled, Timely}
-use Rattle.chains.specs.Order.{order, catch, InOrder}
-use Rattle.penalties.specs.Lowered.{lowered, lowered-here, lowered-else, boarding, boards-free, boards-least}
-use Rattle.penalties.specs.Swept.{changed, Swept, Boards, Turned}
-use Rattle.penalties.specs.Split.{Place, goes-now, stop-most, station-most}
-use Rattle.penalties.specs.Underway.{not-yet, none-aboard, none-catch, none-wait}
+use Rattle.stopwise.specs.Stopwise.{unreached}
+use Rattle.stopwise.specs.Settled.{Settled}
+use Rattle.chains.specs.Order.{order, InOrder}
+use Rattle.penalties.specs.Swept.{Swept}
 
 -- ---- nothing done
 module _ (n : ℕ) where
@@ -66,32 +56,3 @@ settles w a d v q low o s =
       attained = λ i g. s .attained i (o .all i g);
       capped = λ i g. s .v-most (suc i);
     }
-
--- ---- a departure before d
-module _
-    {w : List ℕ}
-    {a d : ℕ}
-    {done left : List ℕ}
-    {i : ℕ}
-    (p : Place w done left i)
-    {v q low : List ℕ}
-    (s : Swept w a d done v q low)
-  where
-    pub idle : depart w i < d → Turned w a d i v q low v q low
-    idle h =
-        record {
-          b = unreached;
-          boards =
-              record {
-                at-start = λ e g. absurd (omega arith);
-                by-staying = omega (arith, none-aboard p s h);
-                by-changing = omega (arith, none-wait p s h);
-                attained = λ g. absurd (omega arith);
-              };
-          low-here = omega (arith, none-wait p s h, none-catch p s h);
-          low-else = λ c e. refl;
-          v-here = omega (arith, not-yet p s);
-          v-else = λ j e. refl;
-          q-here = omega (arith, not-yet p s, s .q-most (catch w (suc i)));
-          q-else = λ f e. refl;
-        }

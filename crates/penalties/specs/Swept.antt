@@ -54,6 +54,12 @@ module _ (w : List ℕ) (a d : ℕ) (done v : List ℕ) where
     pub waits : (k : ℕ) → k ∈ done → catch w (suc k) ∈ done → getD low (station w (suc k)) 0 ≤ changed w v k
     pub waited : (c : ℕ) → c < 65 → getD low c 0 < unreached → Waited c (getD low c 0)
 
+-- no one has arrived at stop i, has caught the departure there, or waits for it
+pub record Quiet (w : List ℕ) (i : ℕ) (v q low : List ℕ) : Type 0 where
+  pub aboard : getD v i 0 ≡ unreached
+  pub catching : getD q i 0 ≡ unreached
+  pub waiting : getD low (station w i) 0 ≡ unreached
+
 module _ (w : List ℕ) (a d : ℕ) (i : ℕ) where
   -- b is the least that one has paid who boards at stop i
   pub record Boards (v low : List ℕ) (b : ℕ) : Type 0 where

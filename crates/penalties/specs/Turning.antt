@@ -3,7 +3,7 @@ use mathlib.Core.Path.{_≡_, refl, sym, ap, subst, _∙_}
 use mathlib.Core.Logic.{_⊎_, _≢_, inl, inr}
 use mathlib.Core.List.{List, [], _∷_, _++_, List·Memᴰ·head as here}
 use mathlib.Core.List.{Memᴰ·append-left, Memᴰ·append-right}
-use Prim.Native.Nat.{ℕ, suc, _+_, _≤_, _<_, min}
+use Prim.Native.Nat.{ℕ, suc, _+_, _≤_, _<_}
 use native.Mathlib.Nat.{suc-inj}
 use native.Mathlib.Omega.{arith}
 use native.Mathlib.Decide.{decLe, ℕ-discrete}
@@ -13,25 +13,9 @@ use Rattle.lists.specs.Members.{cons-cases, append-cases, none}
 use Rattle.stopwise.specs.Stopwise.{station, depart, points, changePoints, unreached, Goes, Catches}
 use Rattle.stopwise.specs.Settled.{FromStart, FromStop, FromChange}
 use Rattle.chains.specs.Order.{catch}
-use Rattle.penalties.specs.Swept.{changed, Behind, Offered, Waited, Swept, Boards, Turned}
+use Rattle.penalties.specs.Swept.{changed, Behind, Offered, Waited, Swept, Turned}
 use Rattle.penalties.specs.Underway.{on-the-way}
-use Rattle.penalties.specs.Split.{
-  Place,
-  stop-most,
-  station-most,
-  goes-now,
-  goes-done,
-  fresh,
-  earlier,
-  next-later,
-  not-caught,
-  not-itself,
-  left-before,
-  caught-before,
-  can-board,
-  can-board-now,
-  caught-later,
-}
+use Rattle.penalties.specs.Split.{Place, stop-most, station-most, goes-now, goes-done, fresh, next-later, not-caught, left-before, caught-before, can-board, can-board-now, caught-later}
 
 module _
     {w : List ℕ}

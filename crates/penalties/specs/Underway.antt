@@ -9,7 +9,7 @@ use native.Mathlib.Decide.{decLt}
 use lib.ListN.{getD}
 use Rattle.lists.specs.Lists.{_∈_}
 use Rattle.stopwise.specs.Stopwise.{station, depart, unreached}
-use Rattle.penalties.specs.Swept.{Swept}
+use Rattle.penalties.specs.Swept.{Swept, Quiet}
 use Rattle.penalties.specs.Split.{Place, goes-now, goes-done, stop-most, station-most, fresh, earlier}
 
 -- what is not less is the most
@@ -45,23 +45,21 @@ module _
             let r = s .reached (suc i) (stop-most p i (goes-now p)) h in
             fresh p (subst (λ k. k ∈ done) (suc-inj (r .next)) (r .gone))
 
-    -- before d no one is aboard, has caught i, or waits
-    module _ (early : depart w i < d) where
-      pub none-aboard : getD v i 0 ≡ unreached
-      none-aboard = at-most (getD v i 0) (s .v-most i) (λ h. omega (arith, on-the-way i here h))
+    -- before d there is no one
+    pub quiet : depart w i < d → Quiet w i v q low
+    quiet early =
+        record {
+          aboard = at-most (getD v i 0) (s .v-most i) (λ h. omega (arith, on-the-way i here h));
+          catching = at-most (getD q i 0) (s .q-most i) catching;
+          waiting = at-most (getD low (station w i) 0) (s .low-most (station w i)) waiting;
+        }
+      where
+        catching : ¬ (getD q i 0 < unreached)
+        catching h =
+            let r = s .offered i here h in
+            omega (arith, arrived (r .k) (r .gone) (omega (arith, r .is)))
 
-      pub none-catch : getD q i 0 ≡ unreached
-      none-catch = at-most (getD q i 0) (s .q-most i) none
-        where
-          none : ¬ (getD q i 0 < unreached)
-          none h =
-              let r = s .offered i here h in
-              omega (arith, arrived (r .k) (r .gone) (omega (arith, r .is)))
-
-      pub none-wait : getD low (station w i) 0 ≡ unreached
-      none-wait = at-most (getD low (station w i) 0) (s .low-most (station w i)) none
-        where
-          none : ¬ (getD low (station w i) 0 < unreached)
-          none h =
-              let r = s .waited (station w i) (station-most p) h in
-              omega (arith, arrived (r .k) (r .gone) (omega (arith, r .is)))
+        waiting : ¬ (getD low (station w i) 0 < unreached)
+        waiting h =
+            let r = s .waited (station w i) (station-most p) h in
+            omega (arith, arrived (r .k) (r .gone) (omega (arith, r .is)))

@@ -4,9 +4,9 @@ ghost use mathlib.Core.Path.{_≡_};
 ghost use Prim.Native.Nat.{suc, _+_, _≤_, _<_, min};
 ghost use lib.ListN.{length, getD, set, take, replicate};
 ghost use Rattle.timetable.specs.Words.{stationCount, stopAt};
-ghost use Rattle.stopwise.specs.Stopwise.{unreached, station, changePoints};
+ghost use Rattle.stopwise.specs.Stopwise.{unreached, station, depart, changePoints};
 ghost use Rattle.stopwise.specs.Settled.{Settled};
-ghost use Rattle.penalties.specs.Swept.{Swept, Turned};
+ghost use Rattle.penalties.specs.Swept.{Quiet, Swept, Turned};
 ghost use Rattle.penalties.specs.Riding.{Departing};
 ghost use Rattle.penalties.specs.Lowered.{lowered, boarding};
 ghost use Rattle.penalties.specs.Arranged.{Arranged, departures};
@@ -140,7 +140,44 @@ fn ride(
     arrive(words, catches, i + 1, b + s.points, v, q);
 }
 
-// One departure, at place x of the order.
+// Departure i. Before minute d there is no one.
+fn depart(
+    words: &[u16],
+    catches: &[u16],
+    source: usize,
+    d: usize,
+    i: usize,
+    v: &mut [u32],
+    q: &mut [u32],
+    low: &mut [u32],
+)
+    requires { ⌜ (16384 ≤ length (now words)) × (2048 ≤ length (now catches)) ⌝ }
+    requires { ⌜ (2048 ≤ length (now v)) × (2048 ≤ length (now q)) × (length (now low) ≡ 65) ⌝ }
+    requires { ⌜ Departing (now words) (now catches) i (now v) (now q) ⌝ }
+    requires { ⌜ (depart (now words) i < d → Quiet (now words) i (now v) (now q) (now low)) ⌝ }
+    ensures { λ _. ⌜ Turned
+        (now (words .entry))
+        source
+        d
+        i
+        (now (v .entry))
+        (now (q .entry))
+        (now (low .entry))
+        (now (v .exit))
+        (now (q .exit))
+        (now (low .exit)) ⌝ }
+    ensures { λ _. ⌜ (length (now (v .exit)) ≡ length (now (v .entry)))
+        × (length (now (q .exit)) ≡ length (now (q .entry)))
+        × (length (now (low .exit)) ≡ length (now (low .entry))) ⌝ }
+{
+    let s = timetable::stop_at(words, i);
+    if (s.depart as usize) < d {
+        return;
+    }
+    ride(words, catches, source, i, s, v, q, low);
+}
+
+// The departure at place x of the order.
 fn turn(
     words: &[u16],
     order: &[u16],
@@ -152,7 +189,7 @@ fn turn(
     q: &mut [u32],
     low: &mut [u32],
 )
-    requires { ⌜ (16384 ≤ length (now words)) × (stationCount (now words) ≤ 64) × (2048 ≤ length (now catches)) ⌝ }
+    requires { ⌜ (16384 ≤ length (now words)) × (2048 ≤ length (now catches)) ⌝ }
     requires { ⌜ (2048 ≤ length (now v)) × (2048 ≤ length (now q)) × (length (now low) ≡ 65) ⌝ }
     requires { ⌜ (x < length (departures (now words))) × Arranged (now words) (now order) (now catches) ⌝ }
     requires { ⌜ Swept (now words) source d (take x (departures (now words))) (now v) (now q) (now low) ⌝ }
@@ -169,11 +206,7 @@ fn turn(
         × (length (now (low .exit)) ≡ length (now (low .entry))) ⌝ }
 {
     let i = words::word(order, x) as usize;
-    let s = timetable::stop_at(words, i);
-    if (s.depart as usize) < d {
-        return;
-    }
-    ride(words, catches, source, i, s, v, q, low);
+    depart(words, catches, source, d, i, v, q, low);
 }
 
 // v gets the least penalties on arrival; q is working space.
