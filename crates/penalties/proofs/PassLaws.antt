@@ -5,8 +5,6 @@ use Prim.Native.Nat.{ℕ, _≤_}
 use native.Mathlib.Omega.{arith}
 use lib.ListN.{length, take, replicate}
 use lib.Seq.{take-all}
-use Rattle.timetable.specs.Words.{stationCount}
-use Rattle.timetable.specs.Access.{stations-few}
 use Rattle.stopwise.specs.Stopwise.{unreached}
 use Rattle.stopwise.specs.Settled.{Settled}
 use Rattle.penalties.specs.Swept.{Swept}
@@ -19,9 +17,6 @@ pub begins : (w : List ℕ) (a d : ℕ) (v q v₀ q₀ : List ℕ) → v ≡ rep
 begins w a d v q v₀ q₀ e f h g = rw (e, f) (swept-none w a d (length v₀) (length q₀) 65 h g (omega arith))
 
 module _ (w deps caught : List ℕ) (arranged : Arranged w deps caught) where
-  pub few : stationCount w ≤ 64
-  few = stations-few w (arranged .timetable)
-
   pub ends : (a d n x : ℕ) (v q low : List ℕ) → n ≡ length (departures w) → n ≤ x
       → Swept w a d (take x (departures w)) v q low → Settled w a d v
   ends a d n x v q low e h s =

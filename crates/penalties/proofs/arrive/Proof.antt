@@ -1,10 +1,8 @@
+-- The sum of the least and of the change is what the caller lowers the offer to.
 use borrow.Author.Needs.{needs}
 use Rattle.penalties.proofs.ArriveLaws.{arrived, offered}
 use Rattle.penalties.proofs.arrive.Statement.{statement}
 use Rattle.penalties.proofs.arrive.Tie as tie
-
-returns : tie.Need-returns
-returns c = (search arrived, (search offered, (search needs, search needs)))
 
 pub arrive-spec : {M : Type 1} → statement M
 arrive-spec =
@@ -20,4 +18,4 @@ arrive-spec =
     (λ c. search needs)
     (λ c. search needs)
     (λ c. search needs)
-    returns)
+    (λ c. (search arrived, (search offered, (search needs, search needs)))))

@@ -1,3 +1,4 @@
+-- The first k words are unreached, the others as they were.
 use mathlib.Core.Path.{_≡_, refl}
 use mathlib.Core.List.{_++_}
 use Prim.Native.Nat.{_-_, _≤_}
@@ -14,26 +15,17 @@ Inv-loop a₀ n k₀ a k = (k ≤ length a₀) × (length a ≡ length a₀) × 
 abbrev μ-loop : tie.MeasureT-loop
 μ-loop a₀ n k₀ a k = length a₀ - k
 
-loop-holds : tie.Need-loop-holds Inv-loop μ-loop
-loop-holds c = (search needs, refl, refl)
-
-loop-again : tie.Need-loop-again Inv-loop μ-loop
-loop-again c = (search needs, search needs, search one-more)
-
-returns : tie.Need-returns Inv-loop μ-loop
-returns c = (search filled, search needs)
-
 pub fill-spec : {M : Type 1} → statement M
 fill-spec =
     tie.close
     (tie.spec
     Inv-loop
     μ-loop
-    loop-holds
+    (λ c. (search needs, refl, refl))
     (λ c. search needs)
     (λ c. search needs)
     (λ c. search needs)
     (λ c. search needs)
-    loop-again
+    (λ c. (search needs, search needs, search one-more))
     (λ c. search needs)
-    returns)
+    (λ c. (search filled, search needs)))
