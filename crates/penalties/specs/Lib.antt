@@ -2,7 +2,8 @@ pub mod Lowered
 pub mod Swept
 pub mod Split
 pub mod Underway
+pub mod Changing
 pub mod Turning
-pub mod Sweeping
 pub mod Riding
+pub mod Sweeping
 pub mod Arranged

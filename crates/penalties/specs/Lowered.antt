@@ -1,4 +1,4 @@
--- The two small sums of a turn: a word of a list that is lowered, and the least that one has paid who boards.
+-- The two small steps of a turn: to lower a word of a list, and to choose the least that one has paid who boards.
 use mathlib.Core.Path.{_≡_, ap, _∙_}
 use mathlib.Core.Bool.{cond}
 use mathlib.Core.Logic.{_≢_}

@@ -1,5 +1,5 @@
--- One ride, from stop i to the next: who boards at stop i has come from the start, stayed aboard or changed, and arrives
--- at the next stop, where a change catches another departure.
+-- One ride, from stop i to the next: who boards at stop i has come from the start, stayed aboard or changed, and
+-- arrives at the next stop, where a change catches another departure.
 use mathlib.Core.Path.{_≡_, refl, _∙_}
 use mathlib.Core.Logic.{_⊎_, _≢_, inl, inr}
 use mathlib.Core.List.{List}
@@ -71,7 +71,7 @@ module _
               at-start = λ h g. z;
               by-staying = omega arith;
               by-changing = omega arith;
-              attained = λ g. inl (e, (omega arith), z);
+              attained = λ g. inl (e, omega arith, z);
             }
 
         least : b ≡ min (getD v i 0) (getD low′ (station w i) 0) → station w i ≢ a → Boards w a (depart w i) i v low′ b
@@ -104,24 +104,36 @@ module _
         }
 
     -- the ride to the next stop, and the change there
-    module _ (v′ q′ : List ℕ) (long : 2048 ≤ length v)
-        (rode : v′ ≡ set v (suc i) (min unreached (b + points w i)))
-        (offered : q′ ≡ lowered (catch w (suc i)) (min unreached (b + points w i) + changePoints w (station w (suc i))) q) where
-      v-here : getD v′ (suc i) 0 ≡ min unreached (b + points w i)
-      v-here = rw rode (getD-set-same v (suc i) (min unreached (b + points w i)) 0 (omega (arith, r .timely .few i (r .goes), r .timely .stops)))
+    abbrev paid : ℕ
+    paid = min unreached (b + points w i)
 
-      pub boarded : Turned w a (depart w i) i v q low v′ q′ low′
-      boarded =
-          record {
-            b = b;
-            boards = boards;
-            low-here = low-here;
-            low-else = low-else;
-            v-here = v-here;
-            v-else = λ j e. rw rode (getD-set-other v (suc i) j (min unreached (b + points w i)) 0 e);
-            q-here = rw (offered, v-here) (lowered-here q (catch w (suc i)) (min unreached (b + points w i) + changePoints w (station w (suc i))));
-            q-else = λ f e. rw offered (lowered-else q (catch w (suc i)) (min unreached (b + points w i) + changePoints w (station w (suc i))) f e);
-          }
+    abbrev cost : ℕ
+    cost = paid + changePoints w (station w (suc i))
+
+    module _
+        (v′ q′ : List ℕ)
+        (long : 2048 ≤ length v)
+        (rode : v′ ≡ set v (suc i) paid)
+        (offered : q′ ≡ lowered (catch w (suc i)) cost q)
+      where
+        inside : suc i < length v
+        inside = omega (arith, r .timely .few i (r .goes), r .timely .stops)
+
+        v-here : getD v′ (suc i) 0 ≡ paid
+        v-here = rw rode (getD-set-same v (suc i) paid 0 inside)
+
+        pub boarded : Turned w a (depart w i) i v q low v′ q′ low′
+        boarded =
+            record {
+              b = b;
+              boards = boards;
+              low-here = low-here;
+              low-else = low-else;
+              v-here = v-here;
+              v-else = λ j e. rw rode (getD-set-other v (suc i) j paid 0 e);
+              q-here = rw (offered, v-here) (lowered-here q (catch w (suc i)) cost);
+              q-else = λ f e. rw offered (lowered-else q (catch w (suc i)) cost f e);
+            }
 
 -- the same for an earlier minute to start from
 pub from-earlier : {w : List ℕ} {a d i : ℕ} {v q low v′ q′ low′ : List ℕ} → d ≤ depart w i

@@ -72,8 +72,11 @@ module _ {w done left : List ℕ} {i : ℕ} (p : Place w done left i) where
   pub stop-most : (k : ℕ) → Goes w k → suc k < 2048
   stop-most k g = omega (arith, p .timely .few k g, p .timely .stops)
 
-  pub station-most : station w i < 65
-  station-most = omega (arith, p .timely .listed i goes-now, p .few)
+  pub stop-few : i < 2048
+  stop-few = omega (arith, stop-most i goes-now)
+
+  pub station-few : station w i < 65
+  station-few = omega (arith, p .timely .listed i goes-now, p .few)
 
   -- the next stop of the trip is left later
   pub next-later : ¬ (suc i ∈ done)
@@ -87,7 +90,7 @@ module _ {w done left : List ℕ} {i : ℕ} (p : Place w done left i) where
       let now : Goes w k = subst (Goes w) (sym e) goes-now in
       omega (arith, p .timely .before k now, c .timely, earlier g m, ap (depart w) e)
 
-  pub not-itself : ¬ Catches w (suc i) i
+  not-itself : ¬ Catches w (suc i) i
   not-itself c = omega (arith, p .timely .before i goes-now, c .timely)
 
   pub left-before : (k : ℕ) → Goes w k → Catches w (suc k) i → k ∈ done
@@ -115,7 +118,7 @@ module _ {w done left : List ℕ} {i : ℕ} (p : Place w done left i) where
           let r = around m in
           let f = catch w (suc k) in
           let whole : order w ≡ (done ++ (i ∷ r .before)) ++ (f ∷ r .behind) =
-          (p .split) ∙ ap (λ l. done ++ (i ∷ l)) (r .whole) ∙ sym (append-assoc done (i ∷ r .before) (f ∷ r .behind)) in
+          p .split ∙ ap (λ l. done ++ (i ∷ l)) (r .whole) ∙ sym (append-assoc done (i ∷ r .before) (f ∷ r .behind)) in
           let n = p .ordered .caught-first k i (done ++ (i ∷ r .before)) (r .behind) g whole c in
           single (subst (λ l. i ∈ l) (sym (r .whole)) (Memᴰ·append-right (r .before) n))
 
@@ -134,7 +137,7 @@ module _ {w done left : List ℕ} {i : ℕ} (p : Place w done left i) where
       let r = around n in
       let f = catch w (suc k) in
       let whole : order w ≡ r .before ++ (f ∷ (r .behind ++ (i ∷ left))) =
-      (p .split) ∙ ap (λ l. l ++ (i ∷ left)) (r .whole) ∙ append-assoc (r .before) (f ∷ r .behind) (i ∷ left) in
+      p .split ∙ ap (λ l. l ++ (i ∷ left)) (r .whole) ∙ append-assoc (r .before) (f ∷ r .behind) (i ∷ left) in
       p .ordered .caught-behind k i (r .before) (r .behind ++ (i ∷ left)) (goes-done k m) whole
       (Memᴰ·append-right (r .behind) (here refl)) e
 

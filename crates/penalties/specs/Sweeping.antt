@@ -5,7 +5,7 @@ use mathlib.Core.List.{List, []}
 use Prim.Native.Nat.{ℕ, suc, _≤_, _<_}
 use native.Mathlib.Omega.{arith}
 use native.Mathlib.Decide.{decLt}
-use lib.ListN.{getD, replicate, length-replicate, getD-replicate, List·getD-eq-default}
+use lib.ListN.{length, getD, replicate, length-replicate, getD-replicate, List·getD-eq-default}
 use Rattle.lists.specs.Members.{none}
 use Rattle.stopwise.specs.Stopwise.{unreached}
 use Rattle.stopwise.specs.Settled.{Settled}
@@ -22,10 +22,8 @@ module _ (n : ℕ) where
       elim (decLt j n) [
         | yes h ↦ omega (arith, full j h)
         | no h ↦
-            omega (
-              arith,
-              List·getD-eq-default (replicate n unreached) 0 {n = j} (omega (arith, length-replicate {A = ℕ} n unreached)),
-            )
+            (let past : length (replicate n unreached) ≤ j = omega (arith, length-replicate {A = ℕ} n unreached) in
+            omega (arith, List·getD-eq-default (replicate n unreached) 0 {n = j} past))
       ]
 
 pub swept-none : (w : List ℕ) (a d m n k : ℕ) → 2048 ≤ m → 2048 ≤ n → 65 ≤ k

@@ -15,14 +15,14 @@ use Rattle.chains.specs.Order.{catch}
 abbrev pub changed : (w v : List ℕ) (k : ℕ) → ℕ
 changed w v k = getD v (suc k) 0 + changePoints w (station w (suc k))
 
-module _ (w : List ℕ) (a d : ℕ) (done v : List ℕ) where
-  -- stop j is the next after one of the departures
-  pub record Behind (j : ℕ) : Type 0 where
-    pub k : ℕ
-    pub gone : k ∈ done
-    pub next : suc k ≡ j
-    pub timely : d ≤ depart w k
+-- stop j is the next after one of the departures
+pub record Behind (w : List ℕ) (d : ℕ) (done : List ℕ) (j : ℕ) : Type 0 where
+  pub k : ℕ
+  pub gone : k ∈ done
+  pub next : suc k ≡ j
+  pub timely : d ≤ depart w k
 
+module _ (w done v : List ℕ) where
   -- p is what one has paid who changes to the departure that is caught, f,
   pub record Offered (f p : ℕ) : Type 0 where
     pub k : ℕ
@@ -38,21 +38,21 @@ module _ (w : List ℕ) (a d : ℕ) (done v : List ℕ) where
     pub here : station w (suc k) ≡ c
     pub is : p ≡ changed w v k
 
-  -- what the pass has left behind when these departures are done
-  pub record Swept (q low : List ℕ) : Type 0 where
-    pub reached : (j : ℕ) → j < 2048 → getD v j 0 < unreached → Behind j
-    pub v-most : (j : ℕ) → getD v j 0 ≤ unreached
-    pub q-most : (f : ℕ) → getD q f 0 ≤ unreached
-    pub low-most : (c : ℕ) → getD low c 0 ≤ unreached
-    pub starts : (i : ℕ) → i ∈ done → station w i ≡ a → d ≤ depart w i → getD v (suc i) 0 ≤ points w i
-    pub stays : (i : ℕ) → Goes w i → suc i ∈ done → getD v (suc (suc i)) 0 ≤ getD v (suc i) 0 + points w (suc i)
-    pub changes : (i g : ℕ) → Goes w i → g ∈ done → Catches w (suc i) g → getD v (suc g) 0 ≤ changed w v i + points w g
-    pub attained : (i : ℕ) → i ∈ done → getD v (suc i) 0 < unreached
-        → FromStart w a d v i ⊎ (FromStop w a d v i ⊎ FromChange w a d v i)
-    pub offers : (k : ℕ) → k ∈ done → getD q (catch w (suc k)) 0 ≤ changed w v k
-    pub offered : (f : ℕ) → f < 2048 → getD q f 0 < unreached → Offered f (getD q f 0)
-    pub waits : (k : ℕ) → k ∈ done → catch w (suc k) ∈ done → getD low (station w (suc k)) 0 ≤ changed w v k
-    pub waited : (c : ℕ) → c < 65 → getD low c 0 < unreached → Waited c (getD low c 0)
+-- what the pass has left behind when these departures are done: penalties of changes, and on arrival
+pub record Swept (w : List ℕ) (a d : ℕ) (done v q low : List ℕ) : Type 0 where
+  pub q-most : (f : ℕ) → getD q f 0 ≤ unreached
+  pub low-most : (c : ℕ) → getD low c 0 ≤ unreached
+  pub offers : (k : ℕ) → k ∈ done → getD q (catch w (suc k)) 0 ≤ changed w v k
+  pub offered : (f : ℕ) → f < 2048 → getD q f 0 < unreached → Offered w done v f (getD q f 0)
+  pub waits : (k : ℕ) → k ∈ done → catch w (suc k) ∈ done → getD low (station w (suc k)) 0 ≤ changed w v k
+  pub waited : (c : ℕ) → c < 65 → getD low c 0 < unreached → Waited w done v c (getD low c 0)
+  pub v-most : (j : ℕ) → getD v j 0 ≤ unreached
+  pub reached : (j : ℕ) → j < 2048 → getD v j 0 < unreached → Behind w d done j
+  pub starts : (i : ℕ) → i ∈ done → station w i ≡ a → d ≤ depart w i → getD v (suc i) 0 ≤ points w i
+  pub stays : (i : ℕ) → Goes w i → suc i ∈ done → getD v (suc (suc i)) 0 ≤ getD v (suc i) 0 + points w (suc i)
+  pub changes : (i g : ℕ) → Goes w i → g ∈ done → Catches w (suc i) g → getD v (suc g) 0 ≤ changed w v i + points w g
+  pub attained : (i : ℕ) → i ∈ done → getD v (suc i) 0 < unreached
+      → FromStart w a d v i ⊎ (FromStop w a d v i ⊎ FromChange w a d v i)
 
 -- no one has arrived at stop i, has caught the departure there, or waits for it
 pub record Quiet (w : List ℕ) (i : ℕ) (v q low : List ℕ) : Type 0 where
@@ -60,7 +60,7 @@ pub record Quiet (w : List ℕ) (i : ℕ) (v q low : List ℕ) : Type 0 where
   pub catching : getD q i 0 ≡ unreached
   pub waiting : getD low (station w i) 0 ≡ unreached
 
-module _ (w : List ℕ) (a d : ℕ) (i : ℕ) where
+module _ (w : List ℕ) (a d i : ℕ) where
   -- b is the least that one has paid who boards at stop i
   pub record Boards (v low : List ℕ) (b : ℕ) : Type 0 where
     pub at-start : station w i ≡ a → d ≤ depart w i → b ≡ 0
@@ -69,7 +69,7 @@ module _ (w : List ℕ) (a d : ℕ) (i : ℕ) where
     pub attained : b < unreached
         → ((station w i ≡ a) × (d ≤ depart w i) × (b ≡ 0)) ⊎ ((b ≡ getD v i 0) ⊎ (b ≡ getD low (station w i) 0))
 
-  -- what the departure i makes of v, q and low
+  -- what departure i makes of v, q and low
   pub record Turned (v q low v′ q′ low′ : List ℕ) : Type 0 where
     pub b : ℕ
     pub boards : Boards v low′ b

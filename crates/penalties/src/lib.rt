@@ -38,6 +38,7 @@ fn lower(a: &mut [u32], k: usize, x: u32)
     a[k] = x;
 }
 
+// All words become unreached.
 fn fill(a: &mut [u32])
     ensures { λ _. ⌜ now (a .exit) ≡ replicate (length (now (a .entry))) unreached ⌝ }
     ensures { λ _. ⌜ length (now (a .exit)) ≡ length (now (a .entry)) ⌝ }
@@ -60,7 +61,8 @@ fn boarding(source: usize, c: usize, stay: u32, change: u32) -> u32
     lesser(stay, change)
 }
 
-// Those who have caught departure i, at station c, can board now.
+// Who has caught departure i, at station c, can board there from now on. Answers the least that one has paid who boards
+// at i.
 fn board(source: usize, c: usize, i: usize, v: &[u32], q: &[u32], low: &mut [u32]) -> u32
     requires { ⌜ (i < length (now v)) × (i < length (now q)) × (c < length (now low)) ⌝ }
     ensures { λ _. ⌜ now (low .exit) ≡ lowered c (getD (now (q .entry)) i 0) (now (low .entry)) ⌝ }
@@ -104,7 +106,7 @@ fn arrive(words: &[u16], catches: &[u16], j: usize, p: u32, v: &mut [u32], q: &m
     lower(q, f, u + cost);
 }
 
-// The ride that begins at stop i.
+// The ride that begins at stop i, which is s.
 fn ride(
     words: &[u16],
     catches: &[u16],
@@ -209,7 +211,8 @@ fn turn(
     depart(words, catches, source, d, i, v, q, low);
 }
 
-// v gets the least penalties on arrival; q is working space.
+// v gets the least penalties on arrival, for a start at the source from minute d on; q is working space. The first n
+// words of the order are the departures; catches has for each arrival the first departure that a change reaches.
 pub fn least_penalties(
     words: &[u16],
     order: &[u16],
@@ -220,9 +223,9 @@ pub fn least_penalties(
     v: &mut [u32],
     q: &mut [u32],
 )
-    requires { ⌜ (16384 ≤ length (now words)) × (n ≡ length (departures (now words))) × (2048 ≤ length (now catches)) ⌝ }
+    requires { ⌜ (16384 ≤ length (now words)) × (2048 ≤ length (now catches)) ⌝ }
     requires { ⌜ (2048 ≤ length (now v)) × (2048 ≤ length (now q)) ⌝ }
-    requires { ⌜ Arranged (now words) (now order) (now catches) ⌝ }
+    requires { ⌜ (n ≡ length (departures (now words))) × Arranged (now words) (now order) (now catches) ⌝ }
     ensures { λ _. ⌜ Settled (now (words .entry)) source d (now (v .exit)) ⌝ }
     ensures { λ _. ⌜ (length (now (v .exit)) ≡ length (now (v .entry)))
         × (length (now (q .exit)) ≡ length (now (q .entry))) ⌝ }

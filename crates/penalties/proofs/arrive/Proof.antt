@@ -1,4 +1,4 @@
--- The sum of the least and of the change is what the caller lowers the offer to.
+-- The word that is stored is the lesser of the two, and the offer is lowered to what it and the change come to.
 use borrow.Author.Needs.{needs}
 use Rattle.penalties.proofs.ArriveLaws.{arrived, offered}
 use Rattle.penalties.proofs.arrive.Statement.{statement}

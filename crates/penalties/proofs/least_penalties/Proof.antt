@@ -30,7 +30,10 @@ least-penalties-spec =
     (λ c. search needs)
     (λ c. (search needs, refl, refl, refl, search begins))
     (λ c. search needs)
-    (λ c κs. ((search needs, search needs), ((search needs, search needs, search needs), ((search needs, search needs), search needs))))
+    (λ c κs. (
+      (search needs, search needs),
+      ((search needs, search needs, search needs), ((search needs, search needs), search needs)),
+    ))
     (λ c. search needs)
     (λ c. search needs)
     (λ c. (search needs, search needs, search needs, search needs, search needs))

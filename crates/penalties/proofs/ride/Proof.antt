@@ -1,4 +1,4 @@
--- Either no one boards, and only those who wait are told apart, or someone arrives at the next stop.
+-- Either no one boards, and no one arrives, or someone arrives at the next stop.
 use mathlib.Core.Path.{refl}
 use borrow.Author.Needs.{needs}
 use Rattle.penalties.proofs.RideLaws.{

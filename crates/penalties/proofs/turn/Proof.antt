@@ -10,7 +10,10 @@ turn-spec =
     (tie.spec
     (λ c κs. search listed-in)
     (λ c. search needs)
-    (λ c κs. ((search needs, search needs), ((search needs, search needs, search needs), (search departing, search early))))
+    (λ c κs. (
+      (search needs, search needs),
+      ((search needs, search needs, search needs), (search departing, search early)),
+    ))
     (λ c. search needs)
     (λ c. search needs)
     (λ c. search needs)
