@@ -58,7 +58,7 @@ stations-end : (n : Net) (x u b : ℕ) (c : Connection) (m : List ℕ) → Feasi
 stations-end n x u b (direct r) m f = f .1
 stations-end n x u b (onward r z c) m f = stations-end n (z .to) (ready r z) b c (z .from ∷ m) (f .2)
 
-sequence-end : (n : Net) (x u b : ℕ) (c : Connection) (rev : List ℕ) (y : ℕ) → Feasible n x u b c
+pub sequence-end : (n : Net) (x u b : ℕ) (c : Connection) (rev : List ℕ) (y : ℕ) → Feasible n x u b c
     → stations c ≡ reverseAux rev (y ∷ []) → b ≡ y
 sequence-end n x u b c rev y f e =
     sym (stations-end n x u b c [] f) ∙ ap (λ q. lead (reverseAux q [])) e ∙ ap lead (reverse-twice rev (y ∷ []))
@@ -92,7 +92,7 @@ module _ (w : List ℕ) (yes : isTimetable w ≡ true) (timely : Timely w) (a : 
   departs-source t b (direct r) f = boards-source t r (f .0)
   departs-source t b (onward r z c) f = boards-source t r (f .0)
 
-  way-stored : (d b : ℕ) (q : List ℕ) → Source w a d → b ≢ a → Way n a d b q → q ∈ stored n a
+  pub way-stored : (d b : ℕ) (q : List ℕ) → Source w a d → b ≢ a → Way n a d b q → q ∈ stored n a
   way-stored d b q s other h =
       let l = target-listed n ok a d b (h .connection) (h .optimal .feasible) in
       let e = s .leaves in
@@ -111,14 +111,15 @@ module _ (w : List ℕ) (yes : isTimetable w ≡ true) (timely : Timely w) (a : 
         is = ap (λ q. a ∷ q) (h .is);
       })
 
-  record Kept (q : List ℕ) : Type 0 where
-    minute : ℕ
-    target : ℕ
-    source : Source w a minute
-    other : target ≢ a
-    way : Way n a minute target q
+  -- a stored sequence, found at one of these minutes
+  pub record Kept (q : List ℕ) : Type 0 where
+    pub minute : ℕ
+    pub target : ℕ
+    pub source : Source w a minute
+    pub other : target ≢ a
+    pub way : Way n a minute target q
 
-  stored-way : (q : List ℕ) → q ∈ stored n a → Kept q
+  pub stored-way : (q : List ℕ) → q ∈ stored n a → Kept q
   stored-way q m =
       let s = stored-out n ok a q m in
       let c = s .connection in
