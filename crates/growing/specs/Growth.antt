@@ -1,5 +1,5 @@
--- How the tree grows: it begins with its root, and taking a node adds its kids and arcs. What does not fit then does not
--- fit a store.
+-- How the tree grows: it begins with its root, and taking a node adds its kids and arcs. What does not fit then does
+-- not fit a store.
 use mathlib.Core.Path.{_≡_, refl, sym, ap, subst, _∙_}
 use mathlib.Core.Bool.{cond}
 use mathlib.Core.Logic.{_≢_, inl, inr}
@@ -100,7 +100,6 @@ module _ (ps : List (List ℕ)) (k : ℕ) (made : Made k ps) where
         ∙ ap (λ j. getD (known ++ kids) (j + i) []) is-n
         ∙ getD-append-add known kids i []
         ∙ child-at ps (nodeAt ps v) i h
-
 
 -- ---- one node more
 module _ (ps : List (List ℕ)) (source v : ℕ) where
@@ -304,4 +303,3 @@ module _
                   ∙ ap (λ l. l ++ ends) (g .listed)
                   ∙ sym (concatMap-suc (arcsOf ps) (rooted ps) v [] inside);
             })
-

@@ -127,8 +127,8 @@ fn put_kids(work: &mut [u32], n: usize, v: u32, kids: &[u8])
     }
 }
 
-// Takes node v: its kids get the next words, the targets of its arcs are listed, and its own word counts them. Where they
-// do not fit, no store of these sequences does.
+// Takes node v: its kids get the next words, the targets of its arcs are listed, and its own word counts them. Where
+// they do not fit, no store of these sequences does.
 pub fn take_node(
     work: &mut [u32],
     targets: &mut [u8],
@@ -250,14 +250,7 @@ fn write_arcs_to(
 }
 
 // The arcs to the stations, one station after the other.
-fn write_arcs(
-    work: &[u32],
-    targets: &[u8],
-    n: usize,
-    stations: usize,
-    store: &mut [u16],
-    at: usize,
-)
+fn write_arcs(work: &[u32], targets: &[u8], n: usize, stations: usize, store: &mut [u16], at: usize)
     requires { ⌜ (stations ≤ 64)
         × (n < length (now work))
         × (n ≤ 16383)
