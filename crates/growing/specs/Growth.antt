@@ -47,6 +47,13 @@ grown-first ps source work targets near w t root =
     only-root zero h = omega (arith, root)
     only-root (suc v) h = absurd (omega arith)
 
+-- the root was just planted
+pub planted : (ps : List (List ℕ)) (source : ℕ) (work targets : List ℕ) → source ≤ stationsMost
+    → length work ≡ 16384 → length targets ≡ 16384 → Grown ps source (set work 0 source) targets 0 0 0
+planted ps source work targets near w t =
+    grown-first ps source (set work 0 source) targets near (length-set work 0 source ∙ w) t
+    (getD-set-same work 0 source 0 (omega arith))
+
 module _ (ps : List (List ℕ)) where
   -- ---- the kids of the first nodes are the nodes that follow
   module _ (k : ℕ) (made : Made k ps) (v : ℕ) where

@@ -39,6 +39,16 @@ pub fn node_arcs(x: u32) -> u32
     x / 2097152
 }
 
+// The tree begins with its root, of which the source is the station; no node has been taken.
+pub fn plant_root(work: &mut [u32], source: u32)
+    requires { ⌜ (length (now work) ≡ 16384) × (source ≤ 64) ⌝ }
+    ensures { λ _. ⌜ ((ps : List (List ℕ)) (targets : List ℕ)
+        → length targets ≡ 16384
+        → Grown ps source (now (work .exit)) targets 0 0 0) ⌝ }
+{
+    work[0] = source;
+}
+
 // How many nodes and arcs there are once a node was taken, if they fit a store.
 pub struct Counts {
     pub n: usize,
