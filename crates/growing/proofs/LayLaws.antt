@@ -9,7 +9,7 @@ use Rattle.words.specs.Put.{put, put-none}
 use Rattle.growing.specs.Tree.{stationIn, parentIn, arcsIn}
 use Rattle.growing.specs.Laid.{entryAt, entriesTo, arcWords, hitsTo, nodeHits, total, hitsOf}
 use Rattle.growing.specs.LaidSteps.{entries-more, entries-none, length-entries, arc-yes, arc-no, hits-more}
-use Rattle.growing.specs.LaidSteps.{hits-none, nodes-more, nodes-none, total-more, stations-more, stations-none}
+use Rattle.growing.specs.LaidSteps.{nodes-more, nodes-none, total-more, stations-more, stations-none}
 use Rattle.growing.proofs.Writing.{Writing, writing-first, writing-room, writing-more, writing-done, writing-end}
 
 -- ---- the nodes

@@ -1,5 +1,5 @@
 -- A node was taken, or it is shown that the store does not fit.
-use mathlib.Core.Path.{_≡_, refl, sym, ap, subst, _∙_}
+use mathlib.Core.Path.{_≡_, sym, ap, subst, _∙_}
 use mathlib.Core.Bool.{true, false, true≢false}
 use mathlib.Core.List.{List, map}
 use Prim.Native.Nat.{ℕ, suc, _+_, _*_, _≤_, _<_}
@@ -113,7 +113,8 @@ module _
         as-targets =
             sym (put-targets ∙ ap (λ l. put m l targets) (marks-arcs ps (nodeAt ps v) arcs (x .arc-flags)))
 
-        now-grown : Grown ps source (set work′ v (getD work′ v 0 + 2097152 * ends)) targets′ (n + young) (m + ends) (v + 1)
+        now-grown : Grown ps source (set work′ v (getD work′ v 0 + 2097152 * ends)) targets′ (n + young) (m + ends)
+            (v + 1)
         now-grown =
             let y = is-kids young is-young in
             let z = is-arcs ends is-ends in

@@ -1,7 +1,7 @@
--- A loop that writes a list of words, part by part, from index `at` on: `here` is the index of the next word, and `left`
--- is what is still to be written.
+-- A loop that writes a list of words, part by part, from index `at` on: `here` is the index of the next word, and
+-- `left` is what is still to be written.
 use mathlib.Core.Path.{_≡_, refl, sym, ap, _∙_}
-use mathlib.Core.List.{List, [], _∷_, _++_, append-assoc, append-nil}
+use mathlib.Core.List.{List, [], _++_, append-assoc, append-nil}
 use Prim.Native.Nat.{ℕ, _+_, _≤_}
 use native.Mathlib.Omega.{arith}
 use lib.ListN.{length, length-append}

@@ -10,7 +10,8 @@ use lib.Dec.{T}
 use lib.ListN.{length, getD, length-append}
 use Rattle.timetable.specs.Timetable.{stationsMost}
 use Rattle.lists.specs.Lists.{_∈_, keep, filter, concatMap, range, before, Rising}
-use Rattle.lists.specs.Members.{none, kept-cases, keep-here, keep-there, concatMap-in, concatMap-out, range-in, range-out}
+use Rattle.lists.specs.Members.{none, kept-cases, keep-here, keep-there, concatMap-in, concatMap-out}
+use Rattle.lists.specs.Members.{range-in, range-out}
 use Rattle.lists.specs.Order.{before-head, before-tail, before-same}
 use Rattle.lists.specs.Sorting.{Inside, rising-unique}
 use Rattle.stores.specs.Words.{front, final, nodes, place, entry, arcs}

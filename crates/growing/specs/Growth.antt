@@ -1,5 +1,5 @@
--- How the tree grows: it begins with its root, and taking a node adds its kids and arcs. What does not fit then does not
--- fit a store.
+-- How the tree grows: it begins with its root, and taking a node adds its kids and arcs. What does not fit then does
+-- not fit a store.
 use mathlib.Core.Path.{_≡_, refl, sym, ap, subst, _∙_}
 use mathlib.Core.Bool.{cond}
 use mathlib.Core.Logic.{_≢_, inl, inr}
@@ -46,6 +46,13 @@ grown-first ps source work targets near w t root =
     only-root : (v : ℕ) → v ≤ 0 → getD work v 0 ≡ wordOf ps source 0 v
     only-root zero h = omega (arith, root)
     only-root (suc v) h = absurd (omega arith)
+
+-- the root was just planted
+pub planted : (ps : List (List ℕ)) (source : ℕ) (work targets : List ℕ) → source ≤ stationsMost
+    → length work ≡ 16384 → length targets ≡ 16384 → Grown ps source (set work 0 source) targets 0 0 0
+planted ps source work targets near w t =
+    grown-first ps source (set work 0 source) targets near (length-set work 0 source ∙ w) t
+    (getD-set-same work 0 source 0 (omega arith))
 
 module _ (ps : List (List ℕ)) where
   -- ---- the kids of the first nodes are the nodes that follow
@@ -100,7 +107,6 @@ module _ (ps : List (List ℕ)) (k : ℕ) (made : Made k ps) where
         ∙ ap (λ j. getD (known ++ kids) (j + i) []) is-n
         ∙ getD-append-add known kids i []
         ∙ child-at ps (nodeAt ps v) i h
-
 
 -- ---- one node more
 module _ (ps : List (List ℕ)) (source v : ℕ) where
@@ -304,4 +310,3 @@ module _
                   ∙ ap (λ l. l ++ ends) (g .listed)
                   ∙ sym (concatMap-suc (arcsOf ps) (rooted ps) v [] inside);
             })
-

@@ -1,24 +1,25 @@
 -- The words of a store, as they are written from the words of nodes and the targets: station and parent of each node,
 -- and then for each station the nodes with an arc to it. Once all nodes are taken they are the words of the store.
-use mathlib.Core.Path.{_≡_, refl, sym, ap, subst, _∙_}
+use mathlib.Core.Path.{_≡_, refl, sym, ap, _∙_}
 use mathlib.Core.Bool.{Bool, true, false, cond}
 use mathlib.Core.Logic.{_≢_}
-use mathlib.Core.List.{List, [], _∷_, _++_, map, append-assoc, append-nil, List·Memᴰ·head as here, List·Memᴰ·tail as there}
-use Prim.Native.Nat.{ℕ, zero, suc, _+_, _-_, _*_, _≤_, _<_}
+use mathlib.Core.List.{List, [], _∷_, _++_, map, append-assoc, append-nil, List·Memᴰ·head as here}
+use mathlib.Core.List.{List·Memᴰ·tail as there}
+use Prim.Native.Nat.{ℕ, zero, suc, _+_, _-_, _≤_, _<_}
 use native.Mathlib.Nat.{add-zero, zero-add}
 use native.Mathlib.Numerals.{add-one}
 use native.Mathlib.Decide.{ℕ-discrete}
 use native.Mathlib.Omega.{arith}
 use borrow.Author.Tests.{eq-eqb, ne-eqb}
-use lib.Dec.{T, eqb}
-use lib.ListN.{length, getD, take, drop, length-append, take-append-drop}
-use lib.Seq.{drop-at, getD-drop, drop-drop, drop-append-seam}
+use lib.Dec.{eqb}
+use lib.ListN.{length, getD, drop, length-append, take-append-drop}
+use lib.Seq.{getD-drop, drop-drop}
 use Rattle.timetable.specs.Timetable.{stationsMost}
 use Rattle.lists.specs.Lists.{_∈_, keep, filter, concatMap, range}
 use Rattle.lists.specs.Members.{range-out}
-use Rattle.stores.specs.Words.{front, final, nodes, place, entry, arcs, flat, encode}
-use Rattle.growing.specs.Tree.{hasArc, allStations, arcsOf, rooted, nodeAt, Made, stationIn, parentIn, arcsIn, Grown}
-use Rattle.growing.specs.Numbering.{root-first}
+use Rattle.stores.specs.Words.{front, nodes, place, entry, arcs, flat, encode}
+use Rattle.growing.specs.Tree.{hasArc, allStations, arcsOf, rooted, nodeAt, Made, stationIn, parentIn, arcsIn}
+use Rattle.growing.specs.Tree.{Grown}
 use Rattle.growing.specs.Parents.{last-of, node-full}
 use Rattle.growing.specs.ArcOrder.{arcsTo, arc-order, arcs-counted}
 use Rattle.words.specs.Written.{left-next}

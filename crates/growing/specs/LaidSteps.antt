@@ -5,7 +5,7 @@ use Prim.Native.Nat.{ℕ, zero, suc, _+_, _-_, _*_, _≤_, _<_}
 use native.Mathlib.Numerals.{add-one}
 use native.Mathlib.Omega.{arith}
 use borrow.Author.Tests.{eq-eqb, ne-eqb}
-use lib.ListN.{length, getD, length-append}
+use lib.ListN.{length, getD}
 use Rattle.lists.specs.Lists.{concatMap, range}
 use Rattle.growing.specs.Tree.{arcsIn}
 use Rattle.growing.specs.Laid.{entryAt, entriesTo, arcWords, hitsTo, nodeHits, total, hitsOf}

@@ -11,3 +11,4 @@ pub mod Marks
 pub mod Laid
 pub mod Taking
 pub mod LaidSteps
+pub mod StoredTree

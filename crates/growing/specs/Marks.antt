@@ -1,9 +1,9 @@
 -- The stations that flags mark, rising: where the flags tell of a node which arcs or kids it has, they are its arcs or
 -- kids.
-use mathlib.Core.Path.{_≡_, refl, sym, ap, subst, _∙_}
+use mathlib.Core.Path.{_≡_, refl, ap, subst, _∙_}
 use mathlib.Core.Bool.{Bool, true, false}
 use mathlib.Core.List.{List, [], _∷_, _++_, map, map-append}
-use Prim.Native.Nat.{ℕ, zero, suc, _+_, _-_, _≤_, _<_}
+use Prim.Native.Nat.{ℕ, suc, _+_, _<_}
 use native.Mathlib.Nat.{add-zero}
 use native.Mathlib.Numerals.{add-one}
 use native.Mathlib.Omega.{arith}
@@ -11,7 +11,6 @@ use borrow.Author.Tests.{eq-eqb, ne-eqb}
 use lib.Dec.{T, eqb}
 use lib.ListN.{length, getD, drop, length-map}
 use lib.Seq.{drop-cons}
-use Rattle.timetable.specs.Timetable.{stationsMost}
 use Rattle.lists.specs.Lists.{keep, filter, range}
 use Rattle.growing.specs.Tree.{hasArc, hasKid, allStations, arcsOf, kidsOf, nodeWord, Flags}
 

@@ -19,7 +19,8 @@ use Rattle.growing.specs.Numbering.{root-first}
 module _ (ps : List (List ℕ)) (k : ℕ) (made : Made k ps) where
   station-of : (source : ℕ) (q : List ℕ) → source ≤ stationsMost → q ∈ rooted ps → final (source ∷ q) ≤ stationsMost
   station-of source [] near m = near
-  station-of source (x ∷ q) near m = cons-cases (rw (root-first ps) at m) (λ e. absurd (omega (arith, ap length e))) node
+  station-of source (x ∷ q) near m =
+      cons-cases (rw (root-first ps) at m) (λ e. absurd (omega (arith, ap length e))) node
     where
       node : x ∷ q ∈ nodes ps → final (x ∷ q) ≤ stationsMost
       node i =
@@ -85,4 +86,3 @@ module _ (ps : List (List ℕ)) (v : ℕ) (h : suc v < length (rooted ps)) where
       ap (λ q. q ++ (final (source ∷ nodeAt ps (suc v)) ∷ [])) parent-at
       ∙ ap (λ b. front (nodeAt ps (suc v)) ++ (b ∷ [])) (last-of source (nodeAt ps (suc v)) node-full)
       ∙ joined (nodeAt ps (suc v)) node-full
-

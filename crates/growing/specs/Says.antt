@@ -95,7 +95,11 @@ module _
     -- the way back to the root: what a node is without its last station has a smaller number
     module _ (low : 1 ≤ v) where
       pub says-below : parentIn word < v
-      says-below = subst (λ p. p < v) (sym says-parent) (below v low (grown-listed ps k made source work targets n m lo g v on))
+      says-below =
+          subst
+          (λ p. p < v)
+          (sym says-parent)
+          (below v low (grown-listed ps k made source work targets n m lo g v on))
         where
           below : (v : ℕ) → 1 ≤ v → v < length (rooted ps) → place (front (nodeAt ps v)) (rooted ps) < v
           below zero l h = absurd (omega arith)
@@ -111,4 +115,3 @@ module _
               → nodeAt ps (place (front (nodeAt ps v)) (rooted ps)) ++ (final (source ∷ nodeAt ps v) ∷ []) ≡ nodeAt ps v
           node zero l h = absurd (omega arith)
           node (suc v) l h = parent-and-station ps v h source
-

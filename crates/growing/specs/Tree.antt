@@ -1,8 +1,8 @@
 -- The tree of a set of sequences, and how much of it a working space holds while it grows. The root is the empty
--- sequence; a node has an arc to each station that makes it a sequence of the set, and a kid for each station that makes
--- it a node. Nodes are taken in the order of their numbers, and the kids of each get the next numbers, stations rising.
--- The reader needs this file alone: Numbering shows that these are the numbers of the store's nodes, and Growth what
--- taking a node does.
+-- sequence; a node has an arc to each station that makes it a sequence of the set, and a kid for each station that
+-- makes it a node. Nodes are taken in the order of their numbers, and the kids of each get the next numbers, stations
+-- rising. The reader needs this file and Taking: Numbering shows that these are the numbers of the store's nodes, and
+-- Growth what taking a node does.
 use mathlib.Core.Path.{_≡_}
 use mathlib.Core.Bool.{Bool, cond}
 use mathlib.Core.Logic.{_≢_, _⊎_}

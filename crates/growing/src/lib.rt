@@ -39,6 +39,16 @@ pub fn node_arcs(x: u32) -> u32
     x / 2097152
 }
 
+// The tree begins with its root, of which the source is the station; no node has been taken.
+pub fn plant_root(work: &mut [u32], source: u32)
+    requires { ⌜ (length (now work) ≡ 16384) × (source ≤ 64) ⌝ }
+    ensures { λ _. ⌜ ((ps : List (List ℕ)) (targets : List ℕ)
+        → length targets ≡ 16384
+        → Grown ps source (now (work .exit)) targets 0 0 0) ⌝ }
+{
+    work[0] = source;
+}
+
 // How many nodes and arcs there are once a node was taken, if they fit a store.
 pub struct Counts {
     pub n: usize,
@@ -127,8 +137,8 @@ fn put_kids(work: &mut [u32], n: usize, v: u32, kids: &[u8])
     }
 }
 
-// Takes node v: its kids get the next words, the targets of its arcs are listed, and its own word counts them. Where they
-// do not fit, no store of these sequences does.
+// Takes node v: its kids get the next words, the targets of its arcs are listed, and its own word counts them. Where
+// they do not fit, no store of these sequences does.
 pub fn take_node(
     work: &mut [u32],
     targets: &mut [u8],
@@ -250,14 +260,7 @@ fn write_arcs_to(
 }
 
 // The arcs to the stations, one station after the other.
-fn write_arcs(
-    work: &[u32],
-    targets: &[u8],
-    n: usize,
-    stations: usize,
-    store: &mut [u16],
-    at: usize,
-)
+fn write_arcs(work: &[u32], targets: &[u8], n: usize, stations: usize, store: &mut [u16], at: usize)
     requires { ⌜ (stations ≤ 64)
         × (n < length (now work))
         × (n ≤ 16383)

@@ -1,12 +1,10 @@
+-- The third digit of a word.
 use mathlib.Core.Path.{refl}
 use native.Mathlib.Omega.{arith}
 use Rattle.growing.specs.Tree.{arcsIn}
 use Rattle.growing.proofs.node_arcs.Statement.{statement}
 use Rattle.growing.proofs.node_arcs.Tie as tie
-use Rattle.growing.proofs.node_arcs.Reads as reads
-use Rattle.growing.proofs.node_arcs.Lts as lts
 
--- src/lib.rt:36:1
 returns : tie.Need-returns
 unfolding arcsIn
 returns c = (refl, omega arith)

@@ -1,12 +1,10 @@
+-- The first digit of a word.
 use mathlib.Core.Path.{refl}
 use native.Mathlib.Omega.{arith}
 use Rattle.growing.specs.Tree.{stationIn}
 use Rattle.growing.proofs.node_station.Statement.{statement}
 use Rattle.growing.proofs.node_station.Tie as tie
-use Rattle.growing.proofs.node_station.Reads as reads
-use Rattle.growing.proofs.node_station.Lts as lts
 
--- src/lib.rt:24:1
 returns : tie.Need-returns
 unfolding stationIn
 returns c = (refl, omega arith)
