@@ -1,3 +1,4 @@
 pub mod Storing
 pub mod Beginnings
 pub mod Minutes
+pub mod Paths
