@@ -2,3 +2,4 @@ pub mod Storing
 pub mod Beginnings
 pub mod Minutes
 pub mod Paths
+pub mod Made
