@@ -3,3 +3,5 @@ pub mod Beginnings
 pub mod Minutes
 pub mod Paths
 pub mod Made
+pub mod Prepared
+pub mod Nodes
