@@ -1,0 +1,4 @@
+pub mod Arrays
+pub mod Walks
+pub mod Held
+pub mod Reaching
