@@ -2,8 +2,8 @@
 -- arrival the departure caught.
 use mathlib.Core.Path.{_≡_, refl, sym, ap, subst, _∙_}
 use mathlib.Core.Bool.{Bool, true, false}
-use mathlib.Core.List.{List, [], _∷_, List·Memᴰ·head as here}
-use Prim.Native.Nat.{ℕ, suc, _+_, _≤_, _<_}
+use mathlib.Core.List.{List, [], _∷_, List·Memᴰ·head as here, List·Memᴰ·tail as there}
+use Prim.Native.Nat.{ℕ, zero, suc, _+_, _-_, _≤_, _<_}
 use native.Mathlib.Omega.{arith}
 use lib.Dec.{ltb}
 use lib.ListN.{length, getD, take, drop}
@@ -27,6 +27,10 @@ pub record Changes (w caught : List ℕ) : Type 0 where
   pub caught-long : length caught ≡ 2048
   pub caught-is : (i : ℕ) → Goes w i → getD caught (suc i) 0 ≡ catch w (suc i)
 
+-- the stops at places begin up to end have words in x
+abbrev pub Inside : (l : List ℕ) (begin end : ℕ) (x : List ℕ) → Type 0
+Inside l begin end x = (k : ℕ) → begin ≤ k → k < end → getD l k 0 < length x
+
 filter-short : (p : ℕ → Bool) (l : List ℕ) → length (filter p l) ≤ length l
 filter-short p [] = omega arith
 filter-short p (x ∷ l) = go (p x) (filter-short p l)
@@ -34,6 +38,16 @@ filter-short p (x ∷ l) = go (p x) (filter-short p l)
     go : (b : Bool) → length (filter p l) ≤ length l → length (keep b x (filter p l)) ≤ suc (length l)
     go true ih = omega arith
     go false ih = omega arith
+
+-- what stands at one of the places of a part is in it
+slice-in : (l : List ℕ) (m b t : ℕ) → b + m < t → t ≤ length l → getD l (b + m) 0 ∈ slice b t l
+slice-in l zero b t h g =
+    let e : b + 0 ≡ b = omega arith in
+    rw (slice-cons b t l 0 (omega arith) g) (here (ap (λ k. getD l k 0) e))
+slice-in l (suc m) b t h g =
+    let e : suc b + m ≡ b + suc m = omega arith in
+    rw (slice-cons b t l 0 (omega arith) g)
+    (there (subst (λ k. getD l k 0 ∈ slice (suc b) t l) e (slice-in l m (suc b) t (omega arith) g)))
 
 module _ (w : List ℕ) (yes : isTimetable w ≡ true) where
   -- a stop that is left again is one of 2,048
@@ -84,3 +98,11 @@ module _ (w : List ℕ) (yes : isTimetable w ≡ true) where
         ∙ ap (λ k. slice k (getD first (c + 1) 0) (chain w)) b
         ∙ ap (λ k. slice (beginOf (station w) c (order w)) k (chain w)) e
         ∙ chain-part w c few
+
+    pub part-in : (k : ℕ) → getD first c 0 ≤ k → k < getD first (c + 1) 0 → getD chained k 0 ∈ waiting w c
+    part-in k h g =
+        let b = getD first c 0 in
+        let e : b + (k - b) ≡ k = omega arith in
+        subst (λ r. getD chained k 0 ∈ r) part-is
+        (subst (λ i. getD chained i 0 ∈ slice b (getD first (c + 1) 0) chained) e
+        (slice-in chained (k - b) b (getD first (c + 1) 0) (omega arith) (omega (arith, part-most, held .chain-long))))

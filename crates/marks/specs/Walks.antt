@@ -6,6 +6,7 @@ use Prim.Native.Nat.{ℕ, zero, suc, _+_, _-_}
 use lib.Dec.{leb, ltb, eqb}
 use lib.ListN.{getD}
 use Rattle.lists.specs.Lists.{concatMap}
+use Rattle.timetable.specs.Timetable.{Stop}
 use Rattle.stopwise.specs.Stopwise.{station, depart, points, changePoints, unreached}
 use Rattle.chains.specs.Order.{waiting}
 use Rattle.marks.specs.Arrays.{fill, fall, lower, raised}
@@ -17,6 +18,10 @@ pub record Visit : Type 0 where
 
 abbrev pub visit : (j y : ℕ) → Visit
 visit j y = record { stop = j; paid = y }
+
+-- the points of the ride onward from a stop, 101 where the trip ends or comes back to station c: no ride costs as much
+unfoldable pub onwardPoints : Stop → (c : ℕ) → ℕ
+onwardPoints s c = cond (ltb 0 (s .depart) && not (eqb (s .station) c)) (s .points) 101
 
 module _ (w : List ℕ) (c : ℕ) where
   -- behind stop j the walk goes on

@@ -9,13 +9,15 @@ ghost use Prim.Native.Nat.{ℕ, _+_, _-_, _≤_, _<_, min};
 ghost use lib.Dec.{ltb, eqb};
 ghost use lib.ListN.{length, getD};
 ghost use lib.Seq.{slice};
-ghost use Rattle.timetable.specs.Words.{stationCount, isTimetable};
-ghost use Rattle.stopwise.specs.Stopwise.{changePoints, unreached, Goes};
+ghost use Rattle.timetable.specs.Words.{stationCount, stopAt, isTimetable};
+ghost use Rattle.stopwise.specs.Stopwise.{station, changePoints, unreached, Goes};
 ghost use Rattle.stopwise.specs.Paid.{Labelled};
 ghost use Rattle.stopwise.specs.Prospects.{Bounded, Ends, GoesOn};
 ghost use Rattle.chains.specs.Order.{waiting};
-ghost use Rattle.marks.specs.Arrays.{fill, fall, lower, raised, Within};
+ghost use Rattle.marks.specs.Arrays.{fill, fall, lower, raised};
 ghost use Rattle.marks.specs.Walks.{
+  onwardPoints,
+  visit,
   boarding,
   boardings,
   run,
@@ -26,13 +28,25 @@ ghost use Rattle.marks.specs.Walks.{
   endsWell,
   changesWell,
 };
-ghost use Rattle.marks.specs.Held.{Departures, Changes};
+ghost use Rattle.marks.specs.Held.{Departures, Changes, Inside};
 ghost use Rattle.marks.specs.Reaching.{boardsAt};
 ghost use Rattle.marks.specs.Marking.{Marked};
 ghost use Rattle.marks.specs.Paths.{changed, reached, Path};
+use timetable::Stop;
 
 // More than anyone on the way has paid.
 const UNREACHED: u32 = 3166901;
+
+// More than any ride from a stop to the next costs.
+const NO_MORE: u32 = 101;
+
+// Where the departures of station c begin.
+fn begin_of(first: &[u32], c: usize) -> usize
+    requires { ⌜ c < length (now first) ⌝ }
+    ensures { λ r. ⌜ r ≡ getD (now (first .entry)) c 0 ⌝ }
+{
+    first[c] as usize
+}
 
 fn lesser(a: u32, b: u32) -> u32
     ensures { λ r. ⌜ r ≡ min a b ⌝ }
@@ -64,8 +78,8 @@ pub fn label_root(words: &[u16], chain: &[u16], first: &[u32], source: usize, d:
     ensures { λ _. ⌜ Labelled (now (words .entry)) source d [] source (now (x .exit)) ⌝ }
     ensures { λ _. ⌜ length (now (x .exit)) ≡ 2048 ⌝ }
 {
-    let mut k = first[source] as usize;
-    let end = first[source + 1] as usize;
+    let mut k = begin_of(first, source);
+    let end = begin_of(first, source + 1);
     while k < end {
         let g = words::word(chain, k) as usize;
         x[g] = root_label(words, g, d);
@@ -77,7 +91,7 @@ pub fn label_root(words: &[u16], chain: &[u16], first: &[u32], source: usize, d:
 
 // No departure at places begin up to end is reached.
 fn clear(chain: &[u16], begin: usize, end: usize, x: &mut [u32])
-    requires { ⌜ (begin ≤ end) × (end ≤ length (now chain)) × Within (slice begin end (now chain)) (now x) ⌝ }
+    requires { ⌜ (begin ≤ end) × (end ≤ length (now chain)) × Inside (now chain) begin end (now x) ⌝ }
     ensures { λ _. ⌜ now (x .exit) ≡ fill (λ g. unreached) (slice begin end (now (chain .entry))) (now (x .entry)) ⌝ }
     ensures { λ _. ⌜ length (now (x .exit)) ≡ length (now (x .entry)) ⌝ }
 {
@@ -113,10 +127,40 @@ fn offer(catch: &[u16], e: usize, b: usize, j: usize, v: u32, x: &mut [u32])
     }
 }
 
+// The points of the ride onward from a stop, for one who boarded at station c; NO_MORE where the trip ends or comes back
+// to c.
+fn onward(s: Stop, c: usize) -> u32
+    ensures { λ r. ⌜ r ≡ onwardPoints s c ⌝ }
+{
+    if s.depart == 0 {
+        return NO_MORE;
+    }
+    if s.station as usize == c {
+        return NO_MORE;
+    }
+    s.points
+}
+
+// One who boarded at station c arrives at stop j, having paid y, and can change at station e, which costs so much.
+// Answers the points of the ride onward.
+fn ride_turn(words: &[u16], catch: &[u16], c: usize, e: usize, cost: u32, j: usize, y: u32, x: &mut [u32]) -> u32
+    requires { ⌜ (16384 ≤ length (now words)) × (isTimetable (now words) ≡ true) × (j < 2048) ⌝ }
+    requires { ⌜ (cost ≡ changePoints (now words) e) × (cost ≤ 1000) × (y < 4000000) ⌝ }
+    requires { ⌜ (length (now catch) ≡ 2048) × (length (now x) ≡ 2048) ⌝ }
+    ensures { λ _. ⌜ now (x .exit)
+        ≡ offerOf (now (words .entry)) (now (catch .entry)) c e (visit j y) (now (x .entry)) ⌝ }
+    ensures { λ r. ⌜ r ≡ onwardPoints (stopAt (now (words .entry)) j) c ⌝ }
+    ensures { λ _. ⌜ length (now (x .exit)) ≡ 2048 ⌝ }
+{
+    let s = timetable::stop_at(words, j);
+    offer(catch, e, s.station as usize, j, y + cost, x);
+    onward(s, c)
+}
+
 // Who boards at stop i, at station c, rides on until the trip ends or comes back to c, and can change at station e.
 fn ride_to(words: &[u16], catch: &[u16], c: usize, e: usize, i: usize, x: &mut [u32])
     requires { ⌜ (16384 ≤ length (now words)) × (isTimetable (now words) ≡ true) × Goes (now words) i ⌝ }
-    requires { ⌜ (1 ≤ e) × (e ≤ stationCount (now words)) ⌝ }
+    requires { ⌜ (1 ≤ e) × (e ≤ stationCount (now words)) × (i < 2048) ⌝ }
     requires { ⌜ (length (now catch) ≡ 2048) × (length (now x) ≡ 2048) ⌝ }
     ensures { λ _. ⌜ now (x .exit)
         ≡ run (offerOf (now (words .entry)) (now (catch .entry)) c e)
@@ -128,20 +172,15 @@ fn ride_to(words: &[u16], catch: &[u16], c: usize, e: usize, i: usize, x: &mut [
         return;
     }
     let cost = timetable::station_at(words, e - 1).points;
-    let mut j = i;
     let mut points = timetable::stop_at(words, i).points;
+    let mut j = i;
     loop {
         y += points;
         j += 1;
-        let s = timetable::stop_at(words, j);
-        offer(catch, e, s.station as usize, j, y + cost, x);
-        if s.depart == 0 {
+        points = ride_turn(words, catch, c, e, cost, j, y, x);
+        if points == NO_MORE {
             return;
         }
-        if s.station as usize == c {
-            return;
-        }
-        points = s.points;
     }
 }
 
@@ -155,8 +194,8 @@ fn ride_all(words: &[u16], chain: &[u16], first: &[u32], catch: &[u16], c: usize
         ≡ rides (now (words .entry)) (now (catch .entry)) c e (waiting (now (words .entry)) c) (now (x .entry)) ⌝ }
     ensures { λ _. ⌜ length (now (x .exit)) ≡ 2048 ⌝ }
 {
-    let mut k = first[c] as usize;
-    let end = first[c + 1] as usize;
+    let mut k = begin_of(first, c);
+    let end = begin_of(first, c + 1);
     while k < end {
         ride_to(words, catch, c, e, words::word(chain, k) as usize, x);
         k += 1;
@@ -165,7 +204,7 @@ fn ride_all(words: &[u16], chain: &[u16], first: &[u32], catch: &[u16], c: usize
 
 // Who can board at one of the places begin up to end can board at those behind it.
 fn settle(chain: &[u16], begin: usize, end: usize, x: &mut [u32])
-    requires { ⌜ (begin ≤ end) × (end ≤ length (now chain)) × Within (slice begin end (now chain)) (now x) ⌝ }
+    requires { ⌜ (begin ≤ end) × (end ≤ length (now chain)) × Inside (now chain) begin end (now x) ⌝ }
     ensures { λ _. ⌜ now (x .exit) ≡ fall unreached (slice begin end (now (chain .entry))) (now (x .entry)) ⌝ }
     ensures { λ _. ⌜ length (now (x .exit)) ≡ length (now (x .entry)) ⌝ }
 {
@@ -185,13 +224,13 @@ pub fn label_step(words: &[u16], chain: &[u16], first: &[u32], catch: &[u16], c:
     requires { ⌜ Departures (now words) (now chain) (now first) × Changes (now words) (now catch) ⌝ }
     requires { ⌜ (c ≤ stationCount (now words)) × (1 ≤ e) × (e ≤ stationCount (now words)) × (c ≢ e) ⌝ }
     requires { ⌜ length (now x) ≡ 2048 ⌝ }
-    ensures { λ _. ⌜ (a d : ℕ) (rev : List ℕ) → boardsAt a rev ≡ c
+    ensures { λ _. ⌜ ((a d : ℕ) (rev : List ℕ) → boardsAt a rev ≡ c
         → Labelled (now (words .entry)) a d rev c (now (x .entry))
-        → Labelled (now (words .entry)) a d (e ∷ rev) e (now (x .exit)) ⌝ }
+        → Labelled (now (words .entry)) a d (e ∷ rev) e (now (x .exit))) ⌝ }
     ensures { λ _. ⌜ length (now (x .exit)) ≡ 2048 ⌝ }
 {
-    let begin = first[e] as usize;
-    let end = first[e + 1] as usize;
+    let begin = begin_of(first, e);
+    let end = begin_of(first, e + 1);
     clear(chain, begin, end, x);
     ride_all(words, chain, first, catch, c, e, x);
     settle(chain, begin, end, x);
@@ -279,7 +318,36 @@ fn mark_arrival(
     raise(kids, b, y + cost, peek(q, words::word(catch, j) as usize));
 }
 
-// Who boards at stop i, at station c, having paid so much, rides on until the trip ends or comes back to c.
+// One who boarded at station c arrives at stop j, having paid y. Answers the points of the ride onward.
+fn mark_turn(
+    words: &[u16],
+    catch: &[u16],
+    allowed: &[u32],
+    q: &[u32],
+    c: usize,
+    j: usize,
+    y: u32,
+    arcs: &mut [u8],
+    kids: &mut [u8],
+) -> u32
+    requires { ⌜ (16384 ≤ length (now words)) × (isTimetable (now words) ≡ true) × (j < 2048) × (y < 4000000) ⌝ }
+    requires { ⌜ (1 ≤ station (now words) j) × (station (now words) j ≤ stationCount (now words)) ⌝ }
+    requires { ⌜ (length (now catch) ≡ 2048) × (length (now allowed) ≡ 2048) ⌝ }
+    requires { ⌜ (length (now arcs) ≡ 64) × (length (now kids) ≡ 64) ⌝ }
+    ensures { λ _. ⌜ now (arcs .exit)
+        ≡ flag (now (words .entry)) (endsWell (now (allowed .entry))) (visit j y) (now (arcs .entry)) ⌝ }
+    ensures { λ _. ⌜ now (kids .exit)
+        ≡ flag (now (words .entry)) (changesWell (now (words .entry)) (now (catch .entry)) (now (q .entry)))
+        (visit j y) (now (kids .entry)) ⌝ }
+    ensures { λ r. ⌜ r ≡ onwardPoints (stopAt (now (words .entry)) j) c ⌝ }
+    ensures { λ _. ⌜ (length (now (arcs .exit)) ≡ 64) × (length (now (kids .exit)) ≡ 64) ⌝ }
+{
+    let s = timetable::stop_at(words, j);
+    mark_arrival(words, catch, allowed, q, s.station as usize, j, y, arcs, kids);
+    onward(s, c)
+}
+
+// Who boards at stop i, at station c, with labels x, rides on until the trip ends or comes back to c.
 fn mark_ride(
     words: &[u16],
     catch: &[u16],
@@ -293,7 +361,7 @@ fn mark_ride(
 )
     requires { ⌜ (16384 ≤ length (now words)) × (isTimetable (now words) ≡ true) × Goes (now words) i ⌝ }
     requires { ⌜ (length (now catch) ≡ 2048) × (length (now allowed) ≡ 2048) × (length (now x) ≡ 2048) ⌝ }
-    requires { ⌜ (length (now arcs) ≡ 64) × (length (now kids) ≡ 64) ⌝ }
+    requires { ⌜ (i < 2048) × (length (now arcs) ≡ 64) × (length (now kids) ≡ 64) ⌝ }
     ensures { λ _. ⌜ now (arcs .exit)
         ≡ run (flag (now (words .entry)) (endsWell (now (allowed .entry))))
         (boarding (now (words .entry)) c (now (x .entry)) i) (now (arcs .entry)) ⌝ }
@@ -307,20 +375,15 @@ fn mark_ride(
     if UNREACHED <= y {
         return;
     }
-    let mut j = i;
     let mut points = timetable::stop_at(words, i).points;
+    let mut j = i;
     loop {
         y += points;
         j += 1;
-        let s = timetable::stop_at(words, j);
-        mark_arrival(words, catch, allowed, q, s.station as usize, j, y, arcs, kids);
-        if s.depart == 0 {
+        points = mark_turn(words, catch, allowed, q, c, j, y, arcs, kids);
+        if points == NO_MORE {
             return;
         }
-        if s.station as usize == c {
-            return;
-        }
-        points = s.points;
     }
 }
 
@@ -342,17 +405,17 @@ pub fn mark(
     requires { ⌜ Departures (now words) (now chain) (now first) × (length (now catch) ≡ 2048) ⌝ }
     requires { ⌜ (length (now allowed) ≡ 2048) × (length (now q) ≡ 2048) × (length (now x) ≡ 2048) ⌝ }
     requires { ⌜ (c ≤ stationCount (now words)) × (length (now arcs) ≡ 64) × (length (now kids) ≡ 64) ⌝ }
-    ensures { λ _. ⌜ (a d : ℕ) (rev : List ℕ) → boardsAt a rev ≡ c
+    ensures { λ _. ⌜ ((a d : ℕ) (rev : List ℕ) → boardsAt a rev ≡ c
         → Labelled (now (words .entry)) a d rev c (now (x .entry))
-        → Marked (Ends (now (words .entry)) a d (now (allowed .entry)) rev) (now (arcs .entry)) (now (arcs .exit)) ⌝ }
-    ensures { λ _. ⌜ (a d : ℕ) (rev : List ℕ) → boardsAt a rev ≡ c
+        → Marked (Ends (now (words .entry)) a d (now (allowed .entry)) rev) (now (arcs .entry)) (now (arcs .exit))) ⌝ }
+    ensures { λ _. ⌜ ((a d : ℕ) (rev : List ℕ) → boardsAt a rev ≡ c
         → Labelled (now (words .entry)) a d rev c (now (x .entry))
         → Bounded (now (words .entry)) (now (allowed .entry)) d (now (catch .entry)) (now (q .entry))
-        → Marked (GoesOn (now (words .entry)) a d (now (allowed .entry)) rev) (now (kids .entry)) (now (kids .exit)) ⌝ }
+        → Marked (GoesOn (now (words .entry)) a d (now (allowed .entry)) rev) (now (kids .entry)) (now (kids .exit))) ⌝ }
     ensures { λ _. ⌜ (length (now (arcs .exit)) ≡ 64) × (length (now (kids .exit)) ≡ 64) ⌝ }
 {
-    let mut k = first[c] as usize;
-    let end = first[c + 1] as usize;
+    let mut k = begin_of(first, c);
+    let end = begin_of(first, c + 1);
     while k < end {
         mark_ride(words, catch, allowed, q, x, c, words::word(chain, k) as usize, arcs, kids);
         k += 1;
