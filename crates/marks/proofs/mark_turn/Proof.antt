@@ -1,3 +1,5 @@
+use Rattle.timetable.specs.Access.{stations-few}
+use Rattle.marks.proofs.RideLaws.{here-some, here-low, here-listed, flags-arc, flags-kid, same-onward}
 use borrow.Author.Needs.{needs}
 use Rattle.marks.proofs.mark_turn.Statement.{statement}
 use Rattle.marks.proofs.mark_turn.Tie as tie
@@ -9,7 +11,7 @@ use Rattle.timetable.proofs.stop_at.Reads as stop-at-reads
 
 -- src/lib.rt:345:9
 stop-at-requires : tie.Need-stop-at-requires
-stop-at-requires c κs = ?
+stop-at-requires c κs = (search needs, search stations-few, search needs)
 
 -- src/lib.rt:346:44
 cast-mark-arrival : tie.Need-cast-mark-arrival
@@ -17,7 +19,7 @@ cast-mark-arrival c = search needs
 
 -- src/lib.rt:346:5
 mark-arrival-requires : tie.Need-mark-arrival-requires
-mark-arrival-requires c κs = ?
+mark-arrival-requires c κs = ((search needs, search needs, search here-some, search here-low), (search needs, ((search here-listed, search needs), search needs)))
 
 -- src/lib.rt:347:5
 onward-requires : tie.Need-onward-requires
@@ -33,7 +35,7 @@ same-length-2 c = search needs
 
 -- src/lib.rt:322:1
 returns : tie.Need-returns
-returns c = ?
+returns c = (search flags-arc, (search flags-kid, (search same-onward, search needs)))
 
 pub mark-turn-spec : {M : Type 1} → statement M
 mark-turn-spec =

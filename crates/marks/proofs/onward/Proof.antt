@@ -1,3 +1,4 @@
+use Rattle.marks.proofs.RideLaws.{onward-ends, onward-back, onward-on}
 use borrow.Author.Needs.{needs}
 use Rattle.marks.proofs.onward.Statement.{statement}
 use Rattle.marks.proofs.onward.Tie as tie
@@ -6,7 +7,7 @@ use Rattle.marks.proofs.onward.Lts as lts
 
 -- src/lib.rt:136:9
 returns : tie.Need-returns
-returns c = ?
+returns c = search onward-ends
 
 -- src/lib.rt:138:8
 cast-if2 : tie.Need-cast-if2
@@ -14,11 +15,11 @@ cast-if2 c = search needs
 
 -- src/lib.rt:139:9
 returns-2 : tie.Need-returns-2
-returns-2 c = ?
+returns-2 c = search onward-back
 
 -- src/lib.rt:132:1
 returns-3 : tie.Need-returns-3
-returns-3 c = ?
+returns-3 c = search onward-on
 
 pub onward-spec : {M : Type 1} → statement M
 onward-spec = tie.close (tie.spec returns cast-if2 returns-2 returns-3)

@@ -1,3 +1,5 @@
+use Rattle.timetable.specs.Access.{stations-few}
+use Rattle.marks.proofs.RideLaws.{offers, same-onward}
 use borrow.Author.Needs.{needs}
 use Rattle.marks.proofs.ride_turn.Statement.{statement}
 use Rattle.marks.proofs.ride_turn.Tie as tie
@@ -9,7 +11,7 @@ use Rattle.timetable.proofs.stop_at.Reads as stop-at-reads
 
 -- src/lib.rt:155:9
 stop-at-requires : tie.Need-stop-at-requires
-stop-at-requires c κs = ?
+stop-at-requires c κs = (search needs, search stations-few, search needs)
 
 -- src/lib.rt:156:21
 cast-offer : tie.Need-cast-offer
@@ -33,7 +35,7 @@ same-length c = search needs
 
 -- src/lib.rt:146:1
 returns : tie.Need-returns
-returns c = ?
+returns c = (search offers, (search same-onward, search needs))
 
 pub ride-turn-spec : {M : Type 1} → statement M
 ride-turn-spec =
