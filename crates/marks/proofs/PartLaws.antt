@@ -16,7 +16,7 @@ use Rattle.chains.specs.Order.{waiting}
 use Rattle.chains.specs.Parts.{waiting-out}
 use Rattle.marks.specs.Arrays.{fill, fall}
 use Rattle.marks.specs.Walks.{rootLabel}
-use Rattle.marks.specs.Held.{Departures, Inside, goes-few, part-ordered, part-most, part-is, part-in}
+use Rattle.marks.specs.Held.{Departures, Changes, Inside, goes-few, part-ordered, part-most, part-is, part-in}
 use Rattle.marks.specs.Stepping.{root-labelled}
 
 -- ---- the places of a station's departures
@@ -72,6 +72,9 @@ module _
 
       pub all-inside : (x : List ℕ) → length x ≡ 2048 → Inside chain begin end x
       all-inside x long k h g = stop-inside k h g (getD chain k 0) refl x long
+
+pub caught-room : (w caught : List ℕ) → Changes w caught → length caught ≡ 2048
+caught-room w caught changes = changes .caught-long
 
 -- ---- one of a part
 pub inside-word : (l : List ℕ) (begin end : ℕ) (x₀ x : List ℕ) → Inside l begin end x₀ → (k : ℕ) → begin ≤ k → k < end

@@ -37,6 +37,17 @@ pub record Marked (Told : ℕ → Type 0) (old new : List ℕ) : Type 0 where
   pub exactly : (b : ℕ) → 1 ≤ b → b ≤ 64 → (getD new (b - 1) 0 ≡ 1) ↔ ((getD old (b - 1) 0 ≡ 1) ⊎ Told b)
   pub flags : Flags old → Flags new
 
+-- whatever the start, the minute and the changes were of which x has the labels at station c: in arcs the stations where
+-- a connection along them ends well,
+pub record ArcsMarked (w : List ℕ) (c : ℕ) (x allowed old new : List ℕ) : Type 0 where
+  pub marked : (a d : ℕ) (rev : List ℕ) → boardsAt a rev ≡ c → Labelled w a d rev c x
+      → Marked (Ends w a d allowed rev) old new
+
+-- in kids those where one who changes there can still end well
+pub record KidsMarked (w : List ℕ) (c : ℕ) (x allowed caught q old new : List ℕ) : Type 0 where
+  pub marked : (a d : ℕ) (rev : List ℕ) → boardsAt a rev ≡ c → Labelled w a d rev c x → Bounded w allowed d caught q
+      → Marked (GoesOn w a d allowed rev) old new
+
 -- ---- flags in general
 module _ (w : List ℕ) (test : Visit → Bool) where
   abbrev act : Visit → List ℕ → List ℕ

@@ -1,5 +1,5 @@
 -- A path of changes, as an array holds it: its first k words are the stations, in the order of the changes.
-use mathlib.Core.Path.{_≡_, refl, ap, _∙_}
+use mathlib.Core.Path.{_≡_, refl, sym, ap, _∙_}
 use mathlib.Core.Logic.{_≢_}
 use mathlib.Core.List.{List, [], _∷_, reverseAux, reverseAux-append}
 use Prim.Native.Nat.{ℕ, zero, suc, _≤_, _<_}
@@ -14,7 +14,7 @@ unfoldable pub changed : (k : ℕ) (path : List ℕ) → List ℕ
 changed k path = reverseAux (take k path) []
 
 -- the station behind m changes, for a start at station a
-abbrev pub reached : (a : ℕ) (path : List ℕ) (m : ℕ) → ℕ
+unfoldable pub reached : (a : ℕ) (path : List ℕ) (m : ℕ) → ℕ
 reached a path m = getD (a ∷ path) m 0
 
 -- stations of the timetable, each another than the one before
@@ -34,6 +34,14 @@ module _ (path : List ℕ) where
   changed-more m h =
       ap (λ l. reverseAux l []) (take-suc path m 0 h) ∙ reverseAux-append (take m path) (getD path m 0 ∷ []) []
 
+  pub reached-none : (a : ℕ) → reached a path 0 ≡ a
+  unfolding reached
+  reached-none a = refl
+
+  pub reached-more : (a m : ℕ) → reached a path (suc m) ≡ getD path m 0
+  unfolding reached
+  reached-more a m = refl
+
   pub boards-reached : (a m : ℕ) → m ≤ length path → boardsAt a (changed m path) ≡ reached a path m
-  boards-reached a zero h = ap (boardsAt a) changed-none
-  boards-reached a (suc m) h = ap (boardsAt a) (changed-more m h)
+  boards-reached a zero h = ap (boardsAt a) changed-none ∙ sym (reached-none a)
+  boards-reached a (suc m) h = ap (boardsAt a) (changed-more m h) ∙ sym (reached-more a m)

@@ -139,6 +139,7 @@ module _ (w : List ℕ) (ok : isTimetable w ≡ true) (c : ℕ) (x : List ℕ) w
 
   module _ (a d : ℕ) (rev : List ℕ) (labels : Labelled w a d rev c x) where
     pub boardings-arrived : (v : Visit) → v ∈ boardings w c x (waiting w c) → Arrived w a d rev (v .stop) (v .paid)
+    unfolding boardings
     boardings-arrived v m =
         let r = concatMap-out (boarding w c x) (waiting w c) m in
         let i = r .0 in
@@ -240,6 +241,7 @@ module _ (w : List ℕ) (ok : isTimetable w ≡ true) (c : ℕ) (x : List ℕ) w
         pub least : paid ≤ p
 
       direct-least : (j p : ℕ) → Direct j p → Least j p
+      unfolding boardings
       direct-least j p r =
           let b = r .from in
           let g = paid-goes w a d rev b (r .paid) (r .boards) in

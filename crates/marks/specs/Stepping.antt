@@ -27,6 +27,11 @@ use Rattle.marks.specs.Walks.{Visit, visit, boarding, boardings, run, ro
 use Rattle.marks.specs.Held.{Changes, goes-few}
 use Rattle.marks.specs.Reaching.{boardsAt, boarding-stops, boardings-arrived, boardings-least}
 
+-- from labels at station c to labels at station e: whatever the changes before were, if x has the labels at c behind
+-- them, y has those at e behind them and a change at e
+pub record Steps (w : List ℕ) (c e : ℕ) (x y : List ℕ) : Type 0 where
+  pub next : (a d : ℕ) (rev : List ℕ) → boardsAt a rev ≡ c → Labelled w a d rev c x → Labelled w a d (e ∷ rev) e y
+
 pub run-append : (act : Visit → List ℕ → List ℕ) (l m : List Visit) (s : List ℕ)
     → run act (l ++ m) s ≡ run act m (run act l s)
 unfolding run
@@ -259,7 +264,7 @@ labelled-same w a d rev c x y same labels =
 
 boardings-same : (w : List ℕ) (c : ℕ) (x y l : List ℕ) → ((i : ℕ) → i ∈ l → getD y i 0 ≡ getD x i 0)
     → boardings w c y l ≡ boardings w c x l
-unfolding boarding
+unfolding boarding boardings
 boardings-same w c x y [] h = refl
 boardings-same w c x y (i ∷ l) h =
     rw (h i (here refl)) (ap (λ r. boarding w c x i ++ r) (boardings-same w c x y l (λ k m. h k (there m))))
@@ -295,7 +300,7 @@ module _
     -- all walks at once
     rides-run : (l x : List ℕ) → ((i : ℕ) → i ∈ l → Goes w i × (station w i ≡ c))
         → rides w caught c e l x ≡ run (offer w caught c e) (boardings w c x l) x
-    unfolding rides run
+    unfolding rides run boardings
     rides-run [] x h = refl
     rides-run (i ∷ l) x h =
         let act = offer w caught c e in

@@ -39,7 +39,7 @@ module _ (w : List ℕ) (c : ℕ) where
   boarding x i = cond (ltb (getD x i 0) unreached) (visits (2048 - i) i (getD x i 0)) []
 
   -- of all who board at the stops of a list
-  abbrev pub boardings : (x l : List ℕ) → List Visit
+  unfoldable pub boardings : (x l : List ℕ) → List Visit
   boardings x l = concatMap (boarding x) l
 
 -- an array, once something was done to it at each arrival

@@ -4,15 +4,14 @@
 ghost use mathlib.Core.Path.{_≡_};
 ghost use mathlib.Core.Bool.{true, cond};
 ghost use mathlib.Core.Logic.{_≢_};
-ghost use mathlib.Core.List.{List, [], _∷_};
-ghost use Prim.Native.Nat.{ℕ, _+_, _-_, _≤_, _<_, min};
+ghost use mathlib.Core.List.{[]};
+ghost use Prim.Native.Nat.{_+_, _-_, _≤_, _<_, min};
 ghost use lib.Dec.{ltb, eqb};
 ghost use lib.ListN.{length, getD};
 ghost use lib.Seq.{slice};
 ghost use Rattle.timetable.specs.Words.{stationCount, stopAt, isTimetable};
 ghost use Rattle.stopwise.specs.Stopwise.{station, changePoints, unreached, Goes};
 ghost use Rattle.stopwise.specs.Paid.{Labelled};
-ghost use Rattle.stopwise.specs.Prospects.{Bounded, Ends, GoesOn};
 ghost use Rattle.chains.specs.Order.{waiting};
 ghost use Rattle.marks.specs.Arrays.{fill, fall, lower, raised};
 ghost use Rattle.marks.specs.Walks.{
@@ -29,8 +28,8 @@ ghost use Rattle.marks.specs.Walks.{
   changesWell,
 };
 ghost use Rattle.marks.specs.Held.{Departures, Changes, Inside};
-ghost use Rattle.marks.specs.Reaching.{boardsAt};
-ghost use Rattle.marks.specs.Marking.{Marked};
+ghost use Rattle.marks.specs.Stepping.{Steps};
+ghost use Rattle.marks.specs.Marking.{ArcsMarked, KidsMarked};
 ghost use Rattle.marks.specs.Paths.{changed, reached, Path};
 use timetable::Stop;
 
@@ -224,9 +223,7 @@ pub fn label_step(words: &[u16], chain: &[u16], first: &[u32], catch: &[u16], c:
     requires { ⌜ Departures (now words) (now chain) (now first) × Changes (now words) (now catch) ⌝ }
     requires { ⌜ (c ≤ stationCount (now words)) × (1 ≤ e) × (e ≤ stationCount (now words)) × (c ≢ e) ⌝ }
     requires { ⌜ length (now x) ≡ 2048 ⌝ }
-    ensures { λ _. ⌜ ((a d : ℕ) (rev : List ℕ) → boardsAt a rev ≡ c
-        → Labelled (now (words .entry)) a d rev c (now (x .entry))
-        → Labelled (now (words .entry)) a d (e ∷ rev) e (now (x .exit))) ⌝ }
+    ensures { λ _. ⌜ Steps (now (words .entry)) c e (now (x .entry)) (now (x .exit)) ⌝ }
     ensures { λ _. ⌜ length (now (x .exit)) ≡ 2048 ⌝ }
 {
     let begin = begin_of(first, e);
@@ -405,13 +402,10 @@ pub fn mark(
     requires { ⌜ Departures (now words) (now chain) (now first) × (length (now catch) ≡ 2048) ⌝ }
     requires { ⌜ (length (now allowed) ≡ 2048) × (length (now q) ≡ 2048) × (length (now x) ≡ 2048) ⌝ }
     requires { ⌜ (c ≤ stationCount (now words)) × (length (now arcs) ≡ 64) × (length (now kids) ≡ 64) ⌝ }
-    ensures { λ _. ⌜ ((a d : ℕ) (rev : List ℕ) → boardsAt a rev ≡ c
-        → Labelled (now (words .entry)) a d rev c (now (x .entry))
-        → Marked (Ends (now (words .entry)) a d (now (allowed .entry)) rev) (now (arcs .entry)) (now (arcs .exit))) ⌝ }
-    ensures { λ _. ⌜ ((a d : ℕ) (rev : List ℕ) → boardsAt a rev ≡ c
-        → Labelled (now (words .entry)) a d rev c (now (x .entry))
-        → Bounded (now (words .entry)) (now (allowed .entry)) d (now (catch .entry)) (now (q .entry))
-        → Marked (GoesOn (now (words .entry)) a d (now (allowed .entry)) rev) (now (kids .entry)) (now (kids .exit))) ⌝ }
+    ensures { λ _. ⌜ ArcsMarked (now (words .entry)) c (now (x .entry)) (now (allowed .entry))
+        (now (arcs .entry)) (now (arcs .exit)) ⌝ }
+    ensures { λ _. ⌜ KidsMarked (now (words .entry)) c (now (x .entry)) (now (allowed .entry))
+        (now (catch .entry)) (now (q .entry)) (now (kids .entry)) (now (kids .exit)) ⌝ }
     ensures { λ _. ⌜ (length (now (arcs .exit)) ≡ 64) × (length (now (kids .exit)) ≡ 64) ⌝ }
 {
     let mut k = begin_of(first, c);
