@@ -5,3 +5,4 @@ pub mod Paths
 pub mod Made
 pub mod Prepared
 pub mod Nodes
+pub mod Standing
