@@ -5,7 +5,7 @@ use mathlib.Core.Logic.{_≢_, _⊎_, inl, inr, _↔_}
 use mathlib.Core.List.{List, [], _∷_, reverseAux}
 use Prim.Native.Nat.{ℕ, zero, suc, _-_, _≤_, _<_}
 use native.Mathlib.Omega.{arith}
-use lib.ListN.{length, getD, take}
+use lib.ListN.{length, getD, take, length-take}
 use Rattle.words.specs.Put.{put, take-put, getD-put}
 use Rattle.timetable.specs.Words.{stationCount, isTimetable}
 use Rattle.stores.specs.Words.{final}
@@ -31,6 +31,11 @@ pub record Standing (w : List ℕ) (a : ℕ) (work : List ℕ) (v : ℕ) : Type 
   pub lo : ℕ
   pub grown : Grown (sequences w a) a work targets n m lo
   pub on : v ≤ n
+
+-- at station c, that of node v, the least that is paid by those who changed as it says
+pub record NodeLabels (w : List ℕ) (a d v c : ℕ) (x : List ℕ) : Type 0 where
+  pub boards : boardsAt a (backwards (nodeAt (sequences w a) v)) ≡ c
+  pub labels : Labelled w a d (backwards (nodeAt (sequences w a) v)) c x
 
 -- what is allowed at minute d, and who can still end well then
 pub record Judged (w : List ℕ) (a d : ℕ) (allowed caught q : List ℕ) : Type 0 where
@@ -100,7 +105,7 @@ module _ (w : List ℕ) (yes : isTimetable w ≡ true) (a : ℕ) (some : 1 ≤ a
       path-is (sequences w a) (stationCount w) (made w yes a some inside) a work (s .targets) (s .n) (s .m) (s .lo)
       (s .grown) v (s .on)
 
-  module _ (old path : List ℕ) (k : ℕ) (long : length path ≡ 64) (is : path ≡ put 0 (pathTo work v) old)
+  module _ (old path : List ℕ) (k : ℕ) (is : path ≡ put 0 (pathTo work v) old)
       (count : k ≡ length (pathTo work v)) where
     holds : path ≡ put 0 node old
     holds = is ∙ ap (λ q. put 0 q old) way
@@ -118,7 +123,14 @@ module _ (w : List ℕ) (yes : isTimetable w ≡ true) (a : ℕ) (some : 1 ≤ a
     pub node-path : Path w a path k
     node-path =
         record {
-          long = omega (arith, counts, named v (s .on) .short);
+          long =
+              omega (
+                arith,
+                counts,
+                ap (λ l. length (take (length node) l)) holds,
+                ap length (take-put node old),
+                length-take (length node) path,
+              );
           first = (λ m h. omega (arith, at m h, named v (s .on) .first m (omega (arith, counts))));
           listed = (λ m h. omega (arith, at m h, named v (s .on) .listed m (omega (arith, counts))));
           apart =
@@ -154,26 +166,30 @@ module _ (w : List ℕ) (yes : isTimetable w ≡ true) (a : ℕ) (some : 1 ≤ a
           go zero e p = omega (arith, reached-none path a)
           go (suc m) e p = omega (arith, reached-more path a m, p .listed m (omega arith))
 
-      module _ (d : ℕ) (x allowed caught q : List ℕ) (labels : Labelled w a d (changed k path) (reached a path k) x)
-          (judged : Judged w a d allowed caught q) where
-        labelled : Labelled w a d (backwards node) c x
-        labelled =
-            subst (λ r. Labelled w a d r c x) changes
-            (subst (λ z. Labelled w a d (changed k path) z x) there labels)
+      pub node-labels : (d : ℕ) (x : List ℕ) → Labelled w a d (changed k path) (reached a path k) x
+          → NodeLabels w a d v c x
+      node-labels d x labels =
+          record {
+            boards = ap (boardsAt a) (sym changes) ∙ here;
+            labels =
+                subst (λ r. Labelled w a d r c x) changes
+                (subst (λ z. Labelled w a d (changed k path) z x) there labels);
+          }
 
-        boards : boardsAt a (backwards node) ≡ c
-        boards = ap (boardsAt a) (sym changes) ∙ here
+module _ (w : List ℕ) (yes : isTimetable w ≡ true) (a d v c : ℕ) (x allowed caught q : List ℕ)
+    (labels : NodeLabels w a d v c x) (judged : Judged w a d allowed caught q) where
+  abbrev sequence : List ℕ
+  sequence = nodeAt (sequences w a) v
 
-        pub arcs-at : (arcs arcs′ : List ℕ) → ArcsMarked w c x allowed arcs arcs′ → Marked (ArcsAt w a d v) arcs arcs′
-        arcs-at arcs arcs′ h =
-            marked-same (Ends w a d allowed (backwards node)) (ArcsAt w a d v) arcs arcs′
-            (λ b. arc-ends w yes (timely w yes) a node b d (judged .least) allowed (judged .is-least) (judged .allows))
-            (h .marked a d (backwards node) boards labelled)
+  pub arcs-at : (arcs arcs′ : List ℕ) → ArcsMarked w c x allowed arcs arcs′ → Marked (ArcsAt w a d v) arcs arcs′
+  arcs-at arcs arcs′ h =
+      marked-same (Ends w a d allowed (backwards sequence)) (ArcsAt w a d v) arcs arcs′
+      (λ b. arc-ends w yes (timely w yes) a sequence b d (judged .least) allowed (judged .is-least) (judged .allows))
+      (h .marked a d (backwards sequence) (labels .boards) (labels .labels))
 
-        pub kids-at : (kids kids′ : List ℕ) → KidsMarked w c x allowed caught q kids kids′
-            → Marked (KidsAt w a d v) kids kids′
-        kids-at kids kids′ h =
-            marked-same (GoesOn w a d allowed (backwards node)) (KidsAt w a d v) kids kids′
-            (λ b.
-            kid-goes-on w yes (timely w yes) a node b d (judged .least) allowed (judged .is-least) (judged .allows))
-            (h .marked a d (backwards node) boards labelled (judged .bounded))
+  pub kids-at : (kids kids′ : List ℕ) → KidsMarked w c x allowed caught q kids kids′
+      → Marked (KidsAt w a d v) kids kids′
+  kids-at kids kids′ h =
+      marked-same (GoesOn w a d allowed (backwards sequence)) (KidsAt w a d v) kids kids′
+      (λ b. kid-goes-on w yes (timely w yes) a sequence b d (judged .least) allowed (judged .is-least) (judged .allows))
+      (h .marked a d (backwards sequence) (labels .boards) (labels .labels) (judged .bounded))
