@@ -6,3 +6,4 @@ pub mod Made
 pub mod Prepared
 pub mod Nodes
 pub mod Standing
+pub mod Chunk

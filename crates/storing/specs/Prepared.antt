@@ -24,8 +24,12 @@ use Rattle.chains.specs.Parts.{arriving-distinct, arriving-behind, leaving-few,
 use Rattle.penalties.specs.Arranged.{Arranged}
 use Rattle.prospects.specs.Arrivals.{Arrivals, part}
 use Rattle.prospects.specs.Routes.{Routes}
+use Rattle.marks.specs.Held.{Departures, Changes}
 
 -- ---- the departures by minute
+pub chain-front : (w chained old : List ℕ) → chained ≡ put 0 (chain w) old → take (length (chain w)) chained ≡ chain w
+chain-front w chained old is = ap (take (length (chain w))) is ∙ take-put (chain w) old
+
 module _ (w : List ℕ) (long : 16384 ≤ length w) (yes : isTimetable w ≡ true) (listed : List ℕ) (n : ℕ)
     (counted : n ≡ length (order w)) (old : List ℕ) (is : listed ≡ put 0 (order w) old) where
   pub order-first : take n listed ≡ order w
@@ -58,6 +62,20 @@ module _ (w listed : List ℕ) (n : ℕ) (caught : List ℕ) (r : Routes w liste
         departs = ap (λ k. take k listed) (sym counted-order) ∙ r .departing;
         catches = r .caught;
       }
+
+  pub changes : Changes w caught
+  changes = record { caught-long = r .long-first; caught-is = r .caught }
+
+-- ---- the departures by station
+pub departures-of : (w chained first old : List ℕ) → chained ≡ put 0 (chain w) old → length chained ≡ 2048
+    → Begins (station w) 65 (order w) first → length first ≡ 66 → Departures w chained first
+departures-of w chained first old is long begins long-first =
+    record {
+      chain-long = long;
+      first-long = long-first;
+      chain-is = chain-front w chained old is;
+      first-is = begins .begin;
+    }
 
 -- ---- where the parts of a list by key begin and end
 module _ (key : ℕ → ℕ) (l : List ℕ) where

@@ -11,7 +11,10 @@ use Rattle.timetable.specs.Words.{stationCount, isTimetable}
 use Rattle.stores.specs.Words.{final}
 use Rattle.stopwise.specs.Paid.{LeastArrivals, Labelled}
 use Rattle.stopwise.specs.Prospects.{Allows, Bounded, Ends, GoesOn}
+use Rattle.stopwise.specs.Settled.{Settled}
 use Rattle.stopwise.specs.TimelyLaws.{timely}
+use Rattle.stopwise.specs.LeastSettled.{least-settled}
+use Rattle.prospects.specs.Routes.{Routes}
 use Rattle.marks.specs.Reaching.{boardsAt}
 use Rattle.marks.specs.Marking.{Marked, ArcsMarked, KidsMarked}
 use Rattle.marks.specs.Paths.{changed, reached, Path, boards-reached, reached-none, reached-more}
@@ -32,6 +35,27 @@ pub record Standing (w : List ℕ) (a : ℕ) (work : List ℕ) (v : ℕ) : Type 
   pub grown : Grown (sequences w a) a work targets n m lo
   pub on : v ≤ n
 
+-- all nodes below hi have words
+pub record StandingTo (w : List ℕ) (a : ℕ) (work : List ℕ) (hi : ℕ) : Type 0 where
+  pub targets : List ℕ
+  pub n : ℕ
+  pub m : ℕ
+  pub lo : ℕ
+  pub grown : Grown (sequences w a) a work targets n m lo
+  pub on : hi ≤ suc n
+
+pub standing : (w : List ℕ) (a : ℕ) (work : List ℕ) (hi v : ℕ) → StandingTo w a work hi → v < hi
+    → Standing w a work v
+standing w a work hi v s h =
+    record {
+      targets = s .targets;
+      n = s .n;
+      m = s .m;
+      lo = s .lo;
+      grown = s .grown;
+      on = omega (arith, s .on);
+    }
+
 -- at station c, that of node v, the least that is paid by those who changed as it says
 pub record NodeLabels (w : List ℕ) (a d v c : ℕ) (x : List ℕ) : Type 0 where
   pub boards : boardsAt a (backwards (nodeAt (sequences w a) v)) ≡ c
@@ -43,6 +67,11 @@ pub record Judged (w : List ℕ) (a d : ℕ) (allowed caught q : List ℕ) : Typ
   pub is-least : LeastArrivals w a d least
   pub allows : Allows w a least allowed
   pub bounded : Bounded w allowed d caught q
+
+pub judged : (w listed : List ℕ) (n a d : ℕ) (v allowed caught q : List ℕ) → Routes w listed n caught
+    → Settled w a d v → Allows w a v allowed → Bounded w allowed d caught q → Judged w a d allowed caught q
+judged w listed n a d v allowed caught q r s l b =
+    record { least = v; is-least = least-settled w a d v (r .timely) s; allows = l; bounded = b }
 
 -- the arcs and kids of node v at minute d
 abbrev pub ArcsAt : (w : List ℕ) (a d v b : ℕ) → Type 0

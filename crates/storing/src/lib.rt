@@ -1,14 +1,17 @@
 // The store call: the sequences of stations where changing can pay, for one source.
 ghost use mathlib.Core.Path.{_≡_};
 ghost use mathlib.Core.Bool.{true};
-ghost use Prim.Native.Nat.{_≤_, _<_};
+ghost use Prim.Native.Nat.{_+_, _≤_, _<_};
 ghost use lib.ListN.{length};
 ghost use Rattle.words.specs.Put.{put};
 ghost use Rattle.timetable.specs.Words.{stationCount, isTimetable};
 ghost use Rattle.marks.specs.Held.{Departures, Changes};
 ghost use Rattle.marks.specs.Marking.{Marked};
 ghost use Rattle.storing.specs.Paths.{pathTo, Rooted};
-ghost use Rattle.storing.specs.Standing.{Standing, NodeLabels, Judged, ArcsAt, KidsAt};
+ghost use Rattle.prospects.specs.Routes.{Routes};
+ghost use Rattle.prospects.specs.Arrivals.{Arrivals};
+ghost use Rattle.storing.specs.Standing.{Standing, StandingTo, NodeLabels, Judged, ArcsAt, KidsAt};
+ghost use Rattle.storing.specs.Chunk.{MarkedAt, Raised};
 
 // Writes the stations on the way from the root to a node, from its word back through the parents. Answers their number.
 fn path_of(work: &[u32], node: usize, path: &mut [u16]) -> usize
@@ -96,4 +99,134 @@ fn mark_node(
 {
     let c = label_node(words, chain, first, catch, work, node, source, d, x);
     marks::mark(words, chain, first, catch, allowed, q, x, c, arcs, kids);
+}
+
+// The same where the flags of the node stand among those of the nodes from lo on.
+fn mark_at(
+    words: &[u16],
+    chain: &[u16],
+    first: &[u32],
+    catch: &[u16],
+    work: &[u32],
+    lo: usize,
+    node: usize,
+    source: usize,
+    d: usize,
+    allowed: &[u32],
+    q: &[u32],
+    x: &mut [u32],
+    arcs: &mut [u8],
+    kids: &mut [u8],
+)
+    requires { ⌜ (16384 ≤ length (now words))
+        × (isTimetable (now words) ≡ true)
+        × Departures (now words) (now chain) (now first)
+        × Changes (now words) (now catch)
+        × (1 ≤ source)
+        × (source ≤ stationCount (now words))
+        × Standing (now words) source (now work) node
+        × (length (now x) ≡ 2048)
+        × Judged (now words) source d (now allowed) (now catch) (now q)
+        × (length (now allowed) ≡ 2048)
+        × (length (now q) ≡ 2048)
+        × (length (now arcs) ≡ 2048)
+        × (length (now kids) ≡ 2048)
+        × (lo ≤ node)
+        × (node < lo + 32) ⌝ }
+    ensures { λ _. ⌜ MarkedAt (ArcsAt (now (words .entry)) source d node) lo node (now (arcs .entry)) (now (arcs .exit))
+        × MarkedAt (KidsAt (now (words .entry)) source d node) lo node (now (kids .entry)) (now (kids .exit))
+        × (length (now (x .exit)) ≡ 2048)
+        × (length (now (arcs .exit)) ≡ 2048)
+        × (length (now (kids .exit)) ≡ 2048) ⌝ }
+{
+    let o = 64 * (node - lo);
+    mark_node(
+        words,
+        chain,
+        first,
+        catch,
+        work,
+        node,
+        source,
+        d,
+        allowed,
+        q,
+        x,
+        &mut arcs[o..o + 64],
+        &mut kids[o..o + 64],
+    );
+}
+
+// The same for all nodes from lo up to hi.
+fn mark_nodes(
+    words: &[u16],
+    chain: &[u16],
+    first: &[u32],
+    catch: &[u16],
+    work: &[u32],
+    lo: usize,
+    hi: usize,
+    source: usize,
+    d: usize,
+    allowed: &[u32],
+    q: &[u32],
+    x: &mut [u32],
+    arcs: &mut [u8],
+    kids: &mut [u8],
+)
+    requires { ⌜ (16384 ≤ length (now words))
+        × (isTimetable (now words) ≡ true)
+        × Departures (now words) (now chain) (now first)
+        × Changes (now words) (now catch)
+        × (1 ≤ source)
+        × (source ≤ stationCount (now words))
+        × StandingTo (now words) source (now work) hi
+        × (length (now x) ≡ 2048)
+        × Judged (now words) source d (now allowed) (now catch) (now q)
+        × (length (now allowed) ≡ 2048)
+        × (length (now q) ≡ 2048)
+        × (length (now arcs) ≡ 2048)
+        × (length (now kids) ≡ 2048)
+        × (lo ≤ hi)
+        × (hi ≤ lo + 32) ⌝ }
+    ensures { λ _. ⌜ Raised (ArcsAt (now (words .entry)) source d) lo hi (now (arcs .entry)) (now (arcs .exit))
+        × Raised (KidsAt (now (words .entry)) source d) lo hi (now (kids .entry)) (now (kids .exit))
+        × (length (now (x .exit)) ≡ 2048)
+        × (length (now (arcs .exit)) ≡ 2048)
+        × (length (now (kids .exit)) ≡ 2048) ⌝ }
+{
+    let mut node = lo;
+    while node < hi {
+        mark_at(words, chain, first, catch, work, lo, node, source, d, allowed, q, x, arcs, kids);
+        node += 1;
+    }
+}
+
+// What is allowed at minute d, in v, and who can still end well then, in q. What x holds is of no further use.
+fn judge(
+    words: &[u16],
+    order: &[u16],
+    n: usize,
+    arrivals: &[u16],
+    begins: &[u32],
+    catch: &[u16],
+    source: usize,
+    d: usize,
+    v: &mut [u32],
+    q: &mut [u32],
+    x: &mut [u32],
+)
+    requires { ⌜ Routes (now words) (now order) n (now catch)
+        × Arrivals (now words) (now arrivals) (now begins)
+        × (length (now v) ≡ 2048)
+        × (length (now q) ≡ 2048)
+        × (length (now x) ≡ 2048) ⌝ }
+    ensures { λ _. ⌜ Judged (now (words .entry)) source d (now (v .exit)) (now (catch .entry)) (now (q .exit))
+        × (length (now (v .exit)) ≡ 2048)
+        × (length (now (q .exit)) ≡ 2048)
+        × (length (now (x .exit)) ≡ 2048) ⌝ }
+{
+    penalties::least_penalties(words, order, n, catch, source, d, v, q);
+    prospects::allow(words, arrivals, begins, source, v);
+    prospects::prospects(words, order, n, catch, d, v, q, x);
 }
