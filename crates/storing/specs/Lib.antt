@@ -7,3 +7,4 @@ pub mod Prepared
 pub mod Nodes
 pub mod Standing
 pub mod Chunk
+pub mod Seeking
