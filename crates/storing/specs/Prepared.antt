@@ -50,6 +50,12 @@ module _ (w : List ℕ) (long : 16384 ≤ length w) (yes : isTimetable w ≡ tru
       }
 
 module _ (w listed : List ℕ) (n : ℕ) (caught : List ℕ) (r : Routes w listed n caught) where
+  pub long-enough : 16384 ≤ length w
+  long-enough = r .long
+
+  pub accepted : isTimetable w ≡ true
+  accepted = r .accepted
+
   pub counted-order : n ≡ length (order w)
   counted-order = omega (arith, r .within, ap length (r .departing), length-take n listed)
 

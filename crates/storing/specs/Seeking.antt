@@ -18,7 +18,9 @@ use Rattle.stopwise.specs.TimelyLaws.{timely}
 use Rattle.stopwise.specs.StoredMarks.{Source}
 use Rattle.chains.specs.Order.{waiting}
 use Rattle.chains.specs.Parts.{waiting-in, waiting-out}
+use Rattle.prospects.specs.Routes.{Routes}
 use Rattle.prospects.specs.Arrivals.{placed}
+use Rattle.prospects.specs.Zeros.{ZeroTo, zero-each}
 use Rattle.marks.specs.Held.{Departures, goes-few, part-ordered, part-most, part-is, part-in}
 use Rattle.growing.specs.Tree.{hasArc, hasKid, nodeAt}
 use Rattle.storing.specs.Storing.{sequences}
@@ -39,9 +41,10 @@ pub record Sought (w : List ℕ) (a : ℕ) (chained : List ℕ) (from p last lo 
   pub kids-up : Shown (λ v b. Seen w chained from p (λ d. KidsAt w a d v b)) lo hi kids
   pub seen-last : (last ≡ 2880) ⊎ Seen w chained from p (λ d. d ≡ last)
 
--- no flag is up
-pub record Down (flags : List ℕ) : Type 0 where
-  pub none : (i : ℕ) → getD flags i 0 ≡ 0
+-- the flags of the nodes from lo up to hi are those of their arcs and kids
+pub record Chunked (w : List ℕ) (a lo hi : ℕ) (arcs kids : List ℕ) : Type 0 where
+  pub arcs-up : Shown (λ v b. T (hasArc (sequences w a) (nodeAt (sequences w a) v) b)) lo hi arcs
+  pub kids-up : Shown (λ v b. T (hasKid (sequences w a) (nodeAt (sequences w a) v) b)) lo hi kids
 
 module _ (w chained : List ℕ) (from p : ℕ) where
   seen-weaken : (At : ℕ → Type 0) → Seen w chained from p At → Seen w chained from (p + 1) At
@@ -80,29 +83,37 @@ module _ (w chained : List ℕ) (from p : ℕ) where
         to : Seen w chained from (p + 1) At → Seen w chained from p At
         to s = elim (seen-cases At s) [ inl z ↦ z | inr h ↦ earlier (subst At e h) ]
 
-shown-none : (Told : (v b : ℕ) → Type 0) (lo hi : ℕ) (flags : List ℕ) → Down flags → ((v b : ℕ) → ¬ Told v b)
-    → Shown Told lo hi flags
-shown-none Told lo hi flags d n =
+shown-none : (Told : (v b : ℕ) → Type 0) (lo hi : ℕ) (flags : List ℕ) → ((i : ℕ) → getD flags i 0 ≡ 0)
+    → ((v b : ℕ) → ¬ Told v b) → Shown Told lo hi flags
+shown-none Told lo hi flags down n =
     record {
       here =
           λ v b h g f t.
-          (λ e. absurd (omega (arith, d .none (64 * (v - lo) + (b - 1)))), λ e. absurd (n v b e));
+          (λ e. absurd (omega (arith, down (64 * (v - lo) + (b - 1)))), λ e. absurd (n v b e));
     }
 
-pub sought-none : (w : List ℕ) (a : ℕ) (chained : List ℕ) (from lo hi : ℕ) (arcs kids : List ℕ) → Down arcs → Down kids
-    → Sought w a chained from from 2880 lo hi arcs kids
-sought-none w a chained from lo hi arcs kids d e =
+pub sought-none : (w : List ℕ) (a : ℕ) (chained : List ℕ) (from p lo hi : ℕ) (arcs₀ arcs kids₀ kids : List ℕ)
+    → p ≡ from → length arcs ≡ length arcs₀ → ZeroTo (length arcs₀) arcs → length kids ≡ length kids₀
+    → ZeroTo (length kids₀) kids → Sought w a chained from p 2880 lo hi arcs kids
+sought-none w a chained from p lo hi arcs₀ arcs kids₀ kids is la d lk e =
     record {
-      arcs-up = shown-none (λ v b. Seen w chained from from (λ d. ArcsAt w a d v b)) lo hi arcs d (λ v b. none);
-      kids-up = shown-none (λ v b. Seen w chained from from (λ d. KidsAt w a d v b)) lo hi kids e (λ v b. none);
+      arcs-up =
+          shown-none (λ v b. Seen w chained from p (λ d. ArcsAt w a d v b)) lo hi arcs
+          (zero-each arcs (length arcs₀) la d) (λ v b. none);
+      kids-up =
+          shown-none (λ v b. Seen w chained from p (λ d. KidsAt w a d v b)) lo hi kids
+          (zero-each kids (length kids₀) lk e) (λ v b. none);
       seen-last = inl refl;
     }
   where
-    none : {At : ℕ → Type 0} → ¬ Seen w chained from from At
+    none : {At : ℕ → Type 0} → ¬ Seen w chained from p At
     none s = omega (arith, s .begun, s .inside)
 
-module _ (w : List ℕ) (yes : isTimetable w ≡ true) (chained first : List ℕ) (held : Departures w chained first) (a : ℕ)
-    (listed : a ≤ stationCount w) where
+module _ (w order : List ℕ) (n : ℕ) (caught : List ℕ) (routes : Routes w order n caught) (chained first : List ℕ)
+    (held : Departures w chained first) (a : ℕ) (listed : a ≤ stationCount w) where
+  yes : isTimetable w ≡ true
+  yes = routes .accepted
+
   few : a ≤ 64
   few = omega (arith, stations-few w yes)
 
@@ -209,7 +220,7 @@ module _ (w : List ℕ) (yes : isTimetable w ≡ true) (chained first : List ℕ
         let e : p ≡ end = omega arith in
         subst (λ p. Sought w a chained from p last lo hi arcs kids) e s
 
-    pub sought-arcs : Shown (λ v b. T (hasArc (sequences w a) (nodeAt (sequences w a) v) b)) lo hi arcs
+    sought-arcs : Shown (λ v b. T (hasArc (sequences w a) (nodeAt (sequences w a) v) b)) lo hi arcs
     sought-arcs =
         shown-same lo hi
         (λ v b. Seen w chained from end (λ d. ArcsAt w a d v b))
@@ -222,7 +233,7 @@ module _ (w : List ℕ) (yes : isTimetable w ≡ true) (chained first : List ℕ
           λ t. k .1 (seen-once (λ d. ArcsAt w a d v b) t),
         ))
 
-    pub sought-kids : Shown (λ v b. T (hasKid (sequences w a) (nodeAt (sequences w a) v) b)) lo hi kids
+    sought-kids : Shown (λ v b. T (hasKid (sequences w a) (nodeAt (sequences w a) v) b)) lo hi kids
     sought-kids =
         shown-same lo hi
         (λ v b. Seen w chained from end (λ d. KidsAt w a d v b))
@@ -234,3 +245,6 @@ module _ (w : List ℕ) (yes : isTimetable w ≡ true) (chained first : List ℕ
           λ t. once-seen (λ d. KidsAt w a d v b) (k .0 t),
           λ t. k .1 (seen-once (λ d. KidsAt w a d v b) t),
         ))
+
+    pub chunked : Chunked w a lo hi arcs kids
+    chunked = record { arcs-up = sought-arcs; kids-up = sought-kids }
