@@ -20,7 +20,7 @@ use Rattle.chains.specs.Order.{waiting}
 use Rattle.chains.specs.Parts.{waiting-in, waiting-out}
 use Rattle.prospects.specs.Routes.{Routes}
 use Rattle.prospects.specs.Arrivals.{placed}
-use Rattle.prospects.specs.Zeros.{ZeroTo, zero-each}
+use Rattle.prospects.specs.Zeros.{ZeroTo, zero-all, zero-each}
 use Rattle.marks.specs.Held.{Departures, goes-few, part-ordered, part-most, part-is, part-in}
 use Rattle.growing.specs.Tree.{hasArc, hasKid, nodeAt}
 use Rattle.storing.specs.Storing.{sequences}
@@ -40,6 +40,13 @@ pub record Sought (w : List ℕ) (a : ℕ) (chained : List ℕ) (from p last lo 
   pub arcs-up : Shown (λ v b. Seen w chained from p (λ d. ArcsAt w a d v b)) lo hi arcs
   pub kids-up : Shown (λ v b. Seen w chained from p (λ d. KidsAt w a d v b)) lo hi kids
   pub seen-last : (last ≡ 2880) ⊎ Seen w chained from p (λ d. d ≡ last)
+
+-- no flag is up
+pub record Down (flags : List ℕ) : Type 0 where
+  pub none : (i : ℕ) → getD flags i 0 ≡ 0
+
+pub down-all : (flags : List ℕ) (n i m : ℕ) → n ≡ m → length flags ≡ m → n ≤ i → ZeroTo i flags → Down flags
+down-all flags n i m e l h z = record { none = zero-each flags m l (zero-all flags n i m e h z) }
 
 -- the flags of the nodes from lo up to hi are those of their arcs and kids
 pub record Chunked (w : List ℕ) (a lo hi : ℕ) (arcs kids : List ℕ) : Type 0 where
@@ -92,22 +99,26 @@ shown-none Told lo hi flags down n =
           (λ e. absurd (omega (arith, down (64 * (v - lo) + (b - 1)))), λ e. absurd (n v b e));
     }
 
-pub sought-none : (w : List ℕ) (a : ℕ) (chained : List ℕ) (from p lo hi : ℕ) (arcs₀ arcs kids₀ kids : List ℕ)
-    → p ≡ from → length arcs ≡ length arcs₀ → ZeroTo (length arcs₀) arcs → length kids ≡ length kids₀
-    → ZeroTo (length kids₀) kids → Sought w a chained from p 2880 lo hi arcs kids
-sought-none w a chained from p lo hi arcs₀ arcs kids₀ kids is la d lk e =
+pub sought-none : (w : List ℕ) (a : ℕ) (chained : List ℕ) (from lo hi : ℕ) (arcs kids : List ℕ) → Down arcs
+    → Down kids → Sought w a chained from from 2880 lo hi arcs kids
+sought-none w a chained from lo hi arcs kids d e =
     record {
       arcs-up =
-          shown-none (λ v b. Seen w chained from p (λ d. ArcsAt w a d v b)) lo hi arcs
-          (zero-each arcs (length arcs₀) la d) (λ v b. none);
+          shown-none (λ v b. Seen w chained from from (λ d. ArcsAt w a d v b)) lo hi arcs
+          (d .none) (λ v b. none);
       kids-up =
-          shown-none (λ v b. Seen w chained from p (λ d. KidsAt w a d v b)) lo hi kids
-          (zero-each kids (length kids₀) lk e) (λ v b. none);
+          shown-none (λ v b. Seen w chained from from (λ d. KidsAt w a d v b)) lo hi kids
+          (e .none) (λ v b. none);
       seen-last = inl refl;
     }
   where
-    none : {At : ℕ → Type 0} → ¬ Seen w chained from p At
+    none : {At : ℕ → Type 0} → ¬ Seen w chained from from At
     none s = omega (arith, s .begun, s .inside)
+
+pub sought-first : (w : List ℕ) (a : ℕ) (chained : List ℕ) (from p last lo hi : ℕ) (arcs kids : List ℕ) → p ≡ from
+    → Sought w a chained from from last lo hi arcs kids → Sought w a chained from p last lo hi arcs kids
+sought-first w a chained from p last lo hi arcs kids e s =
+    subst (λ p. Sought w a chained from p last lo hi arcs kids) (sym e) s
 
 module _ (w order : List ℕ) (n : ℕ) (caught : List ℕ) (routes : Routes w order n caught) (chained first : List ℕ)
     (held : Departures w chained first) (a : ℕ) (listed : a ≤ stationCount w) where
@@ -194,6 +205,16 @@ module _ (w order : List ℕ) (n : ℕ) (caught : List ℕ) (routes : Routes w o
   pub places-few : getD first (a + 1) 0 ≤ 2048
   places-few = part-most w yes chained first held a few
 
+  -- where they begin
+  pub place-known : a < length first
+  place-known = omega (arith, few, held .first-long)
+
+  pub next-known : a + 1 < length first
+  next-known = omega (arith, few, held .first-long)
+
+  pub begins-before : (p : ℕ) → p ≡ getD first a 0 → p ≤ getD first (a + 1) 0
+  begins-before p e = omega (arith, places-ordered)
+
   seen-once : (At : ℕ → Type 0) → Seen w chained from end At → Once w a At
   seen-once At s =
       let k = departs (s .r) (s .begun) (s .inside) in
@@ -213,7 +234,8 @@ module _ (w order : List ℕ) (n : ℕ) (caught : List ℕ) (routes : Routes w o
       let e : o .minute ≡ depart w (getD chained (k .r) 0) = sym (o .source .leaves) ∙ ap (depart w) (k .is) in
       record { r = k .r; begun = k .from; inside = k .to; at = subst At e (o .at) }
 
-  module _ (p last lo hi : ℕ) (arcs kids : List ℕ) (most : p ≤ getD first (a + 1) 0) (least : getD first (a + 1) 0 ≤ p)
+  module _ (p last lo hi : ℕ) (arcs kids : List ℕ) (most : p ≤ getD first (a + 1) 0) (stop : ℕ)
+      (is : stop ≡ getD first (a + 1) 0) (least : stop ≤ p)
       (s : Sought w a chained (getD first a 0) p last lo hi arcs kids) where
     all-places : Sought w a chained from end last lo hi arcs kids
     all-places =

@@ -11,10 +11,9 @@ ghost use Rattle.marks.specs.Marking.{Marked};
 ghost use Rattle.storing.specs.Paths.{pathTo, Rooted};
 ghost use Rattle.prospects.specs.Routes.{Routes};
 ghost use Rattle.prospects.specs.Arrivals.{Arrivals};
-ghost use Rattle.prospects.specs.Zeros.{ZeroTo};
 ghost use Rattle.storing.specs.Standing.{Standing, StandingTo, NodeLabels, Judged, ArcsAt, KidsAt};
 ghost use Rattle.storing.specs.Chunk.{MarkedAt, Raised};
-ghost use Rattle.storing.specs.Seeking.{Sought, Chunked};
+ghost use Rattle.storing.specs.Seeking.{Down, Sought, Chunked};
 
 // Writes the stations on the way from the root to a node, from its word back through the parents. Answers their number.
 fn path_of(work: &[u32], node: usize, path: &mut [u16]) -> usize
@@ -350,8 +349,7 @@ fn mark_departure(
 }
 
 fn clear(flags: &mut [u8])
-    ensures { λ _. ⌜ ZeroTo (length (now (flags .entry))) (now (flags .exit))
-        × (length (now (flags .exit)) ≡ length (now (flags .entry))) ⌝ }
+    ensures { λ _. ⌜ Down (now (flags .exit)) × (length (now (flags .exit)) ≡ length (now (flags .entry))) ⌝ }
 {
     let n = flags.len();
     let mut i = 0;
@@ -372,7 +370,60 @@ fn place_at(first: &[u32], c: usize) -> usize
 // No departure is at this minute.
 const NO_MINUTE: usize = 2880;
 
-// Raises the flags of the arcs and kids of the nodes from lo up to hi, and takes down all others.
+// Raises the flags of the arcs and kids of the nodes from lo up to hi.
+fn mark_departures(
+    words: &[u16],
+    order: &[u16],
+    n: usize,
+    chain: &[u16],
+    first: &[u32],
+    arrivals: &[u16],
+    begins: &[u32],
+    catch: &[u16],
+    work: &[u32],
+    lo: usize,
+    hi: usize,
+    source: usize,
+    v: &mut [u32],
+    q: &mut [u32],
+    x: &mut [u32],
+    arcs: &mut [u8],
+    kids: &mut [u8],
+)
+    requires { ⌜ Routes (now words) (now order) n (now catch)
+        × Arrivals (now words) (now arrivals) (now begins)
+        × Departures (now words) (now chain) (now first)
+        × (1 ≤ source)
+        × (source ≤ stationCount (now words))
+        × StandingTo (now words) source (now work) hi
+        × (lo ≤ hi)
+        × (hi ≤ lo + 32)
+        × (length (now v) ≡ 2048)
+        × (length (now q) ≡ 2048)
+        × (length (now x) ≡ 2048)
+        × (length (now arcs) ≡ 2048)
+        × (length (now kids) ≡ 2048)
+        × Sought (now words) source (now chain) (getD (now first) source 0) (getD (now first) source 0) 2880 lo hi
+        (now arcs) (now kids) ⌝ }
+    ensures { λ _. ⌜ Chunked (now (words .entry)) source lo hi (now (arcs .exit)) (now (kids .exit))
+        × (length (now (v .exit)) ≡ 2048)
+        × (length (now (q .exit)) ≡ 2048)
+        × (length (now (x .exit)) ≡ 2048)
+        × (length (now (arcs .exit)) ≡ 2048)
+        × (length (now (kids .exit)) ≡ 2048) ⌝ }
+{
+    let end = place_at(first, source + 1);
+    let mut p = place_at(first, source);
+    let mut last = NO_MINUTE;
+    while p < end {
+        last = mark_departure(
+            words, order, n, chain, first, arrivals, begins, catch, work, lo, hi, source, p, last, v, q, x, arcs, kids,
+        );
+        p += 1;
+    }
+}
+
+// The same where the flags may be any.
 fn mark_chunk(
     words: &[u16],
     order: &[u16],
@@ -414,13 +465,7 @@ fn mark_chunk(
 {
     clear(arcs);
     clear(kids);
-    let end = place_at(first, source + 1);
-    let mut p = place_at(first, source);
-    let mut last = NO_MINUTE;
-    while p < end {
-        last = mark_departure(
-            words, order, n, chain, first, arrivals, begins, catch, work, lo, hi, source, p, last, v, q, x, arcs, kids,
-        );
-        p += 1;
-    }
+    mark_departures(
+        words, order, n, chain, first, arrivals, begins, catch, work, lo, hi, source, v, q, x, arcs, kids,
+    );
 }

@@ -3,7 +3,8 @@ use mathlib.Core.Path.{_≡_}
 use Prim.Native.Nat.{_≤_, _-_}
 use lib.ListN.{length}
 use borrow.Author.Needs.{needs}
-use Rattle.prospects.specs.Zeros.{ZeroTo, zero-none, zero-more, zero-all}
+use Rattle.prospects.specs.Zeros.{ZeroTo, zero-none, zero-more}
+use Rattle.storing.specs.Seeking.{down-all}
 use Rattle.storing.proofs.clear.Statement.{statement}
 use Rattle.storing.proofs.clear.Tie as tie
 
@@ -25,4 +26,4 @@ clear-spec =
     (λ c. search needs)
     (λ c. (search needs, search needs, search needs, search zero-more))
     (λ c. search needs)
-    (λ c. (search zero-all, search needs)))
+    (λ c. (search down-all, search needs)))
