@@ -8,3 +8,4 @@ pub mod Nodes
 pub mod Standing
 pub mod Chunk
 pub mod Seeking
+pub mod Chunks

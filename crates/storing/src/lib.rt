@@ -14,6 +14,8 @@ ghost use Rattle.prospects.specs.Arrivals.{Arrivals};
 ghost use Rattle.storing.specs.Standing.{Standing, StandingTo, NodeLabels, Judged, ArcsAt, KidsAt};
 ghost use Rattle.storing.specs.Chunk.{MarkedAt, Raised};
 ghost use Rattle.storing.specs.Seeking.{Down, Sought, Chunked};
+ghost use Rattle.storing.specs.Chunks.{SomeChunk, AllReached};
+use growing::Counts;
 
 // Writes the stations on the way from the root to a node, from its word back through the parents. Answers their number.
 fn path_of(work: &[u32], node: usize, path: &mut [u16]) -> usize
@@ -468,4 +470,37 @@ fn mark_chunk(
     mark_departures(
         words, order, n, chain, first, arrivals, begins, catch, work, lo, hi, source, v, q, x, arcs, kids,
     );
+}
+
+// ---- the tree
+
+// Takes the nodes from lo up to hi, whose flags are told. Answers the numbers of nodes and arcs then, if they fit.
+fn take_chunk(
+    work: &mut [u32],
+    targets: &mut [u8],
+    lo: usize,
+    hi: usize,
+    nodes: usize,
+    ends: usize,
+    arcs: &[u8],
+    kids: &[u8],
+) -> Counts
+    requires { ⌜ SomeChunk (now work) (now targets) nodes ends lo hi (now arcs) (now kids) ⌝ }
+    ensures { λ r. ⌜ AllReached (now (work .entry)) (now (targets .entry)) nodes ends lo hi (now (arcs .entry))
+        (now (kids .entry)) (now (work .exit)) (now (targets .exit)) r ⌝ }
+{
+    let mut n = nodes;
+    let mut m = ends;
+    let mut v = lo;
+    while v < hi {
+        let o = 64 * (v - lo);
+        let taken = growing::take_node(work, targets, v, n, m, &arcs[o..o + 64], &kids[o..o + 64]);
+        if !taken.fits {
+            return taken;
+        }
+        n = taken.n;
+        m = taken.m;
+        v += 1;
+    }
+    Counts { n, m, fits: true }
 }
