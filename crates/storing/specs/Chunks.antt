@@ -1,10 +1,11 @@
 -- The tree grows chunk by chunk: the flags of the nodes of a chunk are found in one go, and then the nodes are taken one
 -- after the other.
 use mathlib.Core.Path.{_≡_, refl, sym, ap, subst, _∙_}
-use mathlib.Core.Bool.{Bool, true, false}
+use mathlib.Core.Bool.{Bool, true, false, not}
 use mathlib.Core.List.{List, _++_}
 use Prim.Native.Nat.{ℕ, suc, _+_, _-_, _*_, _≤_, _<_}
 use native.Mathlib.Omega.{arith}
+use borrow.Author.Tests.{not-true, not-false}
 use lib.Dec.{T}
 use lib.ListN.{length, take, drop, length-append}
 use lib.Seq.{take-add}
@@ -130,12 +131,14 @@ module _ (work₀ targets₀ : List ℕ) (n₀ m₀ lo hi : ℕ) (arcs kids : Li
           (took : (ps : List (List ℕ)) (source : ℕ)
           → Next ps source work targets n m v (partOf (64 * (v - lo)) arcs) (partOf (64 * (v - lo)) kids)
           → Taken ps source work′ targets′ v r) where
-        pub underway-more : r .fits ≡ true
+        pub underway-more : not (r .fits) ≡ false
             → Underway work₀ targets₀ n₀ m₀ lo hi arcs kids work′ targets′ (r .n) (r .m) (v + 1)
-        underway-more e = record { grown = (λ ps source c. took ps source (next ps source c) .taken e) }
+        underway-more e =
+            record { grown = (λ ps source c. took ps source (next ps source c) .taken (not-false (r .fits) e)) }
 
-        pub all-refused : r .fits ≡ false → AllReached work₀ targets₀ n₀ m₀ lo hi arcs kids work′ targets′ r
-        all-refused e =
+        pub all-refused : not (r .fits) ≡ true → AllReached work₀ targets₀ n₀ m₀ lo hi arcs kids work′ targets′ r
+        all-refused t =
+            let e = not-true (r .fits) t in
             record {
               reached =
                   (λ ps source c.
