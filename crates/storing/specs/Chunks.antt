@@ -15,7 +15,7 @@ use Rattle.prospects.specs.Routes.{Routes}
 use Rattle.growing.specs.declared.Counts.{Counts}
 use Rattle.growing.specs.Tree.{hasArc, hasKid, children, rooted, nodeAt, Made, Grown, TooMany, Flags}
 use Rattle.growing.specs.Held.{concatMap-append}
-use Rattle.growing.specs.Taking.{Next, Takes, Taken}
+use Rattle.growing.specs.Taking.{Next, Takes, Taken, grown-end}
 use Rattle.storing.specs.Storing.{sequences}
 use Rattle.storing.specs.Nodes.{made}
 use Rattle.storing.specs.Standing.{StandingTo}
@@ -48,6 +48,11 @@ pub record SomeChunk (work targets : List ℕ) (n m lo hi : ℕ) (arcs kids : Li
 -- the nodes below hi were taken, or the store does not fit
 pub record Reached (ps : List (List ℕ)) (source : ℕ) (work targets : List ℕ) (hi : ℕ) (r : Counts) : Type 0 where
   pub taken : r .fits ≡ true → Grown ps source work targets (r .n) (r .m) hi
+  pub refused : r .fits ≡ false → TooMany ps
+
+-- all nodes were taken, or the store does not fit
+pub record Whole (ps : List (List ℕ)) (source : ℕ) (work targets : List ℕ) (r : Counts) : Type 0 where
+  pub taken : r .fits ≡ true → Grown ps source work targets (r .n) (r .m) (suc (r .n))
   pub refused : r .fits ≡ false → TooMany ps
 
 -- this holds of whatever tree the chunk is of
@@ -199,3 +204,28 @@ module _ (w order : List ℕ) (k : ℕ) (caught : List ℕ) (routes : Routes w o
         → AllReached work targets n m lo hi arcs kids work′ targets′ r
         → Reached (sequences w a) a work′ targets′ hi r
     chunk-reached work′ targets′ r all = all .reached (sequences w a) a chunk
+
+-- ---- chunk after chunk
+module _ (ps : List (List ℕ)) (source : ℕ) (work targets : List ℕ) where
+  pub few-nodes : (n m lo : ℕ) → Grown ps source work targets n m lo → n ≤ 16383
+  few-nodes n m lo g = g .few-nodes
+
+  pub less-left : (n m lo hi : ℕ) → Grown ps source work targets n m lo → lo ≤ n → lo < hi → 16384 - hi < 16384 - lo
+  less-left n m lo hi g h l = omega (arith, g .few-nodes)
+
+  module _ (hi : ℕ) (r : Counts) (reached : Reached ps source work targets hi r) where
+    pub chunk-grown : not (r .fits) ≡ false → Grown ps source work targets (r .n) (r .m) hi
+    chunk-grown e = reached .taken (not-false (r .fits) e)
+
+    pub whole-refused : not (r .fits) ≡ true → Whole ps source work targets r
+    whole-refused t =
+        let e = not-true (r .fits) t in
+        record { taken = (λ f. absurd (true-is-not-false (sym f ∙ e))); refused = (λ f. reached .refused e) }
+
+  pub whole-taken : (n m lo : ℕ) → Grown ps source work targets n m lo → n < lo
+      → Whole ps source work targets (record { n = n; m = m; fits = true })
+  whole-taken n m lo g h =
+      record {
+        taken = (λ f. grown-end ps source work targets n m lo g h);
+        refused = (λ f. absurd (true-is-not-false f));
+      }

@@ -14,8 +14,28 @@ ghost use Rattle.prospects.specs.Arrivals.{Arrivals};
 ghost use Rattle.storing.specs.Standing.{Standing, StandingTo, NodeLabels, Judged, ArcsAt, KidsAt};
 ghost use Rattle.storing.specs.Chunk.{MarkedAt, Raised};
 ghost use Rattle.storing.specs.Seeking.{Down, Sought, Chunked};
-ghost use Rattle.storing.specs.Chunks.{SomeChunk, AllReached};
+ghost use Rattle.storing.specs.Chunks.{SomeChunk, AllReached, Reached, Whole};
+ghost use Rattle.growing.specs.Tree.{Grown};
+ghost use Rattle.storing.specs.Storing.{sequences, storeReply, storeAfter};
+ghost use Rattle.storing.specs.Made.{madeReply, madeAfter};
 use growing::Counts;
+use replies::Reply;
+
+// A timetable has at most so many stops.
+const STOPS_MOST: usize = 2048;
+
+// Stations count from 1, 64 at most; where each one's departures begin, and where those of the last end.
+const STATIONS: usize = 66;
+
+// The flags of so many nodes are found in one go: 64 for each node.
+const CHUNK: usize = 32;
+const FLAGS: usize = 2048;
+
+// A store has fewer arcs than this.
+const TARGETS: usize = 16384;
+
+// No departure is at this minute.
+const NO_MINUTE: usize = 2880;
 
 // Writes the stations on the way from the root to a node, from its word back through the parents. Answers their number.
 fn path_of(work: &[u32], node: usize, path: &mut [u16]) -> usize
@@ -369,9 +389,6 @@ fn place_at(first: &[u32], c: usize) -> usize
     first[c] as usize
 }
 
-// No departure is at this minute.
-const NO_MINUTE: usize = 2880;
-
 // Raises the flags of the arcs and kids of the nodes from lo up to hi.
 fn mark_departures(
     words: &[u16],
@@ -503,4 +520,202 @@ fn take_chunk(
         v += 1;
     }
     Counts { n, m, fits: true }
+}
+
+// Finds the arcs and kids of the nodes from lo up to hi, and takes these nodes. Answers the numbers of nodes and arcs
+// then, if they fit.
+fn grow_chunk(
+    words: &[u16],
+    order: &[u16],
+    count: usize,
+    chain: &[u16],
+    first: &[u32],
+    arrivals: &[u16],
+    begins: &[u32],
+    catch: &[u16],
+    source: usize,
+    work: &mut [u32],
+    targets: &mut [u8],
+    lo: usize,
+    hi: usize,
+    nodes: usize,
+    ends: usize,
+) -> Counts
+    requires { ⌜ Routes (now words) (now order) count (now catch)
+        × Arrivals (now words) (now arrivals) (now begins)
+        × Departures (now words) (now chain) (now first)
+        × (1 ≤ source)
+        × (source ≤ stationCount (now words))
+        × Grown (sequences (now words) source) source (now work) (now targets) nodes ends lo
+        × (lo ≤ hi)
+        × (hi ≤ nodes + 1)
+        × (hi ≤ lo + 32) ⌝ }
+    ensures { λ r. ⌜ Reached (sequences (now (words .entry)) source) source (now (work .exit)) (now (targets .exit)) hi r ⌝ }
+{
+    let mut v = [0u32; STOPS_MOST];
+    let mut q = [0u32; STOPS_MOST];
+    let mut x = [0u32; STOPS_MOST];
+    let mut arcs = [0u8; FLAGS];
+    let mut kids = [0u8; FLAGS];
+    mark_chunk(
+        words, order, count, chain, first, arrivals, begins, catch, work, lo, hi, source, &mut v, &mut q, &mut x,
+        &mut arcs, &mut kids,
+    );
+    take_chunk(work, targets, lo, hi, nodes, ends, &arcs, &kids)
+}
+
+// The nodes from lo on, of nodes 0 to n, that make the next chunk end before this one.
+fn chunk_end(lo: usize, n: usize) -> usize
+    requires { ⌜ (lo ≤ n) × (n ≤ 16383) ⌝ }
+    ensures { λ r. ⌜ (lo < r) × (r ≤ n + 1) × (r ≤ lo + 32) ⌝ }
+{
+    if lo + CHUNK < n + 1 {
+        return lo + CHUNK;
+    }
+    n + 1
+}
+
+// Grows the tree from its root. Answers the numbers of nodes and arcs, if they fit.
+fn grow(
+    words: &[u16],
+    order: &[u16],
+    count: usize,
+    chain: &[u16],
+    first: &[u32],
+    arrivals: &[u16],
+    begins: &[u32],
+    catch: &[u16],
+    source: usize,
+    work: &mut [u32],
+    targets: &mut [u8],
+) -> Counts
+    requires { ⌜ Routes (now words) (now order) count (now catch)
+        × Arrivals (now words) (now arrivals) (now begins)
+        × Departures (now words) (now chain) (now first)
+        × (1 ≤ source)
+        × (source ≤ stationCount (now words))
+        × Grown (sequences (now words) source) source (now work) (now targets) 0 0 0 ⌝ }
+    ensures { λ r. ⌜ Whole (sequences (now (words .entry)) source) source (now (work .exit)) (now (targets .exit)) r ⌝ }
+{
+    let mut n = 0;
+    let mut m = 0;
+    let mut lo = 0;
+    while lo <= n {
+        let hi = chunk_end(lo, n);
+        let taken = grow_chunk(
+            words, order, count, chain, first, arrivals, begins, catch, source, work, targets, lo, hi, n, m,
+        );
+        if !taken.fits {
+            return taken;
+        }
+        n = taken.n;
+        m = taken.m;
+        lo = hi;
+    }
+    Counts { n, m, fits: true }
+}
+
+// ---- the store
+
+// Writes the departures by minute and by station, and what each arrival catches. Answers how many departures there are.
+fn list_departures(
+    words: &[u16],
+    work: &mut [u32],
+    order: &mut [u16],
+    chain: &mut [u16],
+    first: &mut [u32],
+    catch: &mut [u16],
+) -> usize
+    requires { ⌜ (16384 ≤ length (now words))
+        × (isTimetable (now words) ≡ true)
+        × (length (now work) ≡ 16384)
+        × (length (now order) ≡ 2048)
+        × (length (now chain) ≡ 2048)
+        × (length (now first) ≡ 66)
+        × (length (now catch) ≡ 2048) ⌝ }
+    ensures { λ r. ⌜ Routes (now (words .entry)) (now (order .exit)) r (now (catch .exit))
+        × Departures (now (words .entry)) (now (chain .exit)) (now (first .exit)) ⌝ }
+{
+    let n = chains::order_departures(words, work, order);
+    chains::chain_departures(words, order, n, chain, first);
+    chains::find_catches(words, chain, first, catch);
+    n
+}
+
+// Makes the tree of the sequences of the source. Answers the numbers of nodes and arcs, if they fit.
+fn make_tree(words: &[u16], source: usize, work: &mut [u32], targets: &mut [u8]) -> Counts
+    requires { ⌜ (16384 ≤ length (now words))
+        × (isTimetable (now words) ≡ true)
+        × (1 ≤ source)
+        × (source ≤ stationCount (now words))
+        × (length (now work) ≡ 16384)
+        × (length (now targets) ≡ 16384) ⌝ }
+    ensures { λ r. ⌜ Whole (sequences (now (words .entry)) source) source (now (work .exit)) (now (targets .exit)) r ⌝ }
+{
+    let mut order = [0u16; STOPS_MOST];
+    let mut chain = [0u16; STOPS_MOST];
+    let mut first = [0u32; STATIONS];
+    let mut catch = [0u16; STOPS_MOST];
+    let count = list_departures(words, work, &mut order, &mut chain, &mut first, &mut catch);
+    let mut arrivals = [0u16; STOPS_MOST];
+    let mut begins = [0u32; STATIONS];
+    chains::chain_arrivals(words, work, &mut arrivals, &mut begins);
+    growing::plant_root(work, source as u32);
+    grow(
+        words, &order, count, &chain, &first, &arrivals, &begins, &catch, source, work, targets,
+    )
+}
+
+// Makes and writes the store of the source.
+fn make(words: &[u16], work: &mut [u32], source: usize, store: &mut [u16]) -> Reply
+    requires { ⌜ (16384 ≤ length (now words))
+        × (isTimetable (now words) ≡ true)
+        × (1 ≤ source)
+        × (source ≤ stationCount (now words))
+        × (length (now work) ≡ 16384) ⌝ }
+    ensures { λ r. ⌜ (r ≡ madeReply (now (words .entry)) source (length (now (store .entry))))
+        × (now (store .exit) ≡ madeAfter (now (words .entry)) source (now (store .entry))) ⌝ }
+{
+    let mut targets = [0u8; TARGETS];
+    let counts = make_tree(words, source, work, &mut targets);
+    if !counts.fits {
+        return Reply::Refused { number: 15 };
+    }
+    let count = 2 + 2 * counts.n + 2 * counts.m;
+    if store.len() < count {
+        return Reply::Refused { number: 15 };
+    }
+    let stations = words::word(words, 0) as usize;
+    growing::write_store(work, &targets, counts.n, counts.m, stations, store);
+    Reply::Done {
+        count: count as u32,
+    }
+}
+
+// The store of one source. Working space may hold any words afterwards.
+pub fn make_store(words: &[u16], lines: &[u16], work: &mut [u32], source: u32, store: &mut [u16]) -> Reply
+    ensures reply { λ r. ⌜ r
+        ≡ storeReply
+        (now (words .entry))
+        (now (lines .entry))
+        (length (now (work .entry)))
+        source
+        (length (now (store .entry))) ⌝ }
+    ensures words { λ _. ⌜ now (store .exit)
+        ≡ storeAfter
+        (now (words .entry))
+        (now (lines .entry))
+        (length (now (work .entry)))
+        source
+        (now (store .entry)) ⌝ }
+{
+    let number = checking::tables_number(words, lines, work);
+    if number != 0 {
+        return Reply::Refused { number };
+    }
+    if !checking::is_listed(words, source) {
+        return Reply::Refused { number: 11 };
+    }
+    let space = &mut work[0..tables::WORDS_LEAST];
+    make(words, space, source as usize, store)
 }
