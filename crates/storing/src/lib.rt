@@ -648,6 +648,7 @@ fn make_tree(words: &[u16], source: usize, work: &mut [u32], targets: &mut [u8])
         × (isTimetable (now words) ≡ true)
         × (1 ≤ source)
         × (source ≤ stationCount (now words))
+        × (source ≤ 64)
         × (length (now work) ≡ 16384)
         × (length (now targets) ≡ 16384) ⌝ }
     ensures { λ r. ⌜ Whole (sequences (now (words .entry)) source) source (now (work .exit)) (now (targets .exit)) r ⌝ }
@@ -672,6 +673,7 @@ fn make(words: &[u16], work: &mut [u32], source: usize, store: &mut [u16]) -> Re
         × (isTimetable (now words) ≡ true)
         × (1 ≤ source)
         × (source ≤ stationCount (now words))
+        × (source ≤ 64)
         × (length (now work) ≡ 16384) ⌝ }
     ensures { λ r. ⌜ (r ≡ madeReply (now (words .entry)) source (length (now (store .entry))))
         × (now (store .exit) ≡ madeAfter (now (words .entry)) source (now (store .entry))) ⌝ }

@@ -1,4 +1,7 @@
+use native.Mathlib.Omega.{arith}
 use borrow.Author.Needs.{needs}
+use Rattle.stopwise.specs.TimelyLaws.{timely}
+use Rattle.storing.specs.Prepared.{chain-front, order-first, routes, departures-of}
 use Rattle.storing.proofs.list_departures.Statement.{statement}
 use Rattle.storing.proofs.list_departures.Tie as tie
 use Rattle.storing.proofs.list_departures.Reads as reads
@@ -9,15 +12,39 @@ use Rattle.chains.proofs.order_departures.Reads as order-departures-reads
 
 -- src/lib.rt:639:9
 order-departures-requires : tie.Need-order-departures-requires
-order-departures-requires c κs = ?
+order-departures-requires c κs = (
+  search needs,
+  search needs,
+  search timely,
+  search needs,
+  search needs,
+)
 
 -- src/lib.rt:640:5
 chain-departures-requires : tie.Need-chain-departures-requires
-chain-departures-requires c κs = ?
+chain-departures-requires c κs = (
+  search needs,
+  search needs,
+  search timely,
+  search needs,
+  search needs,
+  search order-first,
+  search needs,
+  search needs,
+)
 
 -- src/lib.rt:641:5
 find-catches-requires : tie.Need-find-catches-requires
-find-catches-requires c κs = ?
+find-catches-requires c κs = (
+  search needs,
+  search needs,
+  search timely,
+  search needs,
+  chain-front _ _ _ (c .before .before .before .before .before .before .before .chain-departures .ensures .0),
+  search needs,
+  search needs,
+  search needs,
+)
 
 -- src/lib.rt:621:1
 same-length : tie.Need-same-length
@@ -41,7 +68,10 @@ same-length-5 c = search needs
 
 -- src/lib.rt:621:1
 returns : tie.Need-returns
-returns c = ?
+returns c =
+    let e = c .before .before .before .before .before .before .before .before .before .before .chain-departures .ensures in
+    let b = c .before .before .before .before .before .before .before .before .before .before .before .before .before .before .before .before .before .before .before .before .before .before .before .before .before .before .before in
+    (search routes, departures-of _ _ _ _ (e .0) (e .1 .0) (e .1 .1 .0) (omega (arith, e .1 .1 .1, b .pre .5)))
 
 pub list-departures-spec : {M : Type 1} → statement M
 list-departures-spec =
