@@ -1,11 +1,11 @@
 -- The store call question by question: 8 to 11 come first, and where they all have their yes the store is made, and
 -- question 15 alone is left.
 use mathlib.Core.Path.{_≡_, refl, sym, ap, _∙_}
-use mathlib.Core.Bool.{Bool, true, false}
+use mathlib.Core.Bool.{Bool, true, false, not}
 use mathlib.Core.List.{List, [], _∷_, _++_}
 use Prim.Native.Nat.{ℕ, zero, suc, _≤_}
 use native.Mathlib.Omega.{arith}
-use borrow.Author.Tests.{leb-true}
+use borrow.Author.Tests.{leb-true, not-true, not-false}
 use lib.Dec.{leb}
 use lib.ListN.{length, take}
 use lib.Seq.{length-take-le}
@@ -16,6 +16,7 @@ use Rattle.replies.specs.Replies.{replyOf, wordsAfter, reply-refused, words-kep
 use Rattle.replies.specs.Later.{asked-on, asked-out}
 use Rattle.timetable.specs.Words.{timetableOf, stationCount, isTimetable}
 use Rattle.timetable.specs.Check.{length-stations}
+use Rattle.timetable.specs.Access.{stations-few}
 use Rattle.checking.specs.Question10.{areTables, tablesQuestions, tablesNumber}
 use Rattle.checking.specs.Asked.{listed}
 use Rattle.checking.specs.Yes.{Long, long, long-all, tables-asked}
@@ -96,9 +97,9 @@ module _ (w v : List ℕ) (n a : ℕ) where
           (tables-asked w v n) tables-yes
 
       -- question 11
-      module _ (unknown : listed (timetableOf w) a ≡ false) where
+      module _ (b : Bool) (told : b ≡ listed (timetableOf w) a) (unknown : not b ≡ true) where
         no-source : (m : ℕ) → 11 ≡ storeNumber w v n a m
-        no-source m = rw (same-later m, unknown)
+        no-source m = rw (same-later m, sym told ∙ not-true b unknown)
 
         pub unlisted-reply : (m : ℕ) → Refused 11 ≡ storeReply w v n a m
         unlisted-reply m = refused-reply 10 no-source m
@@ -106,7 +107,10 @@ module _ (w v : List ℕ) (n a : ℕ) where
         pub unlisted-words : (old : List ℕ) → old ≡ storeAfter w v n a old
         unlisted-words old = refused-words 10 no-source old
 
-      module _ (known : listed (timetableOf w) a ≡ true) where
+      module _ (b : Bool) (told : b ≡ listed (timetableOf w) a) (found : not b ≡ false) where
+        known : listed (timetableOf w) a ≡ true
+        known = sym told ∙ not-false b found
+
         pub source-some : 1 ≤ a
         unfolding listed
         source-some = leb-true 1 a (and-left (leb 1 a) (leb a (length ((timetableOf w) .stations))) known)
@@ -120,6 +124,9 @@ module _ (w v : List ℕ) (n a : ℕ) where
                   (and-right (leb 1 a) (leb a (length ((timetableOf w) .stations))) known),
               length-stations w,
             )
+
+        pub source-few : a ≤ 64
+        source-few = omega (arith, source-listed, stations-few w accepted)
 
         -- question 15
         same-number : (m : ℕ) → madeNumber w a m ≡ storeNumber w v n a m

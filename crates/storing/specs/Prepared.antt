@@ -13,6 +13,7 @@ use Rattle.lists.specs.Lists.{_∈_, Distinct}
 use Rattle.timetable.specs.Words.{stationCount, isTimetable}
 use Rattle.timetable.specs.Access.{stations-few}
 use Rattle.stopwise.specs.Stopwise.{station, arrive, Goes}
+use Rattle.stopwise.specs.Settled.{Timely}
 use Rattle.stopwise.specs.TimelyLaws.{timely}
 use Rattle.chains.specs.Order.{beginOf, order, chain, arrivals, stationKeys, byKey}
 use Rattle.chains.specs.Keys.{Begins}
@@ -55,6 +56,9 @@ module _ (w listed : List ℕ) (n : ℕ) (caught : List ℕ) (r : Routes w liste
 
   pub accepted : isTimetable w ≡ true
   accepted = r .accepted
+
+  pub in-time : Timely w
+  in-time = r .timely
 
   pub counted-order : n ≡ length (order w)
   counted-order = omega (arith, r .within, ap length (r .departing), length-take n listed)
@@ -142,10 +146,10 @@ module _ (w : List ℕ) (yes : isTimetable w ≡ true) (listed first old : List 
           length-take (length (arrivals w)) listed,
         )
 
-  pub arrivals-of : length first ≡ 66 → Arrivals w listed first
-  arrivals-of long =
+  pub arrivals-of : (k : ℕ) → length first ≡ k → k ≡ 66 → Arrivals w listed first
+  arrivals-of k long e =
       record {
-        long-first = long;
+        long-first = long ∙ e;
         rises = (λ c s h. part-rises c (few c h));
         inside = (λ c s h. part-inside c (few c h));
         within =

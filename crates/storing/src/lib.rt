@@ -642,6 +642,48 @@ fn list_departures(
     n
 }
 
+// Writes the arrivals by station, and where each station's begin.
+fn list_arrivals(words: &[u16], work: &mut [u32], arrivals: &mut [u16], begins: &mut [u32])
+    requires { ⌜ (16384 ≤ length (now words))
+        × (isTimetable (now words) ≡ true)
+        × (length (now work) ≡ 16384)
+        × (length (now arrivals) ≡ 2048)
+        × (length (now begins) ≡ 66) ⌝ }
+    ensures { λ _. ⌜ Arrivals (now (words .entry)) (now (arrivals .exit)) (now (begins .exit)) ⌝ }
+{
+    chains::chain_arrivals(words, work, arrivals, begins);
+}
+
+// Plants and grows the tree, the departures having been listed. Answers the numbers of nodes and arcs, if they fit.
+fn grow_tree(
+    words: &[u16],
+    order: &[u16],
+    count: usize,
+    chain: &[u16],
+    first: &[u32],
+    catch: &[u16],
+    source: usize,
+    work: &mut [u32],
+    targets: &mut [u8],
+) -> Counts
+    requires { ⌜ Routes (now words) (now order) count (now catch)
+        × Departures (now words) (now chain) (now first)
+        × (1 ≤ source)
+        × (source ≤ stationCount (now words))
+        × (source ≤ 64)
+        × (length (now work) ≡ 16384)
+        × (length (now targets) ≡ 16384) ⌝ }
+    ensures { λ r. ⌜ Whole (sequences (now (words .entry)) source) source (now (work .exit)) (now (targets .exit)) r ⌝ }
+{
+    let mut arrivals = [0u16; STOPS_MOST];
+    let mut begins = [0u32; STATIONS];
+    list_arrivals(words, work, &mut arrivals, &mut begins);
+    growing::plant_root(work, source as u32);
+    grow(
+        words, order, count, chain, first, &arrivals, &begins, catch, source, work, targets,
+    )
+}
+
 // Makes the tree of the sequences of the source. Answers the numbers of nodes and arcs, if they fit.
 fn make_tree(words: &[u16], source: usize, work: &mut [u32], targets: &mut [u8]) -> Counts
     requires { ⌜ (16384 ≤ length (now words))
@@ -658,13 +700,7 @@ fn make_tree(words: &[u16], source: usize, work: &mut [u32], targets: &mut [u8])
     let mut first = [0u32; STATIONS];
     let mut catch = [0u16; STOPS_MOST];
     let count = list_departures(words, work, &mut order, &mut chain, &mut first, &mut catch);
-    let mut arrivals = [0u16; STOPS_MOST];
-    let mut begins = [0u32; STATIONS];
-    chains::chain_arrivals(words, work, &mut arrivals, &mut begins);
-    growing::plant_root(work, source as u32);
-    grow(
-        words, &order, count, &chain, &first, &arrivals, &begins, &catch, source, work, targets,
-    )
+    grow_tree(words, &order, count, &chain, &first, &catch, source, work, targets)
 }
 
 // Makes and writes the store of the source.
