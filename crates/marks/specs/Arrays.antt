@@ -1,15 +1,15 @@
 -- What passes over some indices of an array leave in it: words that were set, words that fell to the least so far, a
 -- word that was lowered, and a flag that was raised.
 use mathlib.Core.Path.{_≡_, refl, sym, ap, subst, _∙_}
-use mathlib.Core.Bool.{Bool, true, false, cond}
+use mathlib.Core.Bool.{Bool, cond}
 use mathlib.Core.Logic.{_≢_, _⊎_, inl, inr}
-use mathlib.Core.List.{List, [], _∷_, _++_, List·Memᴰ·head as here, List·Memᴰ·tail as there}
-use mathlib.Core.List.{Memᴰ·append-right, Memᴰ·cast}
+use mathlib.Core.List.{List, [], _∷_, _++_, List·Memᴰ·head as here, List·Memᴰ·tail as there, Memᴰ·append-right}
+use mathlib.Core.List.{Memᴰ·cast}
 use Prim.Native.Nat.{ℕ, _≤_, _<_, min}
-use native.Mathlib.Omega.{arith}
 use native.Mathlib.Decide.{ℕ-discrete}
+use native.Mathlib.Omega.{arith}
 use borrow.Author.Tests.{lt-ltb, le-ltb}
-use lib.Dec.{T, ltb, ltb→lt, nltb→le}
+use lib.Dec.{ltb, ltb→lt, nltb→le}
 use lib.ListN.{length, getD, set, length-set}
 use lib.Seq.{getD-set-same, getD-set-other}
 use Rattle.lists.specs.Lists.{_∈_, Distinct}
@@ -178,12 +178,12 @@ fall-from (k ∷ l) low x g d h i = go (fall-from l m (set x k m) g (d .1) (with
         elim (min-cases low (getD x k 0)) [
           | inl a ↦ inl (e ∙ a)
           | inr a ↦
-            inr
-            (record {
-              f = k;
-              behind = record { front = []; back = l; whole = refl; behind = i };
-              is = e ∙ a;
-            })
+              inr
+              (record {
+                f = k;
+                behind = record { front = []; back = l; whole = refl; behind = i };
+                is = e ∙ a;
+              })
         ]
 
     later : From l (set x k m) g v → From (k ∷ l) x g v
