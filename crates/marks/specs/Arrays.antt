@@ -66,13 +66,6 @@ unfoldable pub fall : (low : ℕ) → List ℕ → List ℕ → List ℕ
 fall low [] x = x
 fall low (g ∷ l) x = fall (min low (getD x g 0)) l (set x g (min low (getD x g 0)))
 
-pub fall-length : (l : List ℕ) (low : ℕ) (x : List ℕ) → length (fall low l x) ≡ length x
-unfolding fall
-fall-length [] low x = refl
-fall-length (g ∷ l) low x =
-    let m = min low (getD x g 0) in
-    fall-length l m (set x g m) ∙ length-set x g m
-
 fall-out : (l : List ℕ) (low : ℕ) (x : List ℕ) (g : ℕ) → ¬ (g ∈ l) → getD (fall low l x) g 0 ≡ getD x g 0
 unfolding fall
 fall-out [] low x g h = refl

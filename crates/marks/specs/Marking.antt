@@ -70,11 +70,6 @@ module _ (w : List ℕ) (test : Visit → Bool) where
       go true e = ap length (flag-up v l e) ∙ length-set l (place v) 1
       go false e = ap length (flag-not v l e)
 
-  pub run-flag-length : (l : List Visit) (s : List ℕ) → length (run act l s) ≡ length s
-  unfolding run
-  run-flag-length [] s = refl
-  run-flag-length (v ∷ l) s = run-flag-length l (act v s) ∙ flag-length v s
-
   -- one that passes the test, for the flag at k
   record Raises (v : Visit) (k : ℕ) : Type 0 where
     passes : test v ≡ true

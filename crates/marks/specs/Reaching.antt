@@ -9,7 +9,7 @@ use Prim.Native.Nat.{ℕ, zero, suc, _+_, _-_, _≤_, _<_}
 use native.Mathlib.Decide.{ℕ-discrete}
 use native.Mathlib.Omega.{arith}
 use borrow.Author.Tests.{lt-ltb, ne-eqb}
-use lib.Dec.{T, ltb, eqb, ltb→lt}
+use lib.Dec.{ltb, eqb, ltb→lt}
 use lib.ListN.{getD}
 use Rattle.lists.specs.Lists.{_∈_}
 use Rattle.lists.specs.Tests.{and-l}

@@ -176,12 +176,6 @@ module _ (w caught : List ℕ) (c e : ℕ) where
   run-other (v ∷ l) x g h =
       run-other l (act v x) g (λ u m. h u (there m)) ∙ offer-other v x g (h v (here refl))
 
-  pub rides-length : (l x : List ℕ) → length (rides w caught c e l x) ≡ length x
-  unfolding rides
-  rides-length [] x = refl
-  rides-length (i ∷ l) x =
-      rides-length l (run act (boarding w c x i) x) ∙ run-length (boarding w c x i) x
-
 -- ---- the first that passes a test stands before all others that do
 first-behind : (dflt : ℕ) (p : ℕ → Bool) (l : List ℕ) (g : ℕ) → g ∈ l → T (p g)
     → Behind l (firstOr dflt (firstOf p l)) g
