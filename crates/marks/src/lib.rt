@@ -18,7 +18,6 @@ ghost use Rattle.marks.specs.Walks.{
   onwardPoints,
   visit,
   boarding,
-  boardings,
   run,
   rootLabel,
   offer as offerOf,
