@@ -1,8 +1,8 @@
 -- Loops over the departures of a station: where they stand, and what a turn takes from those that are left.
 use mathlib.Core.Path.{_≡_, refl, sym, ap, subst, _∙_}
 use mathlib.Core.Bool.{true}
-use mathlib.Core.List.{List, [], _∷_}
-use Prim.Native.Nat.{ℕ, suc, _+_, _^_, _≤_, _<_, min}
+use mathlib.Core.List.{List, []}
+use Prim.Native.Nat.{ℕ, _+_, _^_, _≤_, _<_, min}
 use native.Mathlib.Numerals.{add-one}
 use native.Mathlib.Omega.{arith}
 use lib.ListN.{length, getD, set}
@@ -105,7 +105,8 @@ module _ (whole l x : List ℕ) (k end : ℕ) where
         → isTimetable w ≡ true → Departures w l first → (c : ℕ) → c ≤ stationCount w → end ≡ getD first (c + 1) 0
         → whole ≡ fill (rootLabel w d) (slice (k + 1) end l) (set x g r)
     root-on h g r is label first ok held c listed to =
-        rw label (fill-on (rootLabel w d) left h (end-inside w l first ok held c listed (getD first c 0) end refl to) g is)
+        let room = end-inside w l first ok held c listed (getD first c 0) end refl to in
+        rw label (fill-on (rootLabel w d) left h room g is)
 
     pub root-done : k ≤ end → end ≤ k → (x₀ : List ℕ) (a : ℕ) → whole ≡ fill (rootLabel w d) (waiting w a) x₀
         → length x₀ ≡ 2048 → isTimetable w ≡ true → Labelled w a d [] a x

@@ -1,13 +1,13 @@
 -- The loop that rides along a trip: a turn makes one arrival of those that are left, and the loop ends where they do.
 use mathlib.Core.Path.{_≡_, refl, sym, ap, subst, _∙_}
 use mathlib.Core.Bool.{Bool, true, false, cond, not, _&&_}
-use mathlib.Core.List.{List, [], _∷_}
+use mathlib.Core.List.{List, []}
 use Prim.Native.Nat.{ℕ, suc, _+_, _-_, _*_, _^_, _≤_, _<_}
 use native.Mathlib.Numerals.{add-one}
 use native.Mathlib.Omega.{arith}
 use borrow.Author.Tests.{lt-ltb, le-ltb, eq-eqb, ne-eqb}
 use lib.Dec.{ltb, eqb, ltb→lt}
-use lib.ListN.{length, getD}
+use lib.ListN.{getD}
 use Rattle.lists.specs.Tests.{and-l}
 use Rattle.timetable.specs.Timetable.{Stop, Station}
 use Rattle.timetable.specs.Words.{stationCount, stationAt, stopAt, isTimetable}
@@ -18,7 +18,6 @@ use Rattle.marks.specs.Arrays.{lower, raised}
 use Rattle.marks.specs.Walks.{Visit, visit, onwardPoints, goesOn, visits, boarding, run, offer, flag, endsWell}
 use Rattle.marks.specs.Walks.{changesWell}
 use Rattle.marks.specs.Held.{goes-few}
-use Rattle.marks.proofs.WordLaws.{cost-most}
 
 and-false : (b : Bool) → b && false ≡ false
 and-false true = refl
@@ -40,23 +39,11 @@ module _ (w : List ℕ) (c : ℕ) (x : List ℕ) (i : ℕ) (act : Visit → List
 
 -- ---- bounds
 module _ (w : List ℕ) (ok : isTimetable w ≡ true) (j : ℕ) (goes : Goes w j) where
-  pub stop-few : j < 2048
-  stop-few = omega (arith, goes-few w ok j goes)
-
-  pub stop-offset : j * 4 < 2 ^ 64
-  stop-offset = omega (arith, stop-few)
-
   pub next-few : j + 1 < 2048
   next-few = omega (arith, goes-few w ok j goes)
 
-  pub next-inside : (caught : List ℕ) → length caught ≡ 2048 → j + 1 < length caught
-  next-inside caught long = omega (arith, next-few)
-
   pub next-counts : j + 1 < 2 ^ 64
   next-counts = omega (arith, next-few)
-
-  pub stop-inside : (x : List ℕ) → length x ≡ 2048 → j < length x
-  stop-inside x long = omega (arith, stop-few)
 
   pub nearer : 2048 - (j + 1) < 2048 - j
   nearer = omega (arith, next-few)
@@ -70,10 +57,6 @@ module _ (w : List ℕ) (ok : isTimetable w ≡ true) (j : ℕ) (goes : Goes w j
 
     pub more-small : y + p < 4000000
     more-small = omega (arith, more-most, next-few)
-
-    pub cost-fits : (e : ℕ) → 1 ≤ e → e ≤ stationCount w → (s : Station) → s ≡ stationAt w (e - 1)
-        → y + p + s .points < 2 ^ 32
-    cost-fits e some listed s at = omega (arith, more-small, cost-most w ok e some listed s at)
 
   next-same : station w (j + 1) ≡ station w (suc j)
   next-same = ap (station w) (add-one j)

@@ -1,10 +1,10 @@
 -- All walks from a station, one after the other, and what they come to: the labels of a kid, those behind a path of
 -- changes, and the marks of a node.
-use mathlib.Core.Path.{_≡_, refl, sym, ap, subst, _∙_}
+use mathlib.Core.Path.{_≡_, sym, ap, subst, _∙_}
 use mathlib.Core.Bool.{true}
 use mathlib.Core.Logic.{_≢_}
 use mathlib.Core.List.{List, [], _∷_}
-use Prim.Native.Nat.{ℕ, suc, _+_, _-_, _≤_, _<_}
+use Prim.Native.Nat.{ℕ, _+_, _-_, _≤_, _<_}
 use native.Mathlib.Numerals.{add-one}
 use native.Mathlib.Omega.{arith}
 use lib.ListN.{length, getD}
@@ -15,10 +15,10 @@ use Rattle.stopwise.specs.Paid.{Labelled}
 use Rattle.stopwise.specs.Prospects.{Ends, GoesOn}
 use Rattle.chains.specs.Order.{waiting}
 use Rattle.marks.specs.Arrays.{fill, fall}
-use Rattle.marks.specs.Walks.{Visit, boarding, boardings, run, offer, rides, stepped, flag, endsWell, changesWell}
+use Rattle.marks.specs.Walks.{Visit, boarding, boardings, run, offer, rides, stepped, flag, endsWell}
+use Rattle.marks.specs.Walks.{changesWell}
 use Rattle.marks.specs.Held.{Departures, Changes}
-use Rattle.marks.specs.Stepping.{Steps}
-use Rattle.marks.specs.Stepping.{run-append, step-labelled}
+use Rattle.marks.specs.Stepping.{Steps, run-append, step-labelled}
 use Rattle.marks.specs.Marking.{Marked, ArcsMarked, KidsMarked, arcs-marked, kids-marked}
 use Rattle.marks.specs.Paths.{changed, reached, Path, changed-none, changed-more, reached-none, reached-more}
 use Rattle.marks.specs.Paths.{boards-reached}
@@ -111,7 +111,8 @@ module _ (w chain : List ℕ) (c k end : ℕ) (inside : k ≤ end) (done : end �
       marks-kids caught q few left =
           record {
             marked = λ a d rev there-c labels bounded.
-                subst (Marked (GoesOn w a d allowed rev) old) (sym (walks-done (flag w (changesWell w caught q)) _ left))
+                subst (Marked (GoesOn w a d allowed rev) old)
+                (sym (walks-done (flag w (changesWell w caught q)) _ left))
                 (kids-marked w ok a d rev c there-c x labels allowed caught q few bounded old long);
           }
 
@@ -169,8 +170,8 @@ module _ (w : List ℕ) (a : ℕ) (path : List ℕ) where
       subst (λ r. Labelled w a d r e x′) rev
       (step .next a d (changed m path) (boards-reached path a m (omega arith) ∙ sym there-c) labels)
 
-  pub path-done : (m k c d : ℕ) (x : List ℕ) → m ≤ k → k ≤ m → c ≡ reached a path m → Labelled w a d (changed m path) c x
-      → Labelled w a d (changed k path) (reached a path k) x
+  pub path-done : (m k c d : ℕ) (x : List ℕ) → m ≤ k → k ≤ m → c ≡ reached a path m
+      → Labelled w a d (changed m path) c x → Labelled w a d (changed k path) (reached a path k) x
   path-done m k c d x h g there-c labels =
       let e : m ≡ k = omega arith in
       subst (λ i. Labelled w a d (changed i path) (reached a path i) x) e

@@ -1,15 +1,15 @@
 -- What passes over some indices of an array leave in it: words that were set, words that fell to the least so far, a
 -- word that was lowered, and a flag that was raised.
 use mathlib.Core.Path.{_≡_, refl, sym, ap, subst, _∙_}
-use mathlib.Core.Bool.{Bool, true, false, cond}
+use mathlib.Core.Bool.{Bool, cond}
 use mathlib.Core.Logic.{_≢_, _⊎_, inl, inr}
-use mathlib.Core.List.{List, [], _∷_, _++_, List·Memᴰ·head as here, List·Memᴰ·tail as there}
-use mathlib.Core.List.{Memᴰ·append-right, Memᴰ·cast}
+use mathlib.Core.List.{List, [], _∷_, _++_, List·Memᴰ·head as here, List·Memᴰ·tail as there, Memᴰ·append-right}
+use mathlib.Core.List.{Memᴰ·cast}
 use Prim.Native.Nat.{ℕ, _≤_, _<_, min}
-use native.Mathlib.Omega.{arith}
 use native.Mathlib.Decide.{ℕ-discrete}
+use native.Mathlib.Omega.{arith}
 use borrow.Author.Tests.{lt-ltb, le-ltb}
-use lib.Dec.{T, ltb, ltb→lt, nltb→le}
+use lib.Dec.{ltb, ltb→lt, nltb→le}
 use lib.ListN.{length, getD, set, length-set}
 use lib.Seq.{getD-set-same, getD-set-other}
 use Rattle.lists.specs.Lists.{_∈_, Distinct}
@@ -65,13 +65,6 @@ module _ (f : ℕ → ℕ) where
 unfoldable pub fall : (low : ℕ) → List ℕ → List ℕ → List ℕ
 fall low [] x = x
 fall low (g ∷ l) x = fall (min low (getD x g 0)) l (set x g (min low (getD x g 0)))
-
-pub fall-length : (l : List ℕ) (low : ℕ) (x : List ℕ) → length (fall low l x) ≡ length x
-unfolding fall
-fall-length [] low x = refl
-fall-length (g ∷ l) low x =
-    let m = min low (getD x g 0) in
-    fall-length l m (set x g m) ∙ length-set x g m
 
 fall-out : (l : List ℕ) (low : ℕ) (x : List ℕ) (g : ℕ) → ¬ (g ∈ l) → getD (fall low l x) g 0 ≡ getD x g 0
 unfolding fall
@@ -178,12 +171,12 @@ fall-from (k ∷ l) low x g d h i = go (fall-from l m (set x k m) g (d .1) (with
         elim (min-cases low (getD x k 0)) [
           | inl a ↦ inl (e ∙ a)
           | inr a ↦
-            inr
-            (record {
-              f = k;
-              behind = record { front = []; back = l; whole = refl; behind = i };
-              is = e ∙ a;
-            })
+              inr
+              (record {
+                f = k;
+                behind = record { front = []; back = l; whole = refl; behind = i };
+                is = e ∙ a;
+              })
         ]
 
     later : From l (set x k m) g v → From (k ∷ l) x g v

@@ -1,6 +1,6 @@
 -- The arrays that hold the order of departures: station by station, where each station's departures begin, and for each
 -- arrival the departure caught.
-use mathlib.Core.Path.{_≡_, refl, sym, ap, subst, _∙_}
+use mathlib.Core.Path.{_≡_, sym, ap, subst, _∙_}
 use mathlib.Core.Bool.{Bool, true, false}
 use mathlib.Core.List.{List, [], _∷_, List·Memᴰ·head as here, List·Memᴰ·tail as there}
 use Prim.Native.Nat.{ℕ, zero, suc, _+_, _-_, _≤_, _<_}
@@ -13,7 +13,7 @@ use Rattle.timetable.specs.Words.{isTimetable}
 use Rattle.stopwise.specs.Stopwise.{station, Goes}
 use Rattle.stopwise.specs.TimelyLaws.{timely}
 use Rattle.chains.specs.Order.{beginOf, order, chain, waiting, catch}
-use Rattle.chains.specs.Parts.{chain-part, begin-next, chain-length, order-length, leaving-few, waiting-out}
+use Rattle.chains.specs.Parts.{chain-part, begin-next, chain-length, order-length, leaving-few}
 
 -- the departures of station m stand at places first[m] up to first[m + 1] of the chain
 pub record Departures (w chained first : List ℕ) : Type 0 where

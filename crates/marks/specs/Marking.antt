@@ -2,26 +2,25 @@
 -- changes ends well, and of those where one who changes there can still end well. Both tests pass the sooner the less
 -- was paid, so the least that a rider can have paid decides.
 use mathlib.Core.Path.{_≡_, refl, sym, ap, subst, _∙_}
-use mathlib.Core.Bool.{Bool, true, false, cond}
-use mathlib.Core.Logic.{_≢_, _⊎_, inl, inr, _↔_}
+use mathlib.Core.Bool.{Bool, true, false}
+use mathlib.Core.Logic.{_⊎_, inl, inr, _↔_}
 use mathlib.Core.List.{List, [], _∷_, List·Memᴰ·head as here, List·Memᴰ·tail as there}
 use Prim.Native.Nat.{ℕ, zero, suc, _+_, _-_, _≤_, _<_}
-use native.Mathlib.Omega.{arith}
 use native.Mathlib.Decide.{ℕ-discrete}
+use native.Mathlib.Omega.{arith}
 use borrow.Author.Tests.{lt-ltb}
-use lib.Dec.{T, ltb, ltb→lt, lt→ltb, nltb→le}
+use lib.Dec.{ltb, ltb→lt, nltb→le}
 use lib.ListN.{length, getD, set, length-set, List·getD-eq-default}
 use lib.Seq.{getD-set-same, getD-set-other}
 use Rattle.lists.specs.Lists.{_∈_}
 use Rattle.lists.specs.Tests.{either}
 use Rattle.lists.specs.Members.{none, cons-cases}
 use Rattle.timetable.specs.Words.{isTimetable}
-use Rattle.stopwise.specs.Stopwise.{station, arrive, depart, changePoints, nowhere, ready, Goes}
+use Rattle.stopwise.specs.Stopwise.{station, arrive, depart, changePoints, nowhere, Goes}
 use Rattle.stopwise.specs.Paid.{Paid, Arrived, Labelled}
 use Rattle.stopwise.specs.Prospects.{Bounded, OntoWell, Ends, GoesOn}
 use Rattle.stopwise.specs.Settled.{Timely}
 use Rattle.stopwise.specs.TimelyLaws.{timely}
-use Rattle.stopwise.specs.LeastSettled.{arrived-behind}
 use Rattle.stopwise.specs.Visits.{departs-later}
 use Rattle.chains.specs.Order.{waiting}
 use Rattle.marks.specs.Arrays.{raised}
@@ -37,8 +36,8 @@ pub record Marked (Told : ℕ → Type 0) (old new : List ℕ) : Type 0 where
   pub exactly : (b : ℕ) → 1 ≤ b → b ≤ 64 → (getD new (b - 1) 0 ≡ 1) ↔ ((getD old (b - 1) 0 ≡ 1) ⊎ Told b)
   pub flags : Flags old → Flags new
 
--- whatever the start, the minute and the changes were of which x has the labels at station c: in arcs the stations where
--- a connection along them ends well,
+-- whatever the start, the minute and the changes were of which x has the labels at station c: in arcs those stations
+-- are told where a connection along them ends well,
 pub record ArcsMarked (w : List ℕ) (c : ℕ) (x allowed old new : List ℕ) : Type 0 where
   pub marked : (a d : ℕ) (rev : List ℕ) → boardsAt a rev ≡ c → Labelled w a d rev c x
       → Marked (Ends w a d allowed rev) old new
@@ -71,11 +70,6 @@ module _ (w : List ℕ) (test : Visit → Bool) where
       go true e = ap length (flag-up v l e) ∙ length-set l (place v) 1
       go false e = ap length (flag-not v l e)
 
-  pub run-flag-length : (l : List Visit) (s : List ℕ) → length (run act l s) ≡ length s
-  unfolding run
-  run-flag-length [] s = refl
-  run-flag-length (v ∷ l) s = run-flag-length l (act v s) ∙ flag-length v s
-
   -- one that passes the test, for the flag at k
   record Raises (v : Visit) (k : ℕ) : Type 0 where
     passes : test v ≡ true
@@ -89,10 +83,12 @@ module _ (w : List ℕ) (test : Visit → Bool) where
       go true e =
           elim (ℕ-discrete k (place v)) [
             | yes q ↦
-              inr
-              (record { passes = e; is = sym q }, ap (λ l. getD l k 0) (flag-up v s e)
-              ∙ ap (λ i. getD (set s i 1) k 0) (sym q)
-              ∙ getD-set-same s k 1 0 h)
+                inr (
+                  record { passes = e; is = sym q },
+                  ap (λ l. getD l k 0) (flag-up v s e)
+                      ∙ ap (λ i. getD (set s i 1) k 0) (sym q)
+                      ∙ getD-set-same s k 1 0 h,
+                )
             | no q ↦ inl (ap (λ l. getD l k 0) (flag-up v s e) ∙ getD-set-other s (place v) k 1 0 q)
           ]
       go false e = inl (ap (λ l. getD l k 0) (flag-not v s e))
@@ -138,10 +134,10 @@ module _ (w : List ℕ) (test : Visit → Bool) where
   run-from (v ∷ l) s k h e =
       elim (run-from l (act v s) k (omega (arith, flag-length v s)) e) [
         | inl q ↦
-          elim (flag-cases v s k h) [
-            | inl p ↦ inl (sym p ∙ q)
-            | inr r ↦ inr (record { v = v; listed = here refl; raises = r .0 })
-          ]
+            elim (flag-cases v s k h) [
+              | inl p ↦ inl (sym p ∙ q)
+              | inr r ↦ inr (record { v = v; listed = here refl; raises = r .0 })
+            ]
         | inr r ↦ inr (record { v = r .v; listed = there (r .listed); raises = r .raises })
       ]
 
@@ -170,23 +166,24 @@ module _ (w : List ℕ) (test : Visit → Bool) where
       → Marked Told s (run act l s)
   run-marked Told l s long out in-list =
       record {
-        exactly = λ b some few.
-            (λ e.
-            elim (run-from l s (b - 1) (omega arith) e) [
-              | inl q ↦ inl q
-              | inr r ↦
-                let o = out (r .v) (r .listed) (r .raises .passes) in
-                let is = r .raises .is in
-                inr (subst Told (omega arith) (o .1))
-            ],
-            λ e.
-            elim e [
-              | inl q ↦ run-up l s (b - 1) (omega arith) q
-              | inr t ↦
-                let r = in-list b t in
-                run-raised l s (b - 1) (r .0) (omega arith) (r .1)
-                (record { passes = r .2; is = ap (λ k. k - 1) (r .3) })
-            ]);
+        exactly = λ b some few. (
+          λ e.
+              elim (run-from l s (b - 1) (omega arith) e) [
+                | inl q ↦ inl q
+                | inr r ↦
+                    let o = out (r .v) (r .listed) (r .raises .passes) in
+                    let is = r .raises .is in
+                    inr (subst Told (omega arith) (o .1))
+              ],
+          λ e.
+              elim e [
+                | inl q ↦ run-up l s (b - 1) (omega arith) q
+                | inr t ↦
+                    let r = in-list b t in
+                    run-raised l s (b - 1) (r .0) (omega arith) (r .1)
+                    (record { passes = r .2; is = ap (λ k. k - 1) (r .3) })
+              ],
+        );
         flags = run-flags l s;
       }
 
@@ -204,13 +201,16 @@ module _ (w : List ℕ) (ok : isTimetable w ≡ true) (a d : ℕ) where
           → (i : ℕ) × Goes w i × (suc i ≡ j) × (d ≤ depart w i)
       go zero o r e = absurd (omega arith)
       go (suc n) o r e =
-          let goes = r n (omega arith) in
-          (h .from + n, goes, omega arith,
-          omega (
-            arith,
-            late (h .from) (h .paid) (h .boards),
-            departs-later w sure n (h .from) (λ k l. r k (omega arith)) goes,
-          ))
+          let goes = r n (omega arith) in (
+            h .from + n,
+            goes,
+            omega arith,
+            omega (
+              arith,
+              late (h .from) (h .paid) (h .boards),
+              departs-later w sure n (h .from) (λ k l. r k (omega arith)) goes,
+            ),
+          )
 
   paid-late : (rev : List ℕ) (g p : ℕ) → Paid w a d rev g p → d ≤ depart w g
   paid-late [] g p h = h .2
@@ -264,15 +264,18 @@ module _ (w : List ℕ) (ok : isTimetable w ≡ true) (a d : ℕ) where
           → (v : Visit) × (v ∈ all) × (endsWell allowed v ≡ true) × (station w (v .stop) ≡ b)
       unfolding endsWell
       ends-in b h =
-          let l = boardings-least w ok c x a d rev labels there-c (suc (h .i)) (h .paid) (h .arrived) in
-          (visit (suc (h .i)) (l .paid), l .listed,
-          lt-ltb (l .paid) (getD allowed (suc (h .i)) 0) (omega (arith, l .least, h .within)),
-          h .here)
+          let l = boardings-least w ok c x a d rev labels there-c (suc (h .i)) (h .paid) (h .arrived) in (
+            visit (suc (h .i)) (l .paid),
+            l .listed,
+            lt-ltb (l .paid) (getD allowed (suc (h .i)) 0) (omega (arith, l .least, h .within)),
+            h .here,
+          )
 
       pub arcs-marked : (arcs : List ℕ) → length arcs ≡ 64
           → Marked (Ends w a d allowed rev) arcs (run (flag w (endsWell allowed)) all arcs)
       arcs-marked arcs long =
-          run-marked w (endsWell allowed) (Ends w a d allowed rev) all arcs long (λ v m e. (listed v m, ends v m e)) ends-in
+          run-marked w (endsWell allowed) (Ends w a d allowed rev) all arcs long
+          (λ v m e. (listed v m, ends v m e)) ends-in
 
       module _ (caught q : List ℕ) (few : length q ≡ 2048) (bounded : Bounded w allowed d caught q) where
         -- the test is what the bounds say
@@ -300,7 +303,8 @@ module _ (w : List ℕ) (ok : isTimetable w ≡ true) (a d : ℕ) where
         unfolding changesWell
         goes-on v m e =
             let r = behind v m in
-            let t = ltb→lt (v .paid + changePoints w (station w (v .stop))) (getD q (getD caught (v .stop) 0) 0) (rw e tt) in
+            let cost = v .paid + changePoints w (station w (v .stop)) in
+            let t = ltb→lt cost (getD q (getD caught (v .stop) 0) 0) (rw e tt) in
             record {
               i = r .0;
               paid = v .paid;
@@ -320,10 +324,13 @@ module _ (w : List ℕ) (ok : isTimetable w ≡ true) (a d : ℕ) where
             let r = ride-late rev (paid-late rev) (suc (h .i)) (h .paid) (h .arrived) in
             let same : r .0 ≡ h .i = omega (arith, r .2) in
             let late : d ≤ depart w (h .i) = omega (arith, r .3, ap (depart w) same) in
-            let t = onto-test (h .i) (h .paid) (h .goes) late (h .onto) in
-            (visit (suc (h .i)) (l .paid), l .listed,
-            lt-ltb (l .paid + changePoints w (station w (suc (h .i)))) (getD q (getD caught (suc (h .i)) 0) 0)
-            (omega (arith, l .least)), h .here)
+            let t = onto-test (h .i) (h .paid) (h .goes) late (h .onto) in (
+              visit (suc (h .i)) (l .paid),
+              l .listed,
+              lt-ltb (l .paid + changePoints w (station w (suc (h .i)))) (getD q (getD caught (suc (h .i)) 0) 0)
+                  (omega (arith, l .least)),
+              h .here,
+            )
 
         pub kids-marked : (kids : List ℕ) → length kids ≡ 64
             → Marked (GoesOn w a d allowed rev) kids (run (flag w (changesWell w caught q)) all kids)

@@ -2,24 +2,24 @@
 -- for less. A walk may end where the trip comes back to the station of boarding, since who can board at a station can
 -- board there later, too, for the same.
 use mathlib.Core.Path.{_≡_, refl, sym, ap, subst, _∙_}
-use mathlib.Core.Bool.{Bool, true, false, cond, not, _&&_}
+use mathlib.Core.Bool.{Bool, true, false, cond, not}
 use mathlib.Core.Logic.{_≢_}
 use mathlib.Core.List.{List, [], _∷_, List·Memᴰ·head as here, List·Memᴰ·tail as there}
 use Prim.Native.Nat.{ℕ, zero, suc, _+_, _-_, _≤_, _<_}
-use native.Mathlib.Omega.{arith}
 use native.Mathlib.Decide.{ℕ-discrete}
+use native.Mathlib.Omega.{arith}
 use borrow.Author.Tests.{lt-ltb, ne-eqb}
-use lib.Dec.{T, ltb, eqb, ltb→lt, eqb→eq}
+use lib.Dec.{ltb, eqb, ltb→lt}
 use lib.ListN.{getD}
 use Rattle.lists.specs.Lists.{_∈_}
-use Rattle.lists.specs.Tests.{either, and-l}
+use Rattle.lists.specs.Tests.{and-l}
 use Rattle.lists.specs.Members.{none, cons-cases, concatMap-in, concatMap-out}
 use Rattle.timetable.specs.Words.{isTimetable}
 use Rattle.stopwise.specs.Stopwise.{station, depart, points, unreached, Goes, Ridden, ridden}
 use Rattle.stopwise.specs.Paid.{Paid, Arrived, Labelled}
 use Rattle.stopwise.specs.Settled.{Timely}
 use Rattle.stopwise.specs.TimelyLaws.{timely}
-use Rattle.stopwise.specs.RideStops.{ridden-one, ridden-more, ridden-split, ridden-once, ridden-on, ridden-goes}
+use Rattle.stopwise.specs.RideStops.{ridden-one, ridden-more, ridden-once, ridden-on}
 use Rattle.stopwise.specs.LeastSettled.{arrived-next, arrived-on}
 use Rattle.stopwise.specs.PaidBounds.{paid-most}
 use Rattle.stopwise.specs.Visits.{departs-later, paid-later}
@@ -54,7 +54,7 @@ module _ (w : List ℕ) (sure : Timely w) (c : ℕ) where
         → (v : Visit) → v ∈ visits w c n (suc j) y → P (v .stop) (v .paid))
         → (v : Visit) → v ∈ cond b (visits w c n (suc j) y) [] → P (v .stop) (v .paid)
     rest-all n j y true e g h ih v m =
-        let t : T (ltb 0 (depart w (suc j))) = and-l (ltb 0 (depart w (suc j))) (not (eqb (station w (suc j)) c)) (rw e tt) in
+        let t = and-l (ltb 0 (depart w (suc j))) (not (eqb (station w (suc j)) c)) (rw e tt) in
         let goes = sure .goes-on j g (omega (arith, ltb→lt 0 (depart w (suc j)) t)) in
         ih goes (on (suc j) y goes h) v m
     rest-all n j y false e g h ih v m = none m
@@ -105,7 +105,9 @@ module _ (w : List ℕ) (sure : Timely w) (c : ℕ) where
       go : visit (suc b + suc m) (y + points w b + ridden w (suc b) (suc m)) ∈ visits w c n (suc b) (y + points w b)
           → visit (b + suc (suc m)) (y + ridden w b (suc (suc m))) ∈ visits w c (suc n) b y
       go ih =
-          rw goes (there (subst (λ u. u ∈ visits w c n (suc b) (y + points w b)) (visit-same (omega arith) (omega arith)) ih))
+          rw goes
+          (there
+          (subst (λ u. u ∈ visits w c n (suc b) (y + points w b)) (visit-same (omega arith) (omega arith)) ih))
 
 -- ---- the arrivals of all walks from a station
 module _ (w : List ℕ) (ok : isTimetable w ≡ true) (c : ℕ) (x : List ℕ) where
@@ -222,7 +224,8 @@ module _ (w : List ℕ) (ok : isTimetable w ≡ true) (c : ℕ) (x : List ℕ) w
           goes : Goes w j
           goes = r (suc k) (omega arith)
 
-          cast : Direct (suc j) (p + ridden w i (suc k) + points w j) → Direct (i + suc (suc k)) (p + ridden w i (suc (suc k)))
+          cast : Direct (suc j) (p + ridden w i (suc k) + points w j)
+              → Direct (i + suc (suc k)) (p + ridden w i (suc (suc k)))
           cast s =
               subst (λ q. Direct (i + suc (suc k)) q) (omega (arith, ridden-more w i (suc k)))
               (subst (λ t. Direct t (p + ridden w i (suc k) + points w j)) (omega arith) s)
@@ -266,4 +269,5 @@ module _ (w : List ℕ) (ok : isTimetable w ≡ true) (c : ℕ) (x : List ℕ) w
           go (suc k) o r e t =
               subst (λ q. Least j q) (sym t)
               (subst (λ i. Least i (h .paid + ridden w (h .from) (suc k))) e
-              (direct-least (h .from + suc k) (h .paid + ridden w (h .from) (suc k)) (direct k (h .from) (h .paid) (h .boards) r)))
+              (direct-least (h .from + suc k) (h .paid + ridden w (h .from) (suc k))
+              (direct k (h .from) (h .paid) (h .boards) r)))

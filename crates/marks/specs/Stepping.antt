@@ -1,24 +1,24 @@
 -- From the labels at one station to those at the next, by the walks: a label is the least that some arrival offers to
 -- the departure it catches or to one before.
 use mathlib.Core.Path.{_≡_, refl, sym, ap, subst, _∙_}
-use mathlib.Core.Bool.{Bool, true, false, cond}
+use mathlib.Core.Bool.{Bool, true, false}
 use mathlib.Core.Logic.{_≢_, _⊎_, inl, inr}
-use mathlib.Core.List.{List, [], _∷_, _++_, append-nil, List·Memᴰ·head as here, List·Memᴰ·tail as there}
-use Prim.Native.Nat.{ℕ, zero, suc, _+_, _-_, _≤_, _<_, min}
-use native.Mathlib.Omega.{arith}
+use mathlib.Core.List.{List, [], _∷_, _++_, List·Memᴰ·head as here, List·Memᴰ·tail as there}
+use Prim.Native.Nat.{ℕ, suc, _+_, _-_, _≤_, _<_, min}
 use native.Mathlib.Decide.{ℕ-discrete}
+use native.Mathlib.Omega.{arith}
 use borrow.Author.Tests.{lt-ltb, le-ltb, eq-eqb, ne-eqb}
-use lib.Dec.{T, leb, ltb, eqb, ltb→lt, nltb→le, eqb→eq, le→leb}
-use lib.ListN.{length, getD, set}
-use Rattle.lists.specs.Lists.{_∈_, endWith, firstOf, Distinct}
+use lib.Dec.{T, leb, ltb, ltb→lt, nltb→le, le→leb}
+use lib.ListN.{length, getD}
+use Rattle.lists.specs.Lists.{_∈_, endWith, firstOf}
 use Rattle.lists.specs.Tests.{either}
 use Rattle.lists.specs.Members.{none, cons-cases}
 use Rattle.timetable.specs.Words.{isTimetable}
-use Rattle.stopwise.specs.Stopwise.{station, depart, points, changePoints, unreached, nowhere, ready, Goes, Catches}
-use Rattle.stopwise.specs.Paid.{Rode, Changed, Paid, Arrived, Labelled}
+use Rattle.stopwise.specs.Stopwise.{station, depart, changePoints, unreached, nowhere, ready, Goes, Catches}
+use Rattle.stopwise.specs.Paid.{Paid, Labelled}
 use Rattle.stopwise.specs.LeastSettled.{arrived-behind}
 use Rattle.chains.specs.Order.{firstOr, waiting, catch}
-use Rattle.chains.specs.InOrderLaws.{in-order, caught-there, caught-no}
+use Rattle.chains.specs.InOrderLaws.{caught-there}
 use Rattle.chains.specs.Parts.{waiting-in, waiting-out, waiting-behind, waiting-distinct}
 use Rattle.marks.specs.Arrays.{fill, fill-length, fill-in, fill-out, Within, fall, fall-top, fall-below, Behind}
 use Rattle.marks.specs.Arrays.{behind-later, behind-in, From, fall-from, lower, lower-length, lower-other}
@@ -73,8 +73,8 @@ module _ (w caught : List ℕ) (c e : ℕ) where
   offer-other v x g none =
       elim (ℕ-discrete (station w (v .stop)) e) [
         | yes h ↦
-          ap (λ l. getD l g 0) (offer-there v x h)
-          ∙ lower-other (to v) (cost v) x g (λ q. none (record { there-e = h; is = sym q }))
+            ap (λ l. getD l g 0) (offer-there v x h)
+            ∙ lower-other (to v) (cost v) x g (λ q. none (record { there-e = h; is = sym q }))
         | no h ↦ ap (λ l. getD l g 0) (offer-elsewhere v x h)
       ]
 
@@ -89,10 +89,10 @@ module _ (w caught : List ℕ) (c e : ℕ) where
   offers-or v g =
       elim (ℕ-discrete (station w (v .stop)) e) [
         | yes h ↦
-          elim (ℕ-discrete (to v) g) [
-            | yes k ↦ inl (record { there-e = h; is = k })
-            | no k ↦ inr (λ o. k (o .is))
-          ]
+            elim (ℕ-discrete (to v) g) [
+              | yes k ↦ inl (record { there-e = h; is = k })
+              | no k ↦ inr (λ o. k (o .is))
+            ]
         | no h ↦ inr (λ o. h (o .there-e))
       ]
 
@@ -148,10 +148,10 @@ module _ (w caught : List ℕ) (c e : ℕ) where
   offer-from v x g h =
       elim (offers-or v g) [
         | inl o ↦
-          either
-          (ltb (cost v) (getD x g 0))
-          (λ t. inr (o, omega (arith, offer-here v x g o h, ltb→lt (cost v) (getD x g 0) t)))
-          (λ t. inl (omega (arith, offer-here v x g o h, nltb→le (cost v) (getD x g 0) t)))
+            either
+            (ltb (cost v) (getD x g 0))
+            (λ t. inr (o, omega (arith, offer-here v x g o h, ltb→lt (cost v) (getD x g 0) t)))
+            (λ t. inl (omega (arith, offer-here v x g o h, nltb→le (cost v) (getD x g 0) t)))
         | inr o ↦ inl (offer-other v x g o)
       ]
 
@@ -162,10 +162,10 @@ module _ (w caught : List ℕ) (c e : ℕ) where
   run-from (v ∷ l) x g h =
       elim (run-from l (act v x) g (omega (arith, offer-length v x))) [
         | inl q ↦
-          elim (offer-from v x g h) [
-            | inl r ↦ inl (q ∙ r)
-            | inr r ↦ inr (record { v = v; listed = here refl; offers = r .0; is = q ∙ r .1 })
-          ]
+            elim (offer-from v x g h) [
+              | inl r ↦ inl (q ∙ r)
+              | inr r ↦ inr (record { v = v; listed = here refl; offers = r .0; is = q ∙ r .1 })
+            ]
         | inr o ↦ inr (offered-later v l g (getD (run act l (act v x)) g 0) o)
       ]
 
@@ -175,12 +175,6 @@ module _ (w caught : List ℕ) (c e : ℕ) where
   run-other [] x g h = refl
   run-other (v ∷ l) x g h =
       run-other l (act v x) g (λ u m. h u (there m)) ∙ offer-other v x g (h v (here refl))
-
-  pub rides-length : (l x : List ℕ) → length (rides w caught c e l x) ≡ length x
-  unfolding rides
-  rides-length [] x = refl
-  rides-length (i ∷ l) x =
-      rides-length l (run act (boarding w c x i) x) ∙ run-length (boarding w c x i) x
 
 -- ---- the first that passes a test stands before all others that do
 first-behind : (dflt : ℕ) (p : ℕ → Bool) (l : List ℕ) (g : ℕ) → g ∈ l → T (p g)
@@ -305,7 +299,8 @@ module _
     rides-run (i ∷ l) x h =
         let act = offer w caught c e in
         let x′ = run act (boarding w c x i) x in
-        let kept : (k : ℕ) → k ∈ l → getD x′ k 0 ≡ getD x k 0 = (λ k m. ride-kept x i k (h i (here refl) .0) (h k (there m) .0) (h k (there m) .1)) in
+        let kept : (k : ℕ) → k ∈ l → getD x′ k 0 ≡ getD x k 0 =
+        (λ k m. ride-kept x i k (h i (here refl) .0) (h k (there m) .0) (h k (there m) .1)) in
         rides-run l x′ (λ k m. h k (there m))
         ∙ ap (λ r. run act r x′) (boardings-same w c x x′ l kept)
         ∙ sym (run-append act (boarding w c x i) (boardings w c x l) x)
@@ -400,7 +395,7 @@ module _
               arith,
               fall-below (waiting w e) unreached offered f g (waiting-distinct w ok e) within b,
               run-least w caught c e (boardings w c start (waiting w c)) start (visit j (l .paid)) f few (l .listed)
-              (record { there-e = h .here; is = is }),
+                  (record { there-e = h .here; is = is }),
               l .least,
               h .total,
             )

@@ -18,7 +18,6 @@ ghost use Rattle.marks.specs.Walks.{
   onwardPoints,
   visit,
   boarding,
-  boardings,
   run,
   rootLabel,
   offer as offerOf,
@@ -70,7 +69,14 @@ fn root_label(words: &[u16], g: usize, d: usize) -> u32
 }
 
 // The labels of the source, where riders start from minute d on.
-pub fn label_root(words: &[u16], chain: &[u16], first: &[u32], source: usize, d: usize, x: &mut [u32])
+pub fn label_root(
+    words: &[u16],
+    chain: &[u16],
+    first: &[u32],
+    source: usize,
+    d: usize,
+    x: &mut [u32],
+)
     requires { ⌜ (16384 ≤ length (now words)) × (isTimetable (now words) ≡ true) ⌝ }
     requires { ⌜ Departures (now words) (now chain) (now first) ⌝ }
     requires { ⌜ (source ≤ stationCount (now words)) × (length (now x) ≡ 2048) ⌝ }
@@ -126,8 +132,8 @@ fn offer(catch: &[u16], e: usize, b: usize, j: usize, v: u32, x: &mut [u32])
     }
 }
 
-// The points of the ride onward from a stop, for one who boarded at station c; NO_MORE where the trip ends or comes back
-// to c.
+// The points of the ride onward from a stop, for one who boarded at station c; NO_MORE where the trip ends or comes
+// back to c.
 fn onward(s: Stop, c: usize) -> u32
     ensures { λ r. ⌜ r ≡ onwardPoints s c ⌝ }
 {
@@ -142,7 +148,16 @@ fn onward(s: Stop, c: usize) -> u32
 
 // One who boarded at station c arrives at stop j, having paid y, and can change at station e, which costs so much.
 // Answers the points of the ride onward.
-fn ride_turn(words: &[u16], catch: &[u16], c: usize, e: usize, cost: u32, j: usize, y: u32, x: &mut [u32]) -> u32
+fn ride_turn(
+    words: &[u16],
+    catch: &[u16],
+    c: usize,
+    e: usize,
+    cost: u32,
+    j: usize,
+    y: u32,
+    x: &mut [u32],
+) -> u32
     requires { ⌜ (16384 ≤ length (now words)) × (isTimetable (now words) ≡ true) × (j < 2048) ⌝ }
     requires { ⌜ (cost ≡ changePoints (now words) e) × (cost ≤ 1000) × (y < 4000000) ⌝ }
     requires { ⌜ (length (now catch) ≡ 2048) × (length (now x) ≡ 2048) ⌝ }
@@ -184,7 +199,15 @@ fn ride_to(words: &[u16], catch: &[u16], c: usize, e: usize, i: usize, x: &mut [
 }
 
 // All who board at station c.
-fn ride_all(words: &[u16], chain: &[u16], first: &[u32], catch: &[u16], c: usize, e: usize, x: &mut [u32])
+fn ride_all(
+    words: &[u16],
+    chain: &[u16],
+    first: &[u32],
+    catch: &[u16],
+    c: usize,
+    e: usize,
+    x: &mut [u32],
+)
     requires { ⌜ (16384 ≤ length (now words)) × (isTimetable (now words) ≡ true) ⌝ }
     requires { ⌜ Departures (now words) (now chain) (now first) × (length (now catch) ≡ 2048) ⌝ }
     requires { ⌜ (c ≤ stationCount (now words)) × (1 ≤ e) × (e ≤ stationCount (now words)) ⌝ }
@@ -218,7 +241,15 @@ fn settle(chain: &[u16], begin: usize, end: usize, x: &mut [u32])
 }
 
 // From the labels at station c to those at station e, one change later.
-pub fn label_step(words: &[u16], chain: &[u16], first: &[u32], catch: &[u16], c: usize, e: usize, x: &mut [u32])
+pub fn label_step(
+    words: &[u16],
+    chain: &[u16],
+    first: &[u32],
+    catch: &[u16],
+    c: usize,
+    e: usize,
+    x: &mut [u32],
+)
     requires { ⌜ (16384 ≤ length (now words)) × (isTimetable (now words) ≡ true) ⌝ }
     requires { ⌜ Departures (now words) (now chain) (now first) × Changes (now words) (now catch) ⌝ }
     requires { ⌜ (c ≤ stationCount (now words)) × (1 ≤ e) × (e ≤ stationCount (now words)) × (c ≢ e) ⌝ }
@@ -306,7 +337,8 @@ fn mark_arrival(
     ensures { λ _. ⌜ now (arcs .exit)
         ≡ raised (ltb y (getD (now (allowed .entry)) j 0)) (b - 1) (now (arcs .entry)) ⌝ }
     ensures { λ _. ⌜ now (kids .exit)
-        ≡ raised (ltb (y + changePoints (now (words .entry)) b) (getD (now (q .entry)) (getD (now (catch .entry)) j 0) 0))
+        ≡ raised
+        (ltb (y + changePoints (now (words .entry)) b) (getD (now (q .entry)) (getD (now (catch .entry)) j 0) 0))
         (b - 1) (now (kids .entry)) ⌝ }
     ensures { λ _. ⌜ (length (now (arcs .exit)) ≡ 64) × (length (now (kids .exit)) ≡ 64) ⌝ }
 {
@@ -340,7 +372,17 @@ fn mark_turn(
     ensures { λ _. ⌜ (length (now (arcs .exit)) ≡ 64) × (length (now (kids .exit)) ≡ 64) ⌝ }
 {
     let s = timetable::stop_at(words, j);
-    mark_arrival(words, catch, allowed, q, s.station as usize, j, y, arcs, kids);
+    mark_arrival(
+        words,
+        catch,
+        allowed,
+        q,
+        s.station as usize,
+        j,
+        y,
+        arcs,
+        kids,
+    );
     onward(s, c)
 }
 
@@ -411,7 +453,17 @@ pub fn mark(
     let mut k = begin_of(first, c);
     let end = begin_of(first, c + 1);
     while k < end {
-        mark_ride(words, catch, allowed, q, x, c, words::word(chain, k) as usize, arcs, kids);
+        mark_ride(
+            words,
+            catch,
+            allowed,
+            q,
+            x,
+            c,
+            words::word(chain, k) as usize,
+            arcs,
+            kids,
+        );
         k += 1;
     }
 }
