@@ -15,7 +15,7 @@ use Rattle.checking.specs.Question10.{areTables, tablesQuestions}
 use Rattle.checking.specs.Asked.{listed, named, queryQuestions, queryNumber}
 
 module _ (w v : List ℕ) (n : ℕ) where
-  abbrev long : Bool
+  abbrev pub long : Bool
   long = leb slicesLeast (length w) && leb slicesLeast (length v) && leb slicesLeast n
 
   pub tables-asked : Asked (tablesQuestions w v n)
@@ -29,7 +29,7 @@ module _ (w v : List ℕ) (n : ℕ) where
     pub tables : 16384 ≤ length v
     pub work : 16384 ≤ n
 
-  long-all : long ≡ true → Long
+  pub long-all : long ≡ true → Long
   long-all e =
       let two = and-left (leb slicesLeast (length w) && leb slicesLeast (length v)) (leb slicesLeast n) e in
       record {

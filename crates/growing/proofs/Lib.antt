@@ -1,0 +1,5 @@
+pub mod Writing
+pub mod MarkLaws
+pub mod TakeLaws
+pub mod LayLaws
+pub mod StoreLaws

@@ -1,0 +1,14 @@
+pub mod Tree
+pub mod Numbering
+pub mod ArcOrder
+pub mod NodeWords
+pub mod Held
+pub mod Parents
+pub mod Growth
+pub mod Finished
+pub mod Says
+pub mod Marks
+pub mod Laid
+pub mod Taking
+pub mod LaidSteps
+pub mod StoredTree

@@ -1,0 +1,14 @@
+-- The tests are those of the definition, one after the other.
+use borrow.Author.Needs.{needs}
+use Rattle.marks.proofs.RideLaws.{onward-ends, onward-back, onward-on}
+use Rattle.marks.proofs.onward.Statement.{statement}
+use Rattle.marks.proofs.onward.Tie as tie
+
+pub onward-spec : {M : Type 1} → statement M
+onward-spec =
+    tie.close
+    (tie.spec
+    (λ c. search onward-ends)
+    (λ c. search needs)
+    (λ c. search onward-back)
+    (λ c. search onward-on))

@@ -1,0 +1,5 @@
+pub mod FillLaws
+pub mod ArriveLaws
+pub mod RideLaws
+pub mod TurnLaws
+pub mod PassLaws

@@ -1,0 +1,100 @@
+-- A ride as the code takes it: s is the stop where it begins.
+use mathlib.Core.Path.{_≡_}
+use mathlib.Core.List.{List}
+use Prim.Native.Nat.{ℕ, suc, _+_, _^_, _≤_, _<_, min}
+use native.Mathlib.Numerals.{add-one}
+use native.Mathlib.Omega.{arith}
+use lib.ListN.{length, getD, set}
+use Rattle.timetable.specs.Timetable.{Stop}
+use Rattle.timetable.specs.Words.{stationCount, stopAt}
+use Rattle.stopwise.specs.Stopwise.{station, depart, changePoints, unreached}
+use Rattle.penalties.specs.Lowered.{lowered, boarding}
+use Rattle.penalties.specs.Swept.{Quiet, Turned}
+use Rattle.penalties.specs.Riding.{Departing, idle, unboarded, boarded, from-earlier}
+
+module _ (w caught : List ℕ) (i : ℕ) (v q : List ℕ) (r : Departing w caught i v q) where
+  -- ---- the places of the slices, and the sums
+  pub few : stationCount w ≤ 64
+  few = r .few
+
+  pub read-at : (l : List ℕ) → 2048 ≤ length l → i < length l
+  read-at l h = omega (arith, r .timely .few i (r .goes), r .timely .stops)
+
+  pub stop-few : i < 2048
+  stop-few = omega (arith, r .timely .few i (r .goes), r .timely .stops)
+
+  pub next-few : i + 1 < 2048
+  next-few = omega (arith, r .timely .few i (r .goes), r .timely .stops)
+
+  pub next-fits : i + 1 < 2 ^ 64
+  next-fits = omega (arith, next-few)
+
+  pub next-some : 1 ≤ station w (i + 1)
+  next-some = rw (add-one i) (r .timely .next-first i (r .goes))
+
+  pub next-most : station w (i + 1) ≤ 64
+  next-most = rw (add-one i) (omega (arith, r .timely .next-listed i (r .goes), r .few))
+
+  pub next-cheap : changePoints w (station w (i + 1)) ≤ 1000
+  next-cheap =
+      rw (add-one i)
+      (r .timely .most
+      (station w (suc i))
+      (r .timely .next-first i (r .goes))
+      (r .timely .next-listed i (r .goes)))
+
+  module _ (s : Stop) (stop : s ≡ stopAt w i) where
+    pub read-low : (l : List ℕ) → length l ≡ 65 → s .station < length l
+    read-low l e = rw stop (omega (arith, r .timely .listed i (r .goes), r .few))
+
+    pub sum-fits : (b : ℕ) → b < unreached → b + s .points < 2 ^ 32
+    sum-fits b h = rw stop (omega (arith, r .timely .cheap i (r .goes)))
+
+    module _
+        (a : ℕ)
+        (low low′ : List ℕ)
+        (waits : low′ ≡ lowered (s .station) (getD q i 0) low)
+        (b : ℕ)
+        (paid : b ≡ boarding a (s .station) (getD v i 0) (getD low′ (s .station) 0))
+      where
+        pub passed : unreached ≤ b → Turned w a (s .depart) i v q low v q low′
+        passed h = rw stop (unboarded w caught a i v q low r low′ (rw stop at waits) b (rw stop at paid) h)
+
+        pub ridden : (v′ q′ : List ℕ) → 2048 ≤ length v
+            → v′ ≡ set v (i + 1) (min unreached (b + s .points))
+            → q′ ≡ lowered
+            (getD caught (i + 1) 0)
+            (min unreached (b + s .points) + changePoints w (station w (i + 1)))
+            q
+            → Turned w a (s .depart) i v q low v′ q′ low′
+        ridden v′ q′ long rode offered =
+            rw stop
+            (boarded
+            w
+            caught
+            a
+            i
+            v
+            q
+            low
+            r
+            low′
+            (rw stop at waits)
+            b
+            (rw stop at paid)
+            v′
+            q′
+            long
+            (rw (stop, add-one i) at rode)
+            (rw (stop, add-one i, r .catches) at offered))
+
+    -- ---- with the minute
+    module _ (a d : ℕ) (low : List ℕ) where
+      pub skipped : (depart w i < d → Quiet w i v q low) → s .depart < d → Turned w a d i v q low v q low
+      skipped quiet h =
+          let early : depart w i < d = rw stop at h in
+          idle w caught a d i v q low r (quiet early) early
+
+      pub taken : d ≤ s .depart → (v′ q′ low′ : List ℕ) → Turned w a (s .depart) i v q low v′ q′ low′
+          → Turned w a d i v q low v′ q′ low′
+      taken on v′ q′ low′ t = from-earlier (rw stop at on) (rw stop at t)

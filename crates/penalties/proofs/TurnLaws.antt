@@ -1,0 +1,74 @@
+-- One turn of the pass: departure i stands at place x of the order.
+use mathlib.Core.Path.{_≡_, sym, ap, subst, _∙_}
+use mathlib.Core.List.{List, [], _∷_, _++_}
+use Prim.Native.Nat.{ℕ, suc, _+_, _<_}
+use native.Mathlib.Numerals.{add-one}
+use native.Mathlib.Omega.{arith}
+use lib.ListN.{length, getD, take, drop, length-take}
+use lib.Seq.{getD-take, split-at, take-suc}
+use Rattle.timetable.specs.Access.{stations-few}
+use Rattle.stopwise.specs.Stopwise.{depart, Goes}
+use Rattle.penalties.specs.Swept.{Quiet, Swept, Turned}
+use Rattle.penalties.specs.Split.{Place, goes-now}
+use Rattle.penalties.specs.Turning.{turned}
+use Rattle.penalties.specs.Underway.{not-yet, quiet}
+use Rattle.penalties.specs.Riding.{Departing}
+use Rattle.penalties.specs.Arranged.{Arranged, departures}
+
+-- the order of departures stands in the slice
+pub listed-in : (w deps caught : List ℕ) (x : ℕ) → Arranged w deps caught → x < length (departures w) → x < length deps
+listed-in w deps caught x arranged h =
+    omega (arith, ap length (arranged .departs), length-take (length (departures w)) deps)
+
+module _
+    (w deps caught : List ℕ)
+    (x : ℕ)
+    (arranged : Arranged w deps caught)
+    (in-order : x < length (departures w))
+    (i : ℕ)
+    (is : i ≡ getD deps x 0)
+  where
+    here : i ≡ getD (departures w) x 0
+    here =
+        is
+        ∙ sym (getD-take (length (departures w)) deps x 0 in-order)
+        ∙ ap (λ l. getD l x 0) (arranged .departs)
+
+    place : Place w (take x (departures w)) (drop (suc x) (departures w)) i
+    place =
+        record {
+          timely = arranged .timely;
+          few = stations-few w (arranged .timetable);
+          ordered = arranged .ordered;
+          split =
+              split-at (departures w) x 0 in-order
+              ∙ ap (λ k. take x (departures w) ++ (k ∷ drop (suc x) (departures w))) (sym here);
+        }
+
+    goes : Goes w i
+    goes = goes-now place
+
+    -- ---- one departure more
+    module _ (a d : ℕ) (v q low : List ℕ) (so-far : Swept w a d (take x (departures w)) v q low) where
+      pub departing : Departing w caught i v q
+      departing =
+          record {
+            goes = goes;
+            timely = arranged .timely;
+            few = stations-few w (arranged .timetable);
+            catches = arranged .catches i goes;
+            fresh = not-yet place so-far;
+            most = so-far .q-most;
+          }
+
+      pub early : depart w i < d → Quiet w i v q low
+      early h = quiet place so-far h
+
+      pub once : (v′ q′ low′ : List ℕ) → Turned w a d i v q low v′ q′ low′
+          → Swept w a d (take (x + 1) (departures w)) v′ q′ low′
+      once v′ q′ low′ t =
+          let more : take x (departures w) ++ (i ∷ []) ≡ take (x + 1) (departures w) =
+          ap (λ k. take x (departures w) ++ (k ∷ [])) here
+          ∙ sym (take-suc (departures w) x 0 in-order)
+          ∙ ap (λ k. take k (departures w)) (sym (add-one x)) in
+          subst (λ l. Swept w a d l v′ q′ low′) more (turned place so-far t)

@@ -1,0 +1,21 @@
+-- The word that is stored is the lesser of the two, and the offer is lowered to what it and the change come to.
+use borrow.Author.Needs.{needs}
+use Rattle.penalties.proofs.ArriveLaws.{arrived, offered}
+use Rattle.penalties.proofs.arrive.Statement.{statement}
+use Rattle.penalties.proofs.arrive.Tie as tie
+
+pub arrive-spec : {M : Type 1} → statement M
+arrive-spec =
+    tie.close
+    (tie.spec
+    (λ c. search needs)
+    (λ c. search needs)
+    (λ c. search needs)
+    (λ c. search needs)
+    (λ c. search needs)
+    (λ c. search needs)
+    (λ c. search needs)
+    (λ c. search needs)
+    (λ c. search needs)
+    (λ c. search needs)
+    (λ c. (search arrived, (search offered, (search needs, search needs)))))

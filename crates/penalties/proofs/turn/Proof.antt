@@ -1,0 +1,20 @@
+-- The stop at place x of the order begins a ride that no one has taken yet, and one departure more is done.
+use borrow.Author.Needs.{needs}
+use Rattle.penalties.proofs.TurnLaws.{listed-in, departing, early, once}
+use Rattle.penalties.proofs.turn.Statement.{statement}
+use Rattle.penalties.proofs.turn.Tie as tie
+
+pub turn-spec : {M : Type 1} → statement M
+turn-spec =
+    tie.close
+    (tie.spec
+    (λ c κs. search listed-in)
+    (λ c. search needs)
+    (λ c κs. (
+      (search needs, search needs),
+      ((search needs, search needs, search needs), (search departing, search early)),
+    ))
+    (λ c. search needs)
+    (λ c. search needs)
+    (λ c. search needs)
+    (λ c. (search once, (search needs, search needs, search needs))))

@@ -1,0 +1,9 @@
+pub mod Lowered
+pub mod Swept
+pub mod Split
+pub mod Underway
+pub mod Changing
+pub mod Turning
+pub mod Riding
+pub mod Sweeping
+pub mod Arranged

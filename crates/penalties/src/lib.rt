@@ -1,0 +1,241 @@
+// The least penalties on arrival at each stop, for a start at one station from one minute on: one pass over the
+// departures in their order.
+ghost use mathlib.Core.Path.{_≡_};
+ghost use Prim.Native.Nat.{suc, _+_, _≤_, _<_, min};
+ghost use lib.ListN.{length, getD, set, take, replicate};
+ghost use Rattle.timetable.specs.Words.{stationCount, stopAt};
+ghost use Rattle.stopwise.specs.Stopwise.{unreached, station, depart, changePoints};
+ghost use Rattle.stopwise.specs.Settled.{Settled};
+ghost use Rattle.penalties.specs.Swept.{Quiet, Swept, Turned};
+ghost use Rattle.penalties.specs.Riding.{Departing};
+ghost use Rattle.penalties.specs.Lowered.{lowered, boarding};
+ghost use Rattle.penalties.specs.Arranged.{Arranged, departures};
+use timetable::Stop;
+
+// More than anyone on the way has paid.
+pub const UNREACHED: u32 = 3166901;
+
+fn lesser(a: u32, b: u32) -> u32
+    ensures { λ r. ⌜ r ≡ min a b ⌝ }
+{
+    if a <= b {
+        return a;
+    }
+    b
+}
+
+// The word at index k becomes x, if it is higher.
+fn lower(a: &mut [u32], k: usize, x: u32)
+    ensures { λ _. ⌜ now (a .exit) ≡ lowered k x (now (a .entry)) ⌝ }
+    ensures { λ _. ⌜ length (now (a .exit)) ≡ length (now (a .entry)) ⌝ }
+{
+    if a.len() <= k {
+        return;
+    }
+    if a[k] <= x {
+        return;
+    }
+    a[k] = x;
+}
+
+// All words become unreached.
+fn fill(a: &mut [u32])
+    ensures { λ _. ⌜ now (a .exit) ≡ replicate (length (now (a .entry))) unreached ⌝ }
+    ensures { λ _. ⌜ length (now (a .exit)) ≡ length (now (a .entry)) ⌝ }
+{
+    let n = a.len();
+    let mut k = 0;
+    while k < n {
+        a[k] = UNREACHED;
+        k += 1;
+    }
+}
+
+// The least that one has paid who boards at station c.
+fn boarding(source: usize, c: usize, stay: u32, change: u32) -> u32
+    ensures { λ r. ⌜ r ≡ boarding source c stay change ⌝ }
+{
+    if c == source {
+        return 0;
+    }
+    lesser(stay, change)
+}
+
+// Who has caught departure i, at station c, can board there from now on. Answers the least that one has paid who boards
+// at i.
+fn board(source: usize, c: usize, i: usize, v: &[u32], q: &[u32], low: &mut [u32]) -> u32
+    requires { ⌜ (i < length (now v)) × (i < length (now q)) × (c < length (now low)) ⌝ }
+    ensures { λ _. ⌜ now (low .exit) ≡ lowered c (getD (now (q .entry)) i 0) (now (low .entry)) ⌝ }
+    ensures { λ r. ⌜ r ≡ boarding source c (getD (now (v .entry)) i 0) (getD (now (low .exit)) c 0) ⌝ }
+    ensures { λ _. ⌜ length (now (low .exit)) ≡ length (now (low .entry)) ⌝ }
+{
+    lower(low, c, q[i]);
+    boarding(source, c, v[i], low[c])
+}
+
+// What a change costs at stop j.
+fn change_points(words: &[u16], j: usize) -> u32
+    requires { ⌜ (16384 ≤ length (now words)) × (stationCount (now words) ≤ 64) × (j < 2048) ⌝ }
+    requires { ⌜ (1 ≤ station (now words) j) × (station (now words) j ≤ 64) ⌝ }
+    ensures { λ r. ⌜ r ≡ changePoints (now (words .entry)) (station (now (words .entry)) j) ⌝ }
+{
+    let s = timetable::stop_at(words, j);
+    let c = timetable::station_at(words, s.station as usize - 1);
+    c.points
+}
+
+// Who arrives at stop j has paid p, and can change to the departure that is caught there.
+fn arrive(words: &[u16], catches: &[u16], j: usize, p: u32, v: &mut [u32], q: &mut [u32])
+    requires { ⌜ (16384 ≤ length (now words)) × (stationCount (now words) ≤ 64) × (j < 2048) ⌝ }
+    requires { ⌜ (1 ≤ station (now words) j)
+        × (station (now words) j ≤ 64)
+        × (changePoints (now words) (station (now words) j) ≤ 1000) ⌝ }
+    requires { ⌜ (2048 ≤ length (now catches)) × (2048 ≤ length (now v)) ⌝ }
+    ensures { λ _. ⌜ now (v .exit) ≡ set (now (v .entry)) j (min unreached p) ⌝ }
+    ensures { λ _. ⌜ now (q .exit)
+        ≡ lowered (getD (now (catches .entry)) j 0)
+        (min unreached p + changePoints (now (words .entry)) (station (now (words .entry)) j))
+        (now (q .entry)) ⌝ }
+    ensures { λ _. ⌜ (length (now (v .exit)) ≡ length (now (v .entry)))
+        × (length (now (q .exit)) ≡ length (now (q .entry))) ⌝ }
+{
+    let u = lesser(UNREACHED, p);
+    v[j] = u;
+    let f = words::word(catches, j) as usize;
+    let cost = change_points(words, j);
+    lower(q, f, u + cost);
+}
+
+// The ride that begins at stop i, which is s.
+fn ride(
+    words: &[u16],
+    catches: &[u16],
+    source: usize,
+    i: usize,
+    s: Stop,
+    v: &mut [u32],
+    q: &mut [u32],
+    low: &mut [u32],
+)
+    requires { ⌜ (16384 ≤ length (now words)) × (stationCount (now words) ≤ 64) × (2048 ≤ length (now catches)) ⌝ }
+    requires { ⌜ (2048 ≤ length (now v)) × (2048 ≤ length (now q)) × (length (now low) ≡ 65) ⌝ }
+    requires { ⌜ (s ≡ stopAt (now words) i) × Departing (now words) (now catches) i (now v) (now q) ⌝ }
+    ensures { λ _. ⌜ Turned
+        (now (words .entry))
+        source
+        (s .depart)
+        i
+        (now (v .entry))
+        (now (q .entry))
+        (now (low .entry))
+        (now (v .exit))
+        (now (q .exit))
+        (now (low .exit)) ⌝ }
+    ensures { λ _. ⌜ (length (now (v .exit)) ≡ length (now (v .entry)))
+        × (length (now (q .exit)) ≡ length (now (q .entry)))
+        × (length (now (low .exit)) ≡ length (now (low .entry))) ⌝ }
+{
+    let b = board(source, s.station as usize, i, v, q, low);
+    if UNREACHED <= b {
+        return;
+    }
+    arrive(words, catches, i + 1, b + s.points, v, q);
+}
+
+// Departure i. Before minute d there is no one.
+fn depart(
+    words: &[u16],
+    catches: &[u16],
+    source: usize,
+    d: usize,
+    i: usize,
+    v: &mut [u32],
+    q: &mut [u32],
+    low: &mut [u32],
+)
+    requires { ⌜ (16384 ≤ length (now words)) × (2048 ≤ length (now catches)) ⌝ }
+    requires { ⌜ (2048 ≤ length (now v)) × (2048 ≤ length (now q)) × (length (now low) ≡ 65) ⌝ }
+    requires { ⌜ Departing (now words) (now catches) i (now v) (now q) ⌝ }
+    requires { ⌜ (depart (now words) i < d → Quiet (now words) i (now v) (now q) (now low)) ⌝ }
+    ensures { λ _. ⌜ Turned
+        (now (words .entry))
+        source
+        d
+        i
+        (now (v .entry))
+        (now (q .entry))
+        (now (low .entry))
+        (now (v .exit))
+        (now (q .exit))
+        (now (low .exit)) ⌝ }
+    ensures { λ _. ⌜ (length (now (v .exit)) ≡ length (now (v .entry)))
+        × (length (now (q .exit)) ≡ length (now (q .entry)))
+        × (length (now (low .exit)) ≡ length (now (low .entry))) ⌝ }
+{
+    let s = timetable::stop_at(words, i);
+    if (s.depart as usize) < d {
+        return;
+    }
+    ride(words, catches, source, i, s, v, q, low);
+}
+
+// The departure at place x of the order.
+fn turn(
+    words: &[u16],
+    order: &[u16],
+    catches: &[u16],
+    source: usize,
+    d: usize,
+    x: usize,
+    v: &mut [u32],
+    q: &mut [u32],
+    low: &mut [u32],
+)
+    requires { ⌜ (16384 ≤ length (now words)) × (2048 ≤ length (now catches)) ⌝ }
+    requires { ⌜ (2048 ≤ length (now v)) × (2048 ≤ length (now q)) × (length (now low) ≡ 65) ⌝ }
+    requires { ⌜ (x < length (departures (now words))) × Arranged (now words) (now order) (now catches) ⌝ }
+    requires { ⌜ Swept (now words) source d (take x (departures (now words))) (now v) (now q) (now low) ⌝ }
+    ensures { λ _. ⌜ Swept
+        (now (words .entry))
+        source
+        d
+        (take (x + 1) (departures (now (words .entry))))
+        (now (v .exit))
+        (now (q .exit))
+        (now (low .exit)) ⌝ }
+    ensures { λ _. ⌜ (length (now (v .exit)) ≡ length (now (v .entry)))
+        × (length (now (q .exit)) ≡ length (now (q .entry)))
+        × (length (now (low .exit)) ≡ length (now (low .entry))) ⌝ }
+{
+    let i = words::word(order, x) as usize;
+    depart(words, catches, source, d, i, v, q, low);
+}
+
+// v gets the least penalties on arrival, for a start at the source from minute d on; q is working space. The first n
+// words of the order are the departures; catches has for each arrival the first departure that a change reaches.
+pub fn least_penalties(
+    words: &[u16],
+    order: &[u16],
+    n: usize,
+    catches: &[u16],
+    source: usize,
+    d: usize,
+    v: &mut [u32],
+    q: &mut [u32],
+)
+    requires { ⌜ (16384 ≤ length (now words)) × (2048 ≤ length (now catches)) ⌝ }
+    requires { ⌜ (2048 ≤ length (now v)) × (2048 ≤ length (now q)) ⌝ }
+    requires { ⌜ (n ≡ length (departures (now words))) × Arranged (now words) (now order) (now catches) ⌝ }
+    ensures { λ _. ⌜ Settled (now (words .entry)) source d (now (v .exit)) ⌝ }
+    ensures { λ _. ⌜ (length (now (v .exit)) ≡ length (now (v .entry)))
+        × (length (now (q .exit)) ≡ length (now (q .entry))) ⌝ }
+{
+    fill(v);
+    fill(q);
+    let mut low = [UNREACHED; 65];
+    let mut x = 0;
+    while x < n {
+        turn(words, order, catches, source, d, x, v, q, &mut low);
+        x += 1;
+    }
+}

@@ -1,0 +1,27 @@
+-- No departure caught allows nothing; else what the departure allows, less the points of the change.
+use borrow.Author.Needs.{needs}
+use Rattle.prospects.proofs.PassLaws.{
+  caught-inside,
+  station-some,
+  station-few,
+  onto-some,
+  onto-none,
+}
+use Rattle.prospects.proofs.onto_bound.Statement.{statement}
+use Rattle.prospects.proofs.onto_bound.Tie as tie
+
+pub onto-bound-spec : {M : Type 1} → statement M
+onto-bound-spec =
+    tie.close
+    (tie.spec
+    (λ c. search needs)
+    (λ c. search needs)
+    (λ c. search needs)
+    (λ c. search needs)
+    (λ c. search needs)
+    (λ c. search caught-inside)
+    (λ c. search station-some)
+    (λ c κs. (search needs, search station-few))
+    (λ c. search needs)
+    (λ c. search onto-some)
+    (λ c. search onto-none))

@@ -1,0 +1,53 @@
+-- A departure before minute d changes nothing; any other is settled by those behind it.
+use borrow.Author.Needs.{needs}
+use Rattle.prospects.proofs.PassLaws.{
+  words-long,
+  stations-most,
+  stop-within,
+  next-within,
+  next-some,
+  next-few,
+  first-long,
+  next-caught,
+  inside,
+  inside-high,
+  pass-early,
+  pass-more,
+}
+use Rattle.prospects.proofs.pass.Statement.{statement}
+use Rattle.prospects.proofs.pass.Tie as tie
+
+pub pass-spec : {M : Type 1} → statement M
+pass-spec =
+    tie.close
+    (tie.spec
+    (λ c. search needs)
+    (λ c. search needs)
+    (λ c κs. (search words-long, search stations-most, search stop-within))
+    (λ c. search needs)
+    (λ c. (search pass-early, search needs))
+    (λ c κs. (
+      search words-long,
+      search stations-most,
+      search next-within,
+      search next-some,
+      search next-few,
+      search first-long,
+      search needs,
+      search needs,
+      search next-caught,
+    ))
+    (λ c. search needs)
+    (λ c. search needs)
+    (λ c. search inside-high)
+    (λ c. search needs)
+    (λ c. search needs)
+    (λ c. search inside)
+    (λ c. search needs)
+    (λ c. search inside-high)
+    (λ c. search needs)
+    (λ c. search inside)
+    (λ c. search needs)
+    (λ c. search needs)
+    (λ c. search needs)
+    (λ c. (search pass-more, search needs)))

@@ -1,0 +1,336 @@
+// Two passes of a store call: which arrivals are on the frontier, and who can still end well.
+ghost use mathlib.Core.Path.{_≡_};
+ghost use mathlib.Core.Bool.{true};
+ghost use Prim.Native.Nat.{_+_, _-_, _≤_, _<_, min, max};
+ghost use lib.ListN.{length, getD, drop};
+ghost use Rattle.timetable.specs.Words.{stationCount, isTimetable};
+ghost use Rattle.stopwise.specs.Stopwise.{station, arrive, nowhere};
+ghost use Rattle.stopwise.specs.Prospects.{Allows, Bounded};
+ghost use Rattle.stopwise.specs.Settled.{Timely};
+ghost use Rattle.chains.specs.Order.{order as departures};
+ghost use Rattle.prospects.specs.Arrivals.{Arrivals, Held, Run};
+ghost use Rattle.prospects.specs.Front.{Least, MinuteEnd, markOf, Marked, Fronted};
+ghost use Rattle.prospects.specs.Allowing.{topOf};
+ghost use Rattle.prospects.specs.Passed.{Limits, Passed, ontoBound, leaveBound};
+ghost use Rattle.prospects.specs.Zeros.{ZeroTo};
+ghost use Rattle.prospects.specs.Routes.{Routes};
+
+// No stop.
+const NOWHERE: usize = 65535;
+
+// More than anyone on the way has paid.
+const UNREACHED: u32 = 3166901;
+
+// ---- which arrivals are on the frontier
+
+fn lesser(a: u32, b: u32) -> u32
+    ensures { λ r. ⌜ r ≡ min a b ⌝ }
+{
+    if b < a {
+        return b;
+    }
+    a
+}
+
+// The minute of the arrival at place r.
+fn minute_at(words: &[u16], arrivals: &[u16], r: usize) -> u32
+    requires { ⌜ (16384 ≤ length (now words))
+        × (stationCount (now words) ≤ 64)
+        × (r < length (now arrivals))
+        × (getD (now arrivals) r 0 < 2048) ⌝ }
+    ensures { λ m. ⌜ m ≡ arrive (now (words .entry)) (getD (now (arrivals .entry)) r 0) ⌝ }
+{
+    let j = words::word(arrivals, r) as usize;
+    timetable::stop_at(words, j).arrive
+}
+
+// Where the arrivals end that are of the same minute as the one at place p, among those up to place end.
+fn minute_end(words: &[u16], arrivals: &[u16], p: usize, end: usize) -> usize
+    requires { ⌜ (16384 ≤ length (now words))
+        × (stationCount (now words) ≤ 64)
+        × Run (now words) (now arrivals) p end
+        × (p < end) ⌝ }
+    ensures { λ q. ⌜ MinuteEnd (now (words .entry)) (now (arrivals .entry)) p end q ⌝ }
+{
+    let minute = minute_at(words, arrivals, p);
+    let mut q = p + 1;
+    loop {
+        if q == end {
+            break;
+        }
+        let m = minute_at(words, arrivals, q);
+        if m != minute {
+            break;
+        }
+        q += 1;
+    }
+    q
+}
+
+// The least of top and the words of the arrivals at places p up to q.
+fn least(arrivals: &[u16], p: usize, q: usize, v: &[u32], top: u32) -> u32
+    requires { ⌜ Held (now arrivals) p q × (length (now v) ≡ 2048) ⌝ }
+    ensures { λ x. ⌜ Least (now (arrivals .entry)) (now (v .entry)) top p q x ⌝ }
+{
+    let mut low = top;
+    let mut r = p;
+    while r < q {
+        let j = words::word(arrivals, r) as usize;
+        low = lesser(low, v[j]);
+        r += 1;
+    }
+    low
+}
+
+// What is allowed at an arrival: before is the least that was paid on arrivals of earlier minutes, low the least with
+// those of its own.
+fn mark(before: u32, low: u32, u: u32) -> u32
+    ensures { λ r. ⌜ r ≡ markOf before low u ⌝ }
+{
+    if before <= u {
+        return 0;
+    }
+    if u != low {
+        return 0;
+    }
+    u + 1
+}
+
+// Marks the arrivals at places p up to q.
+fn mark_all(arrivals: &[u16], p: usize, q: usize, before: u32, low: u32, v: &mut [u32])
+    requires { ⌜ Held (now arrivals) p q × (length (now v) ≡ 2048) ⌝ }
+    ensures { λ _. ⌜ Marked (now (arrivals .entry)) before low p q (now (v .entry)) (now (v .exit)) ⌝ }
+    ensures { λ _. ⌜ length (now (v .exit)) ≡ length (now (v .entry)) ⌝ }
+{
+    let mut r = p;
+    while r < q {
+        let j = words::word(arrivals, r) as usize;
+        let u = v[j];
+        v[j] = mark(before, low, u);
+        r += 1;
+    }
+}
+
+// The arrivals of one station, at places begin up to end, where less than top is to have been paid.
+fn allow_station(words: &[u16], arrivals: &[u16], begin: usize, end: usize, top: u32, v: &mut [u32])
+    requires { ⌜ (16384 ≤ length (now words))
+        × (stationCount (now words) ≤ 64)
+        × Run (now words) (now arrivals) begin end
+        × (length (now v) ≡ 2048) ⌝ }
+    ensures { λ _. ⌜ Fronted (now (words .entry)) (now (arrivals .entry)) begin end top (now (v .entry)) end
+        (now (v .exit)) ⌝ }
+    ensures { λ _. ⌜ length (now (v .exit)) ≡ length (now (v .entry)) ⌝ }
+{
+    let mut low = top;
+    let mut p = begin;
+    while p < end {
+        let q = minute_end(words, arrivals, p, end);
+        let before = low;
+        low = least(arrivals, p, q, v, before);
+        mark_all(arrivals, p, q, before, low, v);
+        p = q;
+    }
+}
+
+// Where the arrivals of station c begin.
+fn place_at(first: &[u32], c: usize) -> usize
+    requires { ⌜ c < length (now first) ⌝ }
+    ensures { λ r. ⌜ r ≡ getD (now (first .entry)) c 0 ⌝ }
+{
+    first[c] as usize
+}
+
+// Less than this is to have been paid at station c.
+fn top_of(c: usize, source: usize) -> u32
+    ensures { λ r. ⌜ r ≡ topOf c source ⌝ }
+{
+    if c == source {
+        return 0;
+    }
+    UNREACHED
+}
+
+// The arrivals of station c.
+fn allow_part(
+    words: &[u16],
+    arrivals: &[u16],
+    first: &[u32],
+    c: usize,
+    source: usize,
+    v: &mut [u32],
+)
+    requires { ⌜ (16384 ≤ length (now words))
+        × Timely (now words)
+        × Arrivals (now words) (now arrivals) (now first)
+        × (1 ≤ c)
+        × (c ≤ stationCount (now words))
+        × (stationCount (now words) ≤ 64)
+        × (length (now v) ≡ 2048) ⌝ }
+    ensures { λ _. ⌜ Fronted (now (words .entry)) (now (arrivals .entry)) (getD (now (first .entry)) c 0)
+        (getD (now (first .entry)) (c + 1) 0) (topOf c source) (now (v .entry))
+        (getD (now (first .entry)) (c + 1) 0) (now (v .exit)) ⌝ }
+    ensures { λ _. ⌜ length (now (v .exit)) ≡ length (now (v .entry)) ⌝ }
+{
+    let begin = place_at(first, c);
+    let end = place_at(first, c + 1);
+    allow_station(words, arrivals, begin, end, top_of(c, source), v);
+}
+
+// From the least penalties on arrival to what is allowed there: at an arrival on the frontier of its station as much as
+// that least penalty, one being added so that 0 allows nothing, and 0 elsewhere and at the source.
+pub fn allow(words: &[u16], arrivals: &[u16], first: &[u32], source: usize, v: &mut [u32])
+    requires { ⌜ (16384 ≤ length (now words))
+        × (isTimetable (now words) ≡ true)
+        × Timely (now words)
+        × Arrivals (now words) (now arrivals) (now first)
+        × (length (now v) ≡ 2048) ⌝ }
+    ensures { λ _. ⌜ Allows (now (words .entry)) source (now (v .entry)) (now (v .exit)) ⌝ }
+    ensures { λ _. ⌜ length (now (v .exit)) ≡ 2048 ⌝ }
+{
+    let stations = words::word(words, 0) as usize;
+    let mut c = 1;
+    while c <= stations {
+        allow_part(words, arrivals, first, c, source, v);
+        c += 1;
+    }
+}
+
+// ---- who can still end well
+
+// What is left of a, not below 0.
+fn less(a: u32, b: u32) -> u32
+    ensures { λ r. ⌜ r ≡ a - b ⌝ }
+{
+    if a < b {
+        return 0;
+    }
+    a - b
+}
+
+fn larger(a: u32, b: u32) -> u32
+    ensures { λ r. ⌜ r ≡ max a b ⌝ }
+{
+    if a < b {
+        return b;
+    }
+    a
+}
+
+// One who arrives at stop j ends well after a change if they have paid less than this.
+fn onto_bound(words: &[u16], catch: &[u16], q: &[u32], j: usize) -> u32
+    requires { ⌜ (16384 ≤ length (now words))
+        × (stationCount (now words) ≤ 64)
+        × (j < 2048)
+        × (1 ≤ station (now words) j)
+        × (station (now words) j ≤ stationCount (now words))
+        × (length (now catch) ≡ 2048)
+        × ((getD (now catch) j 0 < nowhere) → getD (now catch) j 0 < length (now q)) ⌝ }
+    ensures { λ r. ⌜ r ≡ ontoBound (now (words .entry)) (now (catch .entry)) (now (q .entry)) j ⌝ }
+{
+    let f = words::word(catch, j) as usize;
+    if f < NOWHERE {
+        let c = timetable::stop_at(words, j).station as usize;
+        return less(q[f], timetable::station_at(words, c - 1).points);
+    }
+    0
+}
+
+// One who leaves stop i ends well if they have paid less than this.
+fn leave_bound(words: &[u16], catch: &[u16], e: &[u32], q: &[u32], leaving: &[u32], i: usize) -> u32
+    requires { ⌜ (16384 ≤ length (now words))
+        × (stationCount (now words) ≤ 64)
+        × (i + 1 < 2048)
+        × (1 ≤ station (now words) (i + 1))
+        × (station (now words) (i + 1) ≤ stationCount (now words))
+        × (length (now catch) ≡ 2048)
+        × (length (now e) ≡ 2048)
+        × (length (now leaving) ≡ 2048)
+        × ((getD (now catch) (i + 1) 0 < nowhere) → getD (now catch) (i + 1) 0 < length (now q)) ⌝ }
+    ensures { λ r. ⌜ r
+        ≡ leaveBound (now (words .entry)) (now (catch .entry)) (now (e .entry)) (now (q .entry))
+        (now (leaving .entry)) i ⌝ }
+{
+    let onto = onto_bound(words, catch, q, i + 1);
+    let here = larger(e[i + 1], leaving[i + 1]);
+    less(larger(onto, here), timetable::stop_at(words, i).points)
+}
+
+// The departure at place p of the order, those behind it having been passed.
+fn pass(
+    words: &[u16],
+    order: &[u16],
+    n: usize,
+    p: usize,
+    catch: &[u16],
+    d: usize,
+    e: &[u32],
+    q: &mut [u32],
+    leaving: &mut [u32],
+    high: &mut [u32],
+)
+    requires { ⌜ Routes (now words) (now order) n (now catch)
+        × (p < n)
+        × (length (now e) ≡ 2048)
+        × (length (now q) ≡ 2048)
+        × (length (now leaving) ≡ 2048)
+        × (length (now high) ≡ 65)
+        × Passed (now words) (now e) d (drop (p + 1) (departures (now words))) (now q) (now leaving) (now high) ⌝ }
+    ensures { λ _. ⌜ Passed (now (words .entry)) (now (e .entry)) d (drop p (departures (now (words .entry))))
+        (now (q .exit)) (now (leaving .exit)) (now (high .exit)) ⌝ }
+    ensures { λ _. ⌜ (length (now (q .exit)) ≡ 2048)
+        × (length (now (leaving .exit)) ≡ 2048)
+        × (length (now (high .exit)) ≡ 65) ⌝ }
+{
+    let i = words::word(order, p) as usize;
+    let stop = timetable::stop_at(words, i);
+    if (stop.depart as usize) < d {
+        return;
+    }
+    let bound = leave_bound(words, catch, e, q, leaving, i);
+    let c = stop.station as usize;
+    let highest = larger(high[c], bound);
+    leaving[i] = bound;
+    high[c] = highest;
+    q[i] = highest;
+}
+
+fn clear(v: &mut [u32])
+    ensures { λ _. ⌜ ZeroTo (length (now (v .entry))) (now (v .exit)) ⌝ }
+    ensures { λ _. ⌜ length (now (v .exit)) ≡ length (now (v .entry)) ⌝ }
+{
+    let n = v.len();
+    let mut i = 0;
+    while i < n {
+        v[i] = 0;
+        i += 1;
+    }
+}
+
+// For each stop that is left from minute d on: one who leaves it ends well if they have paid less than its word of
+// leaving, and one who arrives and changes to it, or to a later departure of its station, if less than its word of q.
+pub fn prospects(
+    words: &[u16],
+    order: &[u16],
+    n: usize,
+    catch: &[u16],
+    d: usize,
+    e: &[u32],
+    q: &mut [u32],
+    leaving: &mut [u32],
+)
+    requires { ⌜ Routes (now words) (now order) n (now catch)
+        × (length (now e) ≡ 2048)
+        × (length (now q) ≡ 2048)
+        × (length (now leaving) ≡ 2048) ⌝ }
+    ensures { λ _. ⌜ Limits (now (words .entry)) (now (e .entry)) d (now (leaving .exit)) ⌝ }
+    ensures { λ _. ⌜ Bounded (now (words .entry)) (now (e .entry)) d (now (catch .entry)) (now (q .exit)) ⌝ }
+    ensures { λ _. ⌜ (length (now (q .exit)) ≡ 2048) × (length (now (leaving .exit)) ≡ 2048) ⌝ }
+{
+    clear(leaving);
+    let mut high = [0u32; 65];
+    let mut p = n;
+    while 0 < p {
+        p -= 1;
+        pass(words, order, n, p, catch, d, e, q, leaving, &mut high);
+    }
+}

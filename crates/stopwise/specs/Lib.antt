@@ -1,0 +1,13 @@
+pub mod Stopwise
+pub mod Paid
+pub mod Prospects
+pub mod Settled
+pub mod TimelyLaws
+pub mod RideStops
+pub mod Riders
+pub mod LeastSettled
+pub mod PaidBounds
+pub mod FrontierStops
+pub mod Marks
+pub mod StoredMarks
+pub mod Visits

@@ -1,0 +1,62 @@
+-- The timetable stop by stop, by its words: stops count from 0 over all trips, so that the stop behind a stop that is
+-- left again is the next one.
+use mathlib.Core.Path.{_≡_}
+use mathlib.Core.List.{List}
+use Prim.Native.Nat.{ℕ, zero, suc, _+_, _-_, _≤_, _<_}
+use lib.ListN.{getD}
+use Rattle.timetable.specs.Words.{tripCount, stationAt, stopAt, startAt}
+
+-- no one who is on the way has paid as much: the laws of reckoning/Bounds
+abbrev pub unreached : ℕ
+unreached = 3166901
+
+-- no stop
+abbrev pub nowhere : ℕ
+nowhere = 65535
+
+module _ (w : List ℕ) where
+  -- station, arrival, departure and ride penalty of a stop
+  abbrev pub station : ℕ → ℕ
+  station i = (stopAt w i) .station
+
+  abbrev pub arrive : ℕ → ℕ
+  arrive i = (stopAt w i) .arrive
+
+  abbrev pub depart : ℕ → ℕ
+  depart i = (stopAt w i) .depart
+
+  abbrev pub points : ℕ → ℕ
+  points i = (stopAt w i) .points
+
+  -- what a change at station c, counted from 1, takes and costs
+  abbrev pub changeMinutes : ℕ → ℕ
+  changeMinutes c = (stationAt w (c - 1)) .minutes
+
+  abbrev pub changePoints : ℕ → ℕ
+  changePoints c = (stationAt w (c - 1)) .points
+
+  -- the minute from which one who arrives at stop j can leave by another trip
+  abbrev pub ready : ℕ → ℕ
+  ready j = arrive j + changeMinutes (station j)
+
+  -- stop i is left again: it is not the last of its trip, and the trip's next stop is i + 1
+  pub record Goes (i : ℕ) : Type 0 where
+    pub trip : ℕ
+    pub listed : trip < tripCount w
+    pub begun : startAt w trip ≤ i
+    pub inside : suc i < startAt w (trip + 1)
+
+  -- one who boards at stop i rides n stops on
+  abbrev pub Ridden : (i n : ℕ) → Type 0
+  Ridden i n = (k : ℕ) → k < n → Goes (i + k)
+
+  -- the penalty of that ride
+  unfoldable pub ridden : (i n : ℕ) → ℕ
+  ridden i zero = 0
+  ridden i (suc n) = points i + ridden (suc i) n
+
+  -- one who arrives at stop j can board at stop g by a change
+  pub record Catches (j g : ℕ) : Type 0 where
+    pub goes : Goes g
+    pub here : station g ≡ station j
+    pub timely : ready j ≤ depart g

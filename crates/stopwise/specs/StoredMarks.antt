@@ -1,0 +1,205 @@
+-- The marks of a node over all minutes at which something departs from the source: a node has an arc to a station
+-- exactly if that sequence is stored, and goes on to it exactly if that is the beginning of a longer stored sequence.
+use mathlib.Core.Path.{_≡_, sym, ap, subst, _∙_}
+use mathlib.Core.Bool.{true}
+use mathlib.Core.Logic.{_≢_, _↔_}
+use mathlib.Core.List.{List, [], _∷_, reverseAux}
+use Prim.Native.Nat.{ℕ, _≤_}
+use native.Mathlib.Omega.{arith}
+use Rattle.timetable.specs.Words.{isTimetable}
+use Rattle.lists.specs.Lists.{_∈_}
+use Rattle.results.specs.Picks.{lead}
+use Rattle.connections.specs.Connections.{Net, Connection, direct, onward, Boards, Feasible, ready, departure}
+use Rattle.connections.specs.Connections.{stations}
+use Rattle.connections.specs.Rides.{Ride}
+use Rattle.connections.specs.Sound.{Sound}
+use Rattle.connections.specs.OptimalLaws.{optimal-own-minute}
+use Rattle.stores.specs.Stored.{stored}
+use Rattle.stores.specs.StoredLaws.{sequence-is, stored-in, stored-out}
+use Rattle.reckoning.specs.AlongLaws.{reverse-twice}
+use Rattle.reckoning.specs.Sets.{Way}
+use Rattle.reckoning.specs.Continuing.{closing-exactly}
+use Rattle.stopwise.specs.Stopwise.{station, depart, Goes}
+use Rattle.stopwise.specs.Paid.{LeastArrivals}
+use Rattle.stopwise.specs.Prospects.{Allows, Ends, GoesOn}
+use Rattle.stopwise.specs.Settled.{Timely}
+use Rattle.stopwise.specs.RideStops.{netOf, ridden-goes, stops-of, spelled-sound}
+use Rattle.stopwise.specs.Marks.{ends-closing, goes-on-way}
+
+-- something departs from station a at minute d
+pub record Source (w : List ℕ) (a d : ℕ) : Type 0 where
+  pub g : ℕ
+  pub goes : Goes w g
+  pub here : station w g ≡ a
+  pub leaves : depart w g ≡ d
+
+-- at some such minute, where e has for each what it allows, a connection along these changes ends well at b
+pub record EndsOnce (w : List ℕ) (a : ℕ) (e : ℕ → List ℕ) (rev : List ℕ) (b : ℕ) : Type 0 where
+  pub minute : ℕ
+  pub source : Source w a minute
+  pub ends : Ends w a minute (e minute) rev b
+
+-- at some such minute one who goes along these changes and then changes at b can still end well
+pub record GoesOnOnce (w : List ℕ) (a : ℕ) (e : ℕ → List ℕ) (rev : List ℕ) (b : ℕ) : Type 0 where
+  pub minute : ℕ
+  pub source : Source w a minute
+  pub goes-on : GoesOn w a minute (e minute) rev b
+
+-- these changes, the last one first, begin a stored sequence and are not all of it
+pub record BeginsStored (n : Net) (a : ℕ) (rev : List ℕ) : Type 0 where
+  pub rest : List ℕ
+  pub some : rest ≢ []
+  pub kept : reverseAux rev rest ∈ stored n a
+
+-- ---- the target of a connection
+-- it is the last of its stations
+stations-end : (n : Net) (x u b : ℕ) (c : Connection) (m : List ℕ) → Feasible n x u b c
+    → lead (reverseAux (stations c) m) ≡ b
+stations-end n x u b (direct r) m f = f .1
+stations-end n x u b (onward r z c) m f = stations-end n (z .to) (ready r z) b c (z .from ∷ m) (f .2)
+
+pub sequence-end : (n : Net) (x u b : ℕ) (c : Connection) (rev : List ℕ) (y : ℕ) → Feasible n x u b c
+    → stations c ≡ reverseAux rev (y ∷ []) → b ≡ y
+sequence-end n x u b c rev y f e =
+    sym (stations-end n x u b c [] f) ∙ ap (λ q. lead (reverseAux q [])) e ∙ ap lead (reverse-twice rev (y ∷ []))
+
+target-listed : (n : Net) → Sound n → (x u b : ℕ) (c : Connection) → Feasible n x u b c
+    → (1 ≤ b) × (b ≤ n .stations)
+target-listed n ok x u b (direct r) f =
+    subst (λ b. (1 ≤ b) × (b ≤ n .stations)) (f .1) (ok .arrives r (f .0 .listed))
+target-listed n ok x u b (onward r z c) f = target-listed n ok (z .to) (ready r z) b c (f .2)
+
+module _ (w : List ℕ) (yes : isTimetable w ≡ true) (timely : Timely w) (a : ℕ) where
+  abbrev n : Net
+  n = netOf w
+
+  abbrev ok : Sound (netOf w)
+  ok = spelled-sound w yes
+
+  -- ---- the sequences of one minute and those stored
+  boards-source : (t : ℕ) (r : Ride) → Boards n a t r → Source w a (r .depart)
+  boards-source t r b =
+      let k = stops-of w yes r (b .listed) in
+      let s = k .same in
+      record {
+        g = k .i;
+        goes = ridden-goes w (k .i) _ (s .some) (s .rides);
+        here = sym (s .from) ∙ b .here;
+        leaves = sym (s .leaves);
+      }
+
+  departs-source : (t b : ℕ) (c : Connection) → Feasible n a t b c → Source w a (departure c)
+  departs-source t b (direct r) f = boards-source t r (f .0)
+  departs-source t b (onward r z c) f = boards-source t r (f .0)
+
+  pub way-stored : (d b : ℕ) (q : List ℕ) → Source w a d → b ≢ a → Way n a d b q → q ∈ stored n a
+  way-stored d b q s other h =
+      let l = target-listed n ok a d b (h .connection) (h .optimal .feasible) in
+      let e = s .leaves in
+      stored-in
+      n
+      ok
+      a
+      q
+      (record {
+        minute = d;
+        target = b;
+        connection = h .connection;
+        in-time = omega (arith, e, timely .leaves (s .g) (s .goes));
+        elsewhere = record { first = l .0; last = l .1; other = other };
+        optimal = h .optimal;
+        is = ap (λ q. a ∷ q) (h .is);
+      })
+
+  -- a stored sequence, found at one of these minutes
+  pub record Kept (q : List ℕ) : Type 0 where
+    pub minute : ℕ
+    pub target : ℕ
+    pub source : Source w a minute
+    pub other : target ≢ a
+    pub way : Way n a minute target q
+
+  pub stored-way : (q : List ℕ) → q ∈ stored n a → Kept q
+  stored-way q m =
+      let s = stored-out n ok a q m in
+      let c = s .connection in
+      record {
+        minute = departure c;
+        target = s .target;
+        source = departs-source (s .minute) (s .target) c (s .optimal .feasible);
+        other = s .elsewhere .other;
+        way =
+            record {
+              connection = c;
+              optimal = optimal-own-minute n ok a (s .minute) (s .target) c (s .optimal);
+              is = sequence-is n ok a q s;
+            };
+      }
+
+  module _
+      (v e : ℕ → List ℕ)
+      (least : (d : ℕ) → Source w a d → LeastArrivals w a d (v d))
+      (allows : (d : ℕ) → Source w a d → Allows w a (v d) (e d))
+    where
+      ends-stored : (rev : List ℕ) (b : ℕ) → EndsOnce w a e rev b → reverseAux rev (b ∷ []) ∈ stored n a
+      ends-stored rev b h =
+          let d = h .minute in
+          let s = h .source in
+          let k = ends-closing w yes timely a d (v d) (e d) (least d s) (allows d s) rev b .0 (h .ends) in
+          way-stored d b (reverseAux rev (b ∷ [])) s (k .1) (closing-exactly n ok a d rev b .0 (k .0))
+
+      stored-ends-once : (rev : List ℕ) (b : ℕ) → reverseAux rev (b ∷ []) ∈ stored n a → EndsOnce w a e rev b
+      stored-ends-once rev b m =
+          let k = stored-way (reverseAux rev (b ∷ [])) m in
+          let d = k .minute in
+          let s = k .source in
+          let c = k .way .connection in
+          let there = sequence-end n a d (k .target) c rev b (k .way .optimal .feasible) (k .way .is) in
+          let way = subst (λ b′. Way n a d b′ (reverseAux rev (b ∷ []))) there (k .way) in
+          let other : b ≢ a = (λ q. k .other (there ∙ q)) in
+          record {
+            minute = d;
+            source = s;
+            ends =
+                ends-closing w yes timely a d (v d) (e d) (least d s) (allows d s) rev b .1
+                (closing-exactly n ok a d rev b .1 way, other);
+          }
+
+      -- the arcs of a node
+      pub stored-ends : (rev : List ℕ) (b : ℕ)
+          → EndsOnce w a e rev b ↔ (reverseAux rev (b ∷ []) ∈ stored (netOf w) a)
+      stored-ends rev b = (ends-stored rev b, stored-ends-once rev b)
+
+      goes-on-stored : (rev : List ℕ) (b : ℕ) → GoesOnOnce w a e rev b → BeginsStored n a (b ∷ rev)
+      goes-on-stored rev b h =
+          let d = h .minute in
+          let s = h .source in
+          let k = goes-on-way w yes timely a d (v d) (e d) (least d s) (allows d s) rev b .0 (h .goes-on) in
+          record {
+            rest = k .rest;
+            some = k .some;
+            kept = way-stored d (k .target) (reverseAux (b ∷ rev) (k .rest)) s (k .other) (k .way);
+          }
+
+      stored-goes-once : (rev : List ℕ) (b : ℕ) → BeginsStored n a (b ∷ rev) → GoesOnOnce w a e rev b
+      stored-goes-once rev b h =
+          let k = stored-way (reverseAux (b ∷ rev) (h .rest)) (h .kept) in
+          let d = k .minute in
+          let s = k .source in
+          record {
+            minute = d;
+            source = s;
+            goes-on =
+                goes-on-way w yes timely a d (v d) (e d) (least d s) (allows d s) rev b .1
+                (record {
+                  rest = h .rest;
+                  target = k .target;
+                  some = h .some;
+                  other = k .other;
+                  way = k .way;
+                });
+          }
+
+      -- the nodes that follow a node
+      pub stored-goes-on : (rev : List ℕ) (b : ℕ) → GoesOnOnce w a e rev b ↔ BeginsStored (netOf w) a (b ∷ rev)
+      stored-goes-on rev b = (goes-on-stored rev b, stored-goes-once rev b)

@@ -1,0 +1,3 @@
+pub mod PathLaws
+pub mod ChunkLaws
+pub mod MakeLaws

@@ -1,0 +1,272 @@
+-- The marks of some nodes over the departures of the source, one after the other: a minute at which several depart is
+-- looked at once.
+use mathlib.Core.Path.{_≡_, refl, sym, ap, subst, _∙_}
+use mathlib.Core.Bool.{true}
+use mathlib.Core.Logic.{_⊎_, inl, inr, _↔_}
+use mathlib.Core.List.{List}
+use Prim.Native.Nat.{ℕ, suc, _+_, _-_, _*_, _≤_, _<_}
+use native.Mathlib.Omega.{arith}
+use lib.Dec.{T, ltb, ltb→lt, nltb→le}
+use lib.ListN.{length, getD}
+use lib.Seq.{slice}
+use Rattle.lists.specs.Lists.{_∈_}
+use Rattle.lists.specs.Tests.{either}
+use Rattle.timetable.specs.Words.{stationCount, isTimetable}
+use Rattle.timetable.specs.Access.{stations-few}
+use Rattle.stopwise.specs.Stopwise.{station, depart, Goes}
+use Rattle.stopwise.specs.TimelyLaws.{timely}
+use Rattle.stopwise.specs.StoredMarks.{Source}
+use Rattle.chains.specs.Order.{waiting}
+use Rattle.chains.specs.Parts.{waiting-in, waiting-out}
+use Rattle.prospects.specs.Routes.{Routes}
+use Rattle.prospects.specs.Arrivals.{placed}
+use Rattle.prospects.specs.Zeros.{ZeroTo, zero-all, zero-each}
+use Rattle.marks.specs.Held.{Departures, goes-few, part-ordered, part-most, part-is, part-in}
+use Rattle.growing.specs.Tree.{hasArc, hasKid, nodeAt}
+use Rattle.storing.specs.Storing.{sequences}
+use Rattle.storing.specs.Minutes.{Once, arc-stored, kid-stored}
+use Rattle.storing.specs.Standing.{ArcsAt, KidsAt}
+use Rattle.storing.specs.Chunk.{Raised, Shown, shown-more, shown-same}
+
+-- at the minute of one of the departures at places from up to p
+pub record Seen (w chained : List ℕ) (from p : ℕ) (At : ℕ → Type 0) : Type 0 where
+  pub r : ℕ
+  pub begun : from ≤ r
+  pub inside : r < p
+  pub at : At (depart w (getD chained r 0))
+
+-- the flags say this of the departures up to place p, of which the last was at that minute
+pub record Sought (w : List ℕ) (a : ℕ) (chained : List ℕ) (from p last lo hi : ℕ) (arcs kids : List ℕ) : Type 0 where
+  pub arcs-up : Shown (λ v b. Seen w chained from p (λ d. ArcsAt w a d v b)) lo hi arcs
+  pub kids-up : Shown (λ v b. Seen w chained from p (λ d. KidsAt w a d v b)) lo hi kids
+  pub seen-last : (last ≡ 2880) ⊎ Seen w chained from p (λ d. d ≡ last)
+
+-- no flag is up
+pub record Down (flags : List ℕ) : Type 0 where
+  pub none : (i : ℕ) → getD flags i 0 ≡ 0
+
+pub down-all : (flags : List ℕ) (n i m : ℕ) → n ≡ m → length flags ≡ m → n ≤ i → ZeroTo i flags → Down flags
+down-all flags n i m e l h z = record { none = zero-each flags m l (zero-all flags n i m e h z) }
+
+-- the flags of the nodes from lo up to hi are those of their arcs and kids
+pub record Chunked (w : List ℕ) (a lo hi : ℕ) (arcs kids : List ℕ) : Type 0 where
+  pub arcs-up : Shown (λ v b. T (hasArc (sequences w a) (nodeAt (sequences w a) v) b)) lo hi arcs
+  pub kids-up : Shown (λ v b. T (hasKid (sequences w a) (nodeAt (sequences w a) v) b)) lo hi kids
+
+module _ (w chained : List ℕ) (from p : ℕ) where
+  seen-weaken : (At : ℕ → Type 0) → Seen w chained from p At → Seen w chained from (p + 1) At
+  seen-weaken At s = record { r = s .r; begun = s .begun; inside = omega (arith, s .inside); at = s .at }
+
+  seen-cases : (At : ℕ → Type 0) → Seen w chained from (p + 1) At
+      → Seen w chained from p At ⊎ At (depart w (getD chained p 0))
+  seen-cases At s =
+      either
+      (ltb (s .r) p)
+      (λ t. inl (record { r = s .r; begun = s .begun; inside = ltb→lt (s .r) p t; at = s .at }))
+      (λ t.
+      let h = nltb→le (s .r) p t in
+      let e : s .r ≡ p = omega (arith, s .inside) in
+      inr (subst (λ r. At (depart w (getD chained r 0))) e (s .at)))
+
+  module _ (begun : from ≤ p) (At : ℕ → Type 0) where
+    seen-here : At (depart w (getD chained p 0)) → Seen w chained from (p + 1) At
+    seen-here h = record { r = p; begun = begun; inside = omega arith; at = h }
+
+    seen-next : Seen w chained from (p + 1) At ↔ (Seen w chained from p At ⊎ At (depart w (getD chained p 0)))
+    seen-next = (seen-cases At, λ e. (elim e [ inl s ↦ seen-weaken At s | inr h ↦ seen-here h ]))
+
+    -- the same minute once more
+    seen-again : (last : ℕ) → (last ≡ 2880) ⊎ Seen w chained from p (λ d. d ≡ last) → last ≤ 2879
+        → depart w (getD chained p 0) ≡ last → Seen w chained from (p + 1) At ↔ Seen w chained from p At
+    seen-again last l few e = (to, seen-weaken At)
+      where
+        earlier : At last → Seen w chained from p At
+        earlier h =
+            elim l [
+              | inl z ↦ absurd (omega arith)
+              | inr s ↦ record { r = s .r; begun = s .begun; inside = s .inside; at = subst At (sym (s .at)) h }
+            ]
+
+        to : Seen w chained from (p + 1) At → Seen w chained from p At
+        to s = elim (seen-cases At s) [ inl z ↦ z | inr h ↦ earlier (subst At e h) ]
+
+shown-none : (Told : (v b : ℕ) → Type 0) (lo hi : ℕ) (flags : List ℕ) → ((i : ℕ) → getD flags i 0 ≡ 0)
+    → ((v b : ℕ) → ¬ Told v b) → Shown Told lo hi flags
+shown-none Told lo hi flags down n =
+    record {
+      here =
+          λ v b h g f t.
+          (λ e. absurd (omega (arith, down (64 * (v - lo) + (b - 1)))), λ e. absurd (n v b e));
+    }
+
+pub sought-none : (w : List ℕ) (a : ℕ) (chained : List ℕ) (from lo hi : ℕ) (arcs kids : List ℕ) → Down arcs
+    → Down kids → Sought w a chained from from 2880 lo hi arcs kids
+sought-none w a chained from lo hi arcs kids d e =
+    record {
+      arcs-up =
+          shown-none (λ v b. Seen w chained from from (λ d. ArcsAt w a d v b)) lo hi arcs
+          (d .none) (λ v b. none);
+      kids-up =
+          shown-none (λ v b. Seen w chained from from (λ d. KidsAt w a d v b)) lo hi kids
+          (e .none) (λ v b. none);
+      seen-last = inl refl;
+    }
+  where
+    none : {At : ℕ → Type 0} → ¬ Seen w chained from from At
+    none s = omega (arith, s .begun, s .inside)
+
+pub sought-first : (w : List ℕ) (a : ℕ) (chained : List ℕ) (from p last lo hi : ℕ) (arcs kids : List ℕ) → p ≡ from
+    → Sought w a chained from from last lo hi arcs kids → Sought w a chained from p last lo hi arcs kids
+sought-first w a chained from p last lo hi arcs kids e s =
+    subst (λ p. Sought w a chained from p last lo hi arcs kids) (sym e) s
+
+module _ (w order : List ℕ) (n : ℕ) (caught : List ℕ) (routes : Routes w order n caught) (chained first : List ℕ)
+    (held : Departures w chained first) (a : ℕ) (listed : a ≤ stationCount w) where
+  yes : isTimetable w ≡ true
+  yes = routes .accepted
+
+  few : a ≤ 64
+  few = omega (arith, stations-few w yes)
+
+  module _ (p : ℕ) (begun : getD first a 0 ≤ p) (inside : p < getD first (a + 1) 0) where
+    departs : Goes w (getD chained p 0) × (station w (getD chained p 0) ≡ a)
+    departs = waiting-out w a (getD chained p 0) (part-in w yes chained first held a few p begun inside)
+
+    pub place-inside : p < length chained
+    place-inside = omega (arith, part-most w yes chained first held a few, held .chain-long)
+
+    pub stop-few : getD chained p 0 < 2048
+    stop-few = omega (arith, goes-few w yes (getD chained p 0) (departs .0))
+
+    module _ (last lo hi : ℕ) (arcs kids : List ℕ) (s : Sought w a chained (getD first a 0) p last lo hi arcs kids) where
+      pub sought-same : (d : ℕ) → d ≡ depart w (getD chained p 0) → d ≡ last
+          → Sought w a chained (getD first a 0) (p + 1) d lo hi arcs kids
+      sought-same d is same =
+          let from = getD first a 0 in
+          let in-time : last ≤ 2879 = omega (arith, timely w yes .leaves (getD chained p 0) (departs .0)) in
+          let e : depart w (getD chained p 0) ≡ last = sym is ∙ same in
+          record {
+            arcs-up =
+                shown-same lo hi
+                (λ v b. Seen w chained from p (λ d. ArcsAt w a d v b))
+                (λ v b. Seen w chained from (p + 1) (λ d. ArcsAt w a d v b))
+                arcs
+                (s .arcs-up)
+                (λ v b. seen-again w chained from p begun (λ d. ArcsAt w a d v b) last (s .seen-last) in-time e);
+            kids-up =
+                shown-same lo hi
+                (λ v b. Seen w chained from p (λ d. KidsAt w a d v b))
+                (λ v b. Seen w chained from (p + 1) (λ d. KidsAt w a d v b))
+                kids
+                (s .kids-up)
+                (λ v b. seen-again w chained from p begun (λ d. KidsAt w a d v b) last (s .seen-last) in-time e);
+            seen-last = inr (seen-here w chained from p begun (λ z. z ≡ d) (sym is));
+          }
+
+      pub sought-more : (d : ℕ) (arcs′ kids′ : List ℕ) → d ≡ depart w (getD chained p 0)
+          → Raised (ArcsAt w a d) lo hi arcs arcs′ → Raised (KidsAt w a d) lo hi kids kids′
+          → Sought w a chained (getD first a 0) (p + 1) d lo hi arcs′ kids′
+      sought-more d arcs′ kids′ is up raised =
+          let from = getD first a 0 in
+          record {
+            arcs-up =
+                shown-more lo hi
+                (λ v b. Seen w chained from p (λ d. ArcsAt w a d v b))
+                (ArcsAt w a (depart w (getD chained p 0)))
+                (λ v b. Seen w chained from (p + 1) (λ d. ArcsAt w a d v b))
+                arcs
+                arcs′
+                (s .arcs-up)
+                (subst (λ d. Raised (ArcsAt w a d) lo hi arcs arcs′) is up)
+                (λ v b. seen-next w chained from p begun (λ d. ArcsAt w a d v b));
+            kids-up =
+                shown-more lo hi
+                (λ v b. Seen w chained from p (λ d. KidsAt w a d v b))
+                (KidsAt w a (depart w (getD chained p 0)))
+                (λ v b. Seen w chained from (p + 1) (λ d. KidsAt w a d v b))
+                kids
+                kids′
+                (s .kids-up)
+                (subst (λ d. Raised (KidsAt w a d) lo hi kids kids′) is raised)
+                (λ v b. seen-next w chained from p begun (λ d. KidsAt w a d v b));
+            seen-last = inr (seen-here w chained from p begun (λ z. z ≡ d) (sym is));
+          }
+
+  -- ---- all departures of the source
+  abbrev from : ℕ
+  from = getD first a 0
+
+  abbrev end : ℕ
+  end = getD first (a + 1) 0
+
+  pub places-ordered : getD first a 0 ≤ getD first (a + 1) 0
+  places-ordered = part-ordered w yes chained first held a few
+
+  pub places-few : getD first (a + 1) 0 ≤ 2048
+  places-few = part-most w yes chained first held a few
+
+  -- where they begin
+  pub place-known : a < length first
+  place-known = omega (arith, few, held .first-long)
+
+  pub next-known : a + 1 < length first
+  next-known = omega (arith, few, held .first-long)
+
+  pub begins-before : (p : ℕ) → p ≡ getD first a 0 → p ≤ getD first (a + 1) 0
+  begins-before p e = omega (arith, places-ordered)
+
+  seen-once : (At : ℕ → Type 0) → Seen w chained from end At → Once w a At
+  seen-once At s =
+      let k = departs (s .r) (s .begun) (s .inside) in
+      record {
+        minute = depart w (getD chained (s .r) 0);
+        source = record { g = getD chained (s .r) 0; goes = k .0; here = k .1; leaves = refl };
+        at = s .at;
+      }
+
+  once-seen : (At : ℕ → Type 0) → Once w a At → Seen w chained from end At
+  once-seen At o =
+      let g = o .source .g in
+      let there : g ∈ waiting w a = subst (λ c. g ∈ waiting w c) (o .source .here) (waiting-in w yes g (o .source .goes)) in
+      let k =
+      placed chained from end g places-ordered (omega (arith, places-few, held .chain-long))
+      (subst (λ l. g ∈ l) (sym (part-is w yes chained first held a few)) there) in
+      let e : o .minute ≡ depart w (getD chained (k .r) 0) = sym (o .source .leaves) ∙ ap (depart w) (k .is) in
+      record { r = k .r; begun = k .from; inside = k .to; at = subst At e (o .at) }
+
+  module _ (p last lo hi : ℕ) (arcs kids : List ℕ) (most : p ≤ getD first (a + 1) 0) (stop : ℕ)
+      (is : stop ≡ getD first (a + 1) 0) (least : stop ≤ p)
+      (s : Sought w a chained (getD first a 0) p last lo hi arcs kids) where
+    all-places : Sought w a chained from end last lo hi arcs kids
+    all-places =
+        let e : p ≡ end = omega arith in
+        subst (λ p. Sought w a chained from p last lo hi arcs kids) e s
+
+    sought-arcs : Shown (λ v b. T (hasArc (sequences w a) (nodeAt (sequences w a) v) b)) lo hi arcs
+    sought-arcs =
+        shown-same lo hi
+        (λ v b. Seen w chained from end (λ d. ArcsAt w a d v b))
+        (λ v b. T (hasArc (sequences w a) (nodeAt (sequences w a) v) b))
+        arcs
+        (all-places .arcs-up)
+        (λ v b.
+        let k = arc-stored w yes (timely w yes) a (nodeAt (sequences w a) v) b in (
+          λ t. once-seen (λ d. ArcsAt w a d v b) (k .0 t),
+          λ t. k .1 (seen-once (λ d. ArcsAt w a d v b) t),
+        ))
+
+    sought-kids : Shown (λ v b. T (hasKid (sequences w a) (nodeAt (sequences w a) v) b)) lo hi kids
+    sought-kids =
+        shown-same lo hi
+        (λ v b. Seen w chained from end (λ d. KidsAt w a d v b))
+        (λ v b. T (hasKid (sequences w a) (nodeAt (sequences w a) v) b))
+        kids
+        (all-places .kids-up)
+        (λ v b.
+        let k = kid-stored w yes (timely w yes) a (nodeAt (sequences w a) v) b in (
+          λ t. once-seen (λ d. KidsAt w a d v b) (k .0 t),
+          λ t. k .1 (seen-once (λ d. KidsAt w a d v b) t),
+        ))
+
+    pub chunked : Chunked w a lo hi arcs kids
+    chunked = record { arcs-up = sought-arcs; kids-up = sought-kids }
