@@ -6,3 +6,4 @@ pub mod CallLaws
 pub mod KeepLaws
 pub mod RowLaws
 pub mod ShownLaws
+pub mod BlankLaws
