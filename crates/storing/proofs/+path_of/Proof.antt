@@ -22,7 +22,6 @@ path-of-at t = and 2 path-of-kinds.ps (is 2 path-of-kinds.ps μ-path-of t) path-
 abbrev path-of-below : ℕ → In 2 path-of-kinds.ps
 path-of-below t = and 2 path-of-kinds.ps (falls 2 path-of-kinds.ps _<_ μ-path-of t) path-of.Pre
 
--- src/lib.rt:15:9
 path-of-returns : (t : ℕ) → path-of-lts.Need-returns (
   node-parent-reads.Asked,
   node-parent-reads.Learnt,
@@ -33,7 +32,6 @@ path-of-returns : (t : ℕ) → path-of-lts.Need-returns (
 ) (path-of-at t) path-of.Post
 path-of-returns t c = (search root-count, search root-words)
 
--- src/lib.rt:17:13
 path-of-mul-x : (t : ℕ) → path-of-lts.Need-mul-x (
   node-parent-reads.Asked,
   node-parent-reads.Learnt,
@@ -46,7 +44,6 @@ path-of-mul-x t c =
     let b = c .before .before .before in
     omega (arith, b .good, b .pre .1 .0 .inside)
 
--- src/lib.rt:17:13
 path-of-shared-slice-read-x : (t : ℕ) → path-of-lts.Need-shared-slice-read-x (
   node-parent-reads.Asked,
   node-parent-reads.Learnt,
@@ -57,29 +54,6 @@ path-of-shared-slice-read-x : (t : ℕ) → path-of-lts.Need-shared-slice-read-x
 ) (path-of-at t) path-of.Post
 path-of-shared-slice-read-x t c = search rooted-inside
 
--- src/lib.rt:18:27
-path-of-node-parent-requires : (t : ℕ) → path-of-lts.Need-node-parent-requires (
-  node-parent-reads.Asked,
-  node-parent-reads.Learnt,
-  path-of-below t,
-  path-of.Post,
-  node-station-reads.Asked,
-  node-station-reads.Learnt,
-) (path-of-at t) path-of.Post
-path-of-node-parent-requires t c κs = search needs
-
--- src/lib.rt:18:27
-path-of-cast-path-of : (t : ℕ) → path-of-lts.Need-cast-path-of (
-  node-parent-reads.Asked,
-  node-parent-reads.Learnt,
-  path-of-below t,
-  path-of.Post,
-  node-station-reads.Asked,
-  node-station-reads.Learnt,
-) (path-of-at t) path-of.Post
-path-of-cast-path-of t c = search needs
-
--- src/lib.rt:18:9
 path-of-path-of-requires : (t : ℕ) → path-of-lts.Need-path-of-requires (
   node-parent-reads.Asked,
   node-parent-reads.Learnt,
@@ -93,29 +67,6 @@ path-of-path-of-requires t c κs =
     let low : c .before .node-parent .result < b .args .node = search falls-to in
     (omega (arith, b .pre .0), (search rooted-to, search needs))
 
--- src/lib.rt:19:15
-path-of-node-station-requires : (t : ℕ) → path-of-lts.Need-node-station-requires (
-  node-parent-reads.Asked,
-  node-parent-reads.Learnt,
-  path-of-below t,
-  path-of.Post,
-  node-station-reads.Asked,
-  node-station-reads.Learnt,
-) (path-of-at t) path-of.Post
-path-of-node-station-requires t c κs = search needs
-
--- src/lib.rt:19:15
-path-of-cast-path : (t : ℕ) → path-of-lts.Need-cast-path (
-  node-parent-reads.Asked,
-  node-parent-reads.Learnt,
-  path-of-below t,
-  path-of.Post,
-  node-station-reads.Asked,
-  node-station-reads.Learnt,
-) (path-of-at t) path-of.Post
-path-of-cast-path t c = search needs
-
--- src/lib.rt:19:5
 path-of-mul-path : (t : ℕ) → path-of-lts.Need-mul-path (
   node-parent-reads.Asked,
   node-parent-reads.Learnt,
@@ -128,7 +79,6 @@ path-of-mul-path t c =
     let room : c .before .before .before .path-of .result < 64 = search room-for in
     omega arith
 
--- src/lib.rt:19:5
 path-of-slice-write-path : (t : ℕ) → path-of-lts.Need-slice-write-path (
   node-parent-reads.Asked,
   node-parent-reads.Learnt,
@@ -145,7 +95,6 @@ path-of-slice-write-path t c =
       c .before .before .before .before .before .before .before .before .before .before .pre .1 .1,
     )
 
--- src/lib.rt:20:5
 path-of-add-result : (t : ℕ) → path-of-lts.Need-add-result (
   node-parent-reads.Asked,
   node-parent-reads.Learnt,
@@ -158,18 +107,6 @@ path-of-add-result t c =
     let room : c .before .before .before .path-of .result < 64 = search room-for in
     omega arith
 
--- src/lib.rt:9:1
-path-of-same-length : (t : ℕ) → path-of-lts.Need-same-length (
-  node-parent-reads.Asked,
-  node-parent-reads.Learnt,
-  path-of-below t,
-  path-of.Post,
-  node-station-reads.Asked,
-  node-station-reads.Learnt,
-) (path-of-at t) path-of.Post
-path-of-same-length t c = search needs
-
--- src/lib.rt:9:1
 path-of-returns-2 : (t : ℕ) → path-of-lts.Need-returns-2 (
   node-parent-reads.Asked,
   node-parent-reads.Learnt,
@@ -194,13 +131,13 @@ pub +path-of-spec : {M : Type 1} → statement M
     (path-of-returns t)
     (path-of-mul-x t)
     (path-of-shared-slice-read-x t)
-    (path-of-node-parent-requires t)
-    (path-of-cast-path-of t)
+    (λ c. search needs)
+    (λ c. search needs)
     (path-of-path-of-requires t)
-    (path-of-node-station-requires t)
-    (path-of-cast-path t)
+    (λ c. search needs)
+    (λ c. search needs)
     (path-of-mul-path t)
     (path-of-slice-write-path t)
     (path-of-add-result t)
-    (path-of-same-length t)
+    (λ c. search needs)
     (path-of-returns-2 t)

@@ -12,10 +12,6 @@ use Rattle.storing.specs.Storing.{sequences}
 use Rattle.storing.specs.Chunks.{few-nodes, less-left, chunk-grown, whole-refused, whole-taken}
 use Rattle.storing.proofs.grow.Statement.{statement}
 use Rattle.storing.proofs.grow.Tie as tie
-use Rattle.storing.proofs.grow.Reads as reads
-use Rattle.storing.proofs.grow.Lts as lts
-use Rattle.storing.proofs.chunk_end.Reads as chunk-end-reads
-use Rattle.storing.proofs.grow_chunk.Reads as grow-chunk-reads
 
 abbrev Inv-loop : tie.InvT-loop
 Inv-loop words order count chain first arrivals begins catch source work₀ targets₀ n₀ m₀ lo₀ work targets n m lo =
@@ -32,7 +28,6 @@ abbrev μ-loop : tie.MeasureT-loop
 μ-loop words order count chain first arrivals begins catch source work₀ targets₀ n₀ m₀ lo₀ work targets n m lo =
     16384 - lo
 
--- src/lib.rt:603:5
 loop-holds : tie.Need-loop-holds Inv-loop μ-loop
 loop-holds c = (
   search needs,
@@ -45,11 +40,9 @@ loop-holds c = (
   search needs,
 )
 
--- src/lib.rt:604:13
 chunk-end-requires : tie.Need-chunk-end-requires Inv-loop μ-loop
 chunk-end-requires c κs = (search needs, search few-nodes)
 
--- src/lib.rt:605:13
 grow-chunk-requires : tie.Need-grow-chunk-requires Inv-loop μ-loop
 grow-chunk-requires c κs = (
   search needs,
@@ -63,23 +56,12 @@ grow-chunk-requires c κs = (
   search needs,
 )
 
--- src/lib.rt:609:13
-same-length : tie.Need-same-length Inv-loop μ-loop
-same-length c = search needs
-
--- src/lib.rt:609:13
-same-length-2 : tie.Need-same-length-2 Inv-loop μ-loop
-same-length-2 c = search needs
-
--- src/lib.rt:609:13
 returns : tie.Need-returns Inv-loop μ-loop
 returns c = search whole-refused
 
--- src/lib.rt:603:5
 loop-less : tie.Need-loop-less Inv-loop μ-loop
 loop-less c = search less-left
 
--- src/lib.rt:603:5
 loop-again : tie.Need-loop-again Inv-loop μ-loop
 loop-again c = (
   search needs,
@@ -92,15 +74,6 @@ loop-again c = (
   search chunk-grown,
 )
 
--- src/lib.rt:579:1
-same-length-3 : tie.Need-same-length-3 Inv-loop μ-loop
-same-length-3 c = search needs
-
--- src/lib.rt:579:1
-same-length-4 : tie.Need-same-length-4 Inv-loop μ-loop
-same-length-4 c = search needs
-
--- src/lib.rt:579:1
 returns-2 : tie.Need-returns-2 Inv-loop μ-loop
 returns-2 c = search whole-taken
 
@@ -113,11 +86,11 @@ grow-spec =
     loop-holds
     chunk-end-requires
     grow-chunk-requires
-    same-length
-    same-length-2
+    (λ c. search needs)
+    (λ c. search needs)
     returns
     loop-less
     loop-again
-    same-length-3
-    same-length-4
+    (λ c. search needs)
+    (λ c. search needs)
     returns-2)

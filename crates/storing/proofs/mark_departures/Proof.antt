@@ -11,10 +11,6 @@ use Rattle.storing.specs.Standing.{StandingTo}
 use Rattle.storing.specs.Seeking.{Sought, sought-first, place-known, next-known, begins-before, chunked}
 use Rattle.storing.proofs.mark_departures.Statement.{statement}
 use Rattle.storing.proofs.mark_departures.Tie as tie
-use Rattle.storing.proofs.mark_departures.Reads as reads
-use Rattle.storing.proofs.mark_departures.Lts as lts
-use Rattle.storing.proofs.mark_departure.Reads as mark-departure-reads
-use Rattle.storing.proofs.place_at.Reads as place-at-reads
 
 abbrev Inv-loop : tie.InvT-loop
 Inv-loop words order n chain first arrivals begins catch work lo hi source v₀ q₀ x₀ arcs₀ kids₀ end p₀ last₀ v q x arcs kids p last =
@@ -40,19 +36,12 @@ abbrev μ-loop : tie.MeasureT-loop
 μ-loop words order n chain first arrivals begins catch work lo hi source v₀ q₀ x₀ arcs₀ kids₀ end p₀ last₀ v q x arcs kids p last =
     end - p
 
--- src/lib.rt:417:31
-add-place-at : tie.Need-add-place-at Inv-loop μ-loop
-add-place-at c = search needs
-
--- src/lib.rt:417:9
 place-at-requires : tie.Need-place-at-requires Inv-loop μ-loop
 place-at-requires c κs = search next-known
 
--- src/lib.rt:418:9
 place-at-requires-2 : tie.Need-place-at-requires-2 Inv-loop μ-loop
 place-at-requires-2 c κs = search place-known
 
--- src/lib.rt:420:5
 loop-holds : tie.Need-loop-holds Inv-loop μ-loop
 loop-holds c = (
   search needs,
@@ -74,7 +63,6 @@ loop-holds c = (
   search sought-first,
 )
 
--- src/lib.rt:421:9
 mark-departure-requires : tie.Need-mark-departure-requires Inv-loop μ-loop
 mark-departure-requires c κs = (
   search needs,
@@ -95,15 +83,6 @@ mark-departure-requires c κs = (
   search needs,
 )
 
--- src/lib.rt:424:9
-add-p : tie.Need-add-p Inv-loop μ-loop
-add-p c = search needs
-
--- src/lib.rt:420:5
-loop-less : tie.Need-loop-less Inv-loop μ-loop
-loop-less c = search needs
-
--- src/lib.rt:420:5
 loop-again : tie.Need-loop-again Inv-loop μ-loop
 loop-again c = (
   search needs,
@@ -125,27 +104,6 @@ loop-again c = (
   search needs,
 )
 
--- src/lib.rt:376:1
-same-length : tie.Need-same-length Inv-loop μ-loop
-same-length c = search needs
-
--- src/lib.rt:376:1
-same-length-2 : tie.Need-same-length-2 Inv-loop μ-loop
-same-length-2 c = search needs
-
--- src/lib.rt:376:1
-same-length-3 : tie.Need-same-length-3 Inv-loop μ-loop
-same-length-3 c = search needs
-
--- src/lib.rt:376:1
-same-length-4 : tie.Need-same-length-4 Inv-loop μ-loop
-same-length-4 c = search needs
-
--- src/lib.rt:376:1
-same-length-5 : tie.Need-same-length-5 Inv-loop μ-loop
-same-length-5 c = search needs
-
--- src/lib.rt:376:1
 returns : tie.Need-returns Inv-loop μ-loop
 returns c = (
     let b = c .before .loop in
@@ -158,17 +116,17 @@ mark-departures-spec =
     (tie.spec
     Inv-loop
     μ-loop
-    add-place-at
+    (λ c. search needs)
     place-at-requires
     place-at-requires-2
     loop-holds
     mark-departure-requires
-    add-p
-    loop-less
+    (λ c. search needs)
+    (λ c. search needs)
     loop-again
-    same-length
-    same-length-2
-    same-length-3
-    same-length-4
-    same-length-5
+    (λ c. search needs)
+    (λ c. search needs)
+    (λ c. search needs)
+    (λ c. search needs)
+    (λ c. search needs)
     returns)
