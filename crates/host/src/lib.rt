@@ -8,6 +8,7 @@ ghost use Rattle.tables.specs.Building.{buildReply, buildWords};
 ghost use Rattle.checking.specs.Question10.{tablesNumber};
 ghost use Rattle.alone.specs.Drawn.{aloneNumber};
 ghost use Rattle.direct.specs.Direct.{directReply, directWords};
+ghost use Rattle.storing.specs.Storing.{storeReply, storeAfter};
 ghost use Rattle.host.specs.Packed.{packed, packedReply, packedCount, packedPlace};
 use reading::Reply;
 
@@ -143,4 +144,32 @@ pub extern "C" fn dairyepoch_line_trips(lines: &[u16], work: &mut [u32], line: u
 {
     let place = alone::line_place(lines, work, line);
     pack(place.number, place.start * PIECE + place.count)
+}
+
+// Makes the store of a source.
+#[no_mangle]
+pub extern "C" fn dairyepoch_make_store(
+    timetable: &[u16],
+    lines: &[u16],
+    work: &mut [u32],
+    source: u32,
+    store: &mut [u16],
+) -> u64
+    ensures reply { λ r. ⌜ r
+        ≡ packedCount
+        (storeReply
+        (now (timetable .entry))
+        (now (lines .entry))
+        (length (now (work .entry)))
+        source
+        (length (now (store .entry)))) ⌝ }
+    ensures words { λ _. ⌜ now (store .exit)
+        ≡ storeAfter
+        (now (timetable .entry))
+        (now (lines .entry))
+        (length (now (work .entry)))
+        source
+        (now (store .entry)) ⌝ }
+{
+    pack_count(storing::make_store(timetable, lines, work, source, store))
 }
