@@ -22,6 +22,12 @@
  *   7       the text ends without a station, or amid a trip             the text's lines, plus one
  *   8       a lent slice is too short                                   0
  *   9       the timetable words come from no accepted text              0
+ *   10      the line tables are not those of the timetable words lent
+ *           with them; lent alone, those of no accepted timetable       0
+ *   11      a station or the line is not there, or from and to are one  0
+ *   12      the minute is above 2,879                                   0
+ *   14      there is no feasible connection                             0
+ *   15      the answer slice is too short for the result                0
  */
 #ifndef DAIRYEPOCH_H
 #define DAIRYEPOCH_H
@@ -36,10 +42,21 @@ extern "C" {
 /* The least length of a timetable slice, in 16-bit words. */
 #define DAIRYEPOCH_TIMETABLE_WORDS 16384
 
+/* The least length of a slice of line tables, in 16-bit words, and of working space, in 32-bit words. */
+#define DAIRYEPOCH_LINES_WORDS 16384
+#define DAIRYEPOCH_WORK_WORDS 16384
+
+/* The words of an answer's row that has one ride, as all rows of a direct query have. */
+#define DAIRYEPOCH_DIRECT_ROW_WORDS 6
+
 /* The number of a reply, and the count or line beside it. */
 #define DAIRYEPOCH_NUMBER(reply) ((uint32_t)((uint64_t)(reply) >> 32))
 #define DAIRYEPOCH_COUNT(reply) ((uint32_t)(reply))
 #define DAIRYEPOCH_LINE(reply) ((uint32_t)(reply))
+
+/* In the place of a count, dairyepoch_line_trips has the index of the first trip's number, and how many there are. */
+#define DAIRYEPOCH_TRIPS_START(reply) ((uint32_t)(reply) >> 16)
+#define DAIRYEPOCH_TRIPS_COUNT(reply) ((uint32_t)(reply) & 0xffffu)
 
 /*
  * Reads a timetable text and writes its words (docs/LAYOUT.md) to the start of the timetable slice. The words past
@@ -66,6 +83,52 @@ uint64_t dairyepoch_check_timetable(const uint16_t *timetable, size_t timetable_
  */
 uint64_t dairyepoch_build_lines(const uint16_t *timetable, size_t timetable_len, uint16_t *lines, size_t lines_len,
                                 uint32_t *work, size_t work_len);
+
+/*
+ * Are the line tables those of the timetable words? The words past either table are not judged. What
+ * dairyepoch_build_lines wrote for these timetable words, with number 0, has its yes. Slices as for building; nothing
+ * is written but working space.
+ *
+ * Reply: 0 for yes, with count 0; or a refusal: 8, then 9, then 10.
+ */
+uint64_t dairyepoch_check_lines(const uint16_t *timetable, size_t timetable_len, const uint16_t *lines,
+                                size_t lines_len, uint32_t *work, size_t work_len);
+
+/*
+ * Could these line tables come from an accepted timetable? Yes exactly if some accepted timetable has them, whatever
+ * its change minutes and change penalties, of which line tables tell nothing. The words past the tables are not
+ * judged. Nothing is written but working space.
+ *
+ * Reply: 0 for yes, with count 0; or a refusal: 8, then 10.
+ */
+uint64_t dairyepoch_check_lines_alone(const uint16_t *lines, size_t lines_len, uint32_t *work, size_t work_len);
+
+/*
+ * Where in the caller's own lines slice the numbers of one line's trips stand, in the order in which the trips joined
+ * the line. Lines count from 1. The line tables are asked about as by dairyepoch_check_lines_alone. Nothing is written
+ * but working space.
+ *
+ * Reply: 0, with DAIRYEPOCH_TRIPS_START and DAIRYEPOCH_TRIPS_COUNT in the place of a count: the trips' numbers are
+ * lines[start] to lines[start + count - 1]; or a refusal: 8, then 10, then 11.
+ */
+uint64_t dairyepoch_line_trips(const uint16_t *lines, size_t lines_len, uint32_t *work, size_t work_len,
+                               uint32_t line);
+
+/*
+ * The direct rides from one station to another at a minute, or later. Writes a row of 6 words for each cost that no
+ * direct ride's cost dominates, in rising duration, to the start of the answer slice:
+ *
+ *   duration in minutes, penalty in points, 1, trip, boarding stop, alighting stop
+ *
+ * The duration counts from the minute. Of the rides of one cost the one shown departs latest; of those its trip, then
+ * its boarding stop, then its alighting stop has the lowest number. Words past the rows keep their values, and after a
+ * refusal all words of the answer do. The answer slice may have any length; the others as for building.
+ *
+ * Reply: 0 and the number of rows; or a refusal: 8, then 9, then 10, then 11, then 12, then 14, then 15.
+ */
+uint64_t dairyepoch_direct(const uint16_t *timetable, size_t timetable_len, const uint16_t *lines, size_t lines_len,
+                           uint32_t *work, size_t work_len, uint32_t from, uint32_t to, uint32_t minute,
+                           uint32_t *answer, size_t answer_len);
 
 #ifdef __cplusplus
 }

@@ -1,5 +1,10 @@
 //! The exported calls, each behind a safe function: a slice in place of a pointer and a length.
 
+use std::ops::Range;
+use std::ptr::{null, null_mut};
+
+use crate::direct::Query;
+
 mod exported {
     extern "C" {
         pub fn dairyepoch_read(text: *const u8, text_len: usize, timetable: *mut u16, timetable_len: usize) -> u64;
@@ -11,6 +16,40 @@ mod exported {
             lines_len: usize,
             work: *mut u32,
             work_len: usize,
+        ) -> u64;
+        pub fn dairyepoch_check_lines(
+            timetable: *const u16,
+            timetable_len: usize,
+            lines: *const u16,
+            lines_len: usize,
+            work: *mut u32,
+            work_len: usize,
+        ) -> u64;
+        pub fn dairyepoch_check_lines_alone(
+            lines: *const u16,
+            lines_len: usize,
+            work: *mut u32,
+            work_len: usize,
+        ) -> u64;
+        pub fn dairyepoch_line_trips(
+            lines: *const u16,
+            lines_len: usize,
+            work: *mut u32,
+            work_len: usize,
+            line: u32,
+        ) -> u64;
+        pub fn dairyepoch_direct(
+            timetable: *const u16,
+            timetable_len: usize,
+            lines: *const u16,
+            lines_len: usize,
+            work: *mut u32,
+            work_len: usize,
+            from: u32,
+            to: u32,
+            minute: u32,
+            answer: *mut u32,
+            answer_len: usize,
         ) -> u64;
     }
 }
@@ -26,6 +65,12 @@ pub struct Reply {
 impl Reply {
     fn from_bits(bits: u64) -> Reply {
         Reply { number: (bits >> 32) as u32, beside: bits as u32 }
+    }
+
+    /// The piece of the line tables that `line_trips` tells of in the place of a count.
+    pub fn piece(self) -> Range<usize> {
+        let (start, count) = (self.beside as usize >> 16, self.beside as usize & 0xffff);
+        start..start + count
     }
 }
 
@@ -44,7 +89,7 @@ pub fn check_timetable(timetable: &[u16]) -> Reply {
 /// Reading with no text at all: a null pointer and length 0, as a host has it whose file did not open.
 pub fn read_nothing(timetable: &mut [u16]) -> Reply {
     // SAFETY: the text has no byte, so that nothing is read of it; the other two are those of a slice.
-    let bits = unsafe { exported::dairyepoch_read(std::ptr::null(), 0, timetable.as_mut_ptr(), timetable.len()) };
+    let bits = unsafe { exported::dairyepoch_read(null(), 0, timetable.as_mut_ptr(), timetable.len()) };
     Reply::from_bits(bits)
 }
 
@@ -65,8 +110,95 @@ pub fn build_lines(timetable: &[u16], lines: &mut [u16], work: &mut [u32]) -> Re
 
 /// Building with nothing lent at all: null pointers and lengths 0.
 pub fn build_lines_of_nothing() -> Reply {
-    let (timetable, lines, work) = (std::ptr::null(), std::ptr::null_mut(), std::ptr::null_mut());
     // SAFETY: no slice has a word, so that nothing is read or written.
-    let bits = unsafe { exported::dairyepoch_build_lines(timetable, 0, lines, 0, work, 0) };
+    let bits = unsafe { exported::dairyepoch_build_lines(null(), 0, null_mut(), 0, null_mut(), 0) };
+    Reply::from_bits(bits)
+}
+
+pub fn check_lines(timetable: &[u16], lines: &[u16], work: &mut [u32]) -> Reply {
+    // SAFETY: the pointers and lengths are those of three slices, and the one that is written overlaps no other.
+    let bits = unsafe {
+        exported::dairyepoch_check_lines(
+            timetable.as_ptr(),
+            timetable.len(),
+            lines.as_ptr(),
+            lines.len(),
+            work.as_mut_ptr(),
+            work.len(),
+        )
+    };
+    Reply::from_bits(bits)
+}
+
+pub fn check_lines_alone(lines: &[u16], work: &mut [u32]) -> Reply {
+    // SAFETY: the pointers and lengths are those of two slices, which cannot overlap.
+    let bits =
+        unsafe { exported::dairyepoch_check_lines_alone(lines.as_ptr(), lines.len(), work.as_mut_ptr(), work.len()) };
+    Reply::from_bits(bits)
+}
+
+pub fn line_trips(lines: &[u16], work: &mut [u32], line: u32) -> Reply {
+    // SAFETY: the pointers and lengths are those of two slices, which cannot overlap.
+    let bits =
+        unsafe { exported::dairyepoch_line_trips(lines.as_ptr(), lines.len(), work.as_mut_ptr(), work.len(), line) };
+    Reply::from_bits(bits)
+}
+
+/// The three calls that ask about line tables, with nothing lent at all: null pointers and lengths 0.
+pub fn ask_lines_of_nothing() -> [Reply; 3] {
+    // SAFETY: no slice has a word, so that nothing is read or written.
+    let bits = unsafe {
+        [
+            exported::dairyepoch_check_lines(null(), 0, null(), 0, null_mut(), 0),
+            exported::dairyepoch_check_lines_alone(null(), 0, null_mut(), 0),
+            exported::dairyepoch_line_trips(null(), 0, null_mut(), 0, 1),
+        ]
+    };
+    bits.map(Reply::from_bits)
+}
+
+pub fn direct(timetable: &[u16], lines: &[u16], work: &mut [u32], query: Query, answer: &mut [u32]) -> Reply {
+    // SAFETY: the answer's pointer and length are those of a slice, which overlaps no other.
+    unsafe { direct_to(timetable, lines, work, query, answer.as_mut_ptr(), answer.len()) }
+}
+
+/// A direct query without an answer slice: a null pointer and length 0.
+pub fn direct_to_nothing(timetable: &[u16], lines: &[u16], work: &mut [u32], query: Query) -> Reply {
+    // SAFETY: the answer has no word, so that nothing is written of it.
+    unsafe { direct_to(timetable, lines, work, query, null_mut(), 0) }
+}
+
+/// # Safety
+///
+/// The answer's pointer must lead to as many words as its length says, which are in none of the slices.
+unsafe fn direct_to(
+    timetable: &[u16],
+    lines: &[u16],
+    work: &mut [u32],
+    Query { from, to, minute }: Query,
+    answer: *mut u32,
+    answer_len: usize,
+) -> Reply {
+    let bits = exported::dairyepoch_direct(
+        timetable.as_ptr(),
+        timetable.len(),
+        lines.as_ptr(),
+        lines.len(),
+        work.as_mut_ptr(),
+        work.len(),
+        from,
+        to,
+        minute,
+        answer,
+        answer_len,
+    );
+    Reply::from_bits(bits)
+}
+
+/// A direct query with nothing lent at all: null pointers and lengths 0.
+pub fn direct_of_nothing(Query { from, to, minute }: Query) -> Reply {
+    // SAFETY: no slice has a word, so that nothing is read or written.
+    let bits =
+        unsafe { exported::dairyepoch_direct(null(), 0, null(), 0, null_mut(), 0, from, to, minute, null_mut(), 0) };
     Reply::from_bits(bits)
 }

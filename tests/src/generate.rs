@@ -17,6 +17,8 @@ pub struct Size {
 
 pub const SMALL: Size = Size { stations: 1..=4, trips: 0..=3, stops_of_a_trip: 2..=4 };
 pub const MIDDLING: Size = Size { stations: 1..=20, trips: 0..=20, stops_of_a_trip: 2..=12 };
+/// For `crowded`.
+pub const CROWDED: Size = Size { stations: 2..=4, trips: 0..=7, stops_of_a_trip: 2..=6 };
 pub const LARGE: Size = Size { stations: 40..=64, trips: 100..=256, stops_of_a_trip: 2..=16 };
 
 pub fn timetable(random: &mut Random, size: &Size) -> Timetable {
@@ -77,6 +79,29 @@ pub fn overtaking() -> Timetable {
     Timetable { stations, trips: (0..TRIPS_MOST as u16).map(trip).collect() }
 }
 
+/// The most rows that a direct query can have.
+pub const DIRECT_ROWS_MOST: u32 = 507;
+
+/// One trip of 2,044 stops with a ride from station 1 to 2 for each penalty from 506 down to 0.
+///
+/// From each stop at a station a trip has at most one ride that counts, to the next stop at the other one: so the rides
+/// of different rows share no stop. One of penalty p needs a stop for each 100 points, and one more, so that 507 rows
+/// have 2,044 stops, and the 508th would bring them to 2,051.
+pub fn most_rows() -> Timetable {
+    let mut way = Vec::new();
+    for penalty in (0..DIRECT_ROWS_MOST as u16).rev() {
+        let rides = penalty.div_ceil(RIDE_PENALTY_MOST).max(1);
+        for ride in 0..rides {
+            let station = if ride == 0 { 1 } else { 3 + usize::from(ride % 2) };
+            way.push((station, penalty.saturating_sub(RIDE_PENALTY_MOST * ride).min(RIDE_PENALTY_MOST)));
+        }
+        way.push((2, 0));
+    }
+    let rides: Vec<(u16, u16)> = (1..way.len() as u16).map(|minute| (minute, minute + 1)).collect();
+    let stations = vec![Station { change_minutes: 0, change_penalty: CHANGE_PENALTY_LEAST }; 4];
+    Timetable { stations, trips: vec![trip_on(&way, &rides)] }
+}
+
 /// A timetable of few ways, alike or almost so, with trips that run a little before or behind one another.
 pub fn with_shared_ways(random: &mut Random, size: &Size) -> Timetable {
     let stations = random.within(size.stations.clone()).max(2);
@@ -101,6 +126,47 @@ pub fn with_shared_ways(random: &mut Random, size: &Size) -> Timetable {
         }
     }
     Timetable { stations: (0..stations).map(|_| station(random)).collect(), trips }
+}
+
+/// A timetable whose trips all run within a few minutes, by a few ways of small penalties: many rides cost the same.
+pub fn crowded(random: &mut Random, size: &Size) -> Timetable {
+    let stations = random.within(size.stations.clone()).max(2);
+    let ways: Vec<Way> = (0..random.within(1..=3)).map(|_| way(random, stations, size)).collect();
+    let width = random.pick(&[1, 2, 4, 8]);
+    let latest = usize::from(spare(size.stops_of_a_trip.end() - 1)) + 1 - width;
+    let begin = random.pick(&[0, 1, 480, latest]);
+    let mut trips = Vec::new();
+    for _ in 0..random.within(size.trips.clone()) {
+        let way = &ways[random.below(ways.len())];
+        let mut moments: Vec<u16> = (0..2 * (way.len() - 1)).map(|_| (begin + random.below(width)) as u16).collect();
+        moments.sort_unstable();
+        trips.push(trip_on(way, &rides_at(&moments)));
+    }
+    Timetable { stations: (0..stations).map(|_| station(random)).collect(), trips }
+}
+
+/// Every trip of so many stops over so many stations, with times from 0 to `last` and penalties 0 and 1.
+pub fn every_trip(stations: u16, stops: usize, last: u16) -> Vec<Vec<Stop>> {
+    let mut trips = vec![Vec::new()];
+    for place in 0..stops {
+        let ends = place + 1 == stops;
+        let mut longer = Vec::new();
+        for trip in &trips {
+            let before: Option<&Stop> = trip.last();
+            let depart_before = before.and_then(|stop| stop.onward).map(|onward| onward.depart);
+            let arrives: Vec<Option<u16>> =
+                depart_before.map_or(vec![None], |depart| (depart + 1..=last).map(Some).collect());
+            let others = (1..=stations).filter(|&station| before.is_none_or(|stop| stop.station != station));
+            for (station, &arrive) in others.flat_map(|station| arrives.iter().map(move |arrive| (station, arrive))) {
+                let leaves =
+                    (arrive.unwrap_or(0)..=last).flat_map(|depart| [0, 1].map(|penalty| Onward { depart, penalty }));
+                let onwards: Vec<Option<Onward>> = if ends { vec![None] } else { leaves.map(Some).collect() };
+                longer.extend(onwards.iter().map(|&onward| [&trip[..], &[Stop { station, arrive, onward }]].concat()));
+            }
+        }
+        trips = longer;
+    }
+    trips
 }
 
 /// Station and ride penalty of each stop; the last penalty is none of a ride's.
@@ -254,8 +320,17 @@ mod tests {
                 assert_eq!(read(&timetable.to_text()), Ok(timetable));
                 let timetable = with_shared_ways(&mut random, &size);
                 assert_eq!(read(&timetable.to_text()), Ok(timetable));
+                let timetable = crowded(&mut random, &CROWDED);
+                assert_eq!(read(&timetable.to_text()), Ok(timetable));
             }
         }
+    }
+
+    #[test]
+    fn the_most_rows_read_back_from_their_text() {
+        let timetable = most_rows();
+        assert_eq!(timetable.trips[0].len(), 2_044);
+        assert_eq!(read(&timetable.to_text()), Ok(timetable));
     }
 
     #[test]

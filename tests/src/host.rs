@@ -1,21 +1,25 @@
 //! A display's host: it lends words to the calls and looks at what they did with them.
 
-use std::fmt::Display;
+use std::fmt::{Debug, Display};
 use std::ops::Not;
 
+use crate::direct::{Query, ROW_WORDS};
+use crate::expected::{self, Expected};
 use crate::ffi::{self, Reply};
-use crate::lines::{self, LINE_WORDS, WORK_WORDS};
+use crate::lines::WORK_WORDS;
 use crate::random::Random;
-use crate::reference;
-use crate::words::{text_of, to_words, TIMETABLE_WORDS};
+use crate::words::{text_of, TIMETABLE_WORDS};
 
 /// Words on either side of a lent slice, which no call may touch.
 const FENCE: usize = 32;
+/// The words that are lent for an answer, where a test does not ask for less: those of more rows than there ever are.
+pub const ANSWER_WORDS: usize = 512 * ROW_WORDS;
 
 /// Every call is made twice, over words that differ in every bit: whatever a call writes then shows at least once.
 pub struct Host {
     loans: [Loan<u16>; 2],
     works: [Loan<u32>; 2],
+    answers: [Loan<u32>; 2],
 }
 
 struct Loan<W> {
@@ -29,7 +33,8 @@ impl Host {
         let mut random = Random::new(seed);
         let loans = Loan::pair(length, || random.word());
         let works = Loan::pair(work_length, || random.bits() as u32);
-        Host { loans, works }
+        let answers = Loan::pair(ANSWER_WORDS, || random.bits() as u32);
+        Host { loans, works, answers }
     }
 
     /// A host that lends `length` words for a result.
@@ -44,7 +49,7 @@ impl Host {
 
     /// Has `text` read, and fails unless the reply and every word are the reference's. Returns the reply.
     pub fn read(&mut self, text: &[u8]) -> Reply {
-        let (expected, result) = expected_read(text, self.loans[0].slice().len());
+        let (expected, result) = expected::read(text, self.loans[0].length());
         for loan in &mut self.loans {
             let reply = ffi::read(text, loan.slice());
             assert_eq!(reply, expected, "the reply (left) and the reference's, for the text\n{}", excerpt(text));
@@ -93,27 +98,89 @@ impl Host {
     /// Has the line tables of a timetable's words built, and fails unless the reply and every word are the
     /// reference's. Returns the reply.
     pub fn build_lines(&mut self, timetable: &[u16]) -> Reply {
-        let before = timetable.to_vec();
-        let (expected, result) = expected_lines(timetable, self.loans[0].slice().len(), self.works[0].slice().len());
-        for (loan, work) in self.loans.iter_mut().zip(&mut self.works) {
-            let reply = ffi::build_lines(timetable, loan.slice(), work.slice());
-            let of = || format!("for the words\n{}", first_words(timetable));
-            assert_eq!(reply, expected, "the reply (left) and the reference's, {}", of());
-            if let Err(difference) = loan.settle(&result) {
-                panic!("{difference} after {reply:?} {}", of());
-            }
-            if let Err(difference) = work.settle_work() {
-                panic!("beside the working space {difference} after {reply:?} {}", of());
-            }
-            assert!(timetable == before, "the timetable changed after {reply:?} {}", of());
-        }
-        expected
+        let expected = expected::build_lines(timetable, self.loans[0].length(), self.works[0].length());
+        let call = |lines: &mut [u16], work: &mut [u32]| ffi::build_lines(timetable, lines, work);
+        compare(&mut self.loans, &mut self.works, &[timetable], &"building", expected, call)
     }
 
     /// As `build_lines`, and fails unless the reply is the one given, which document 01 asks for.
     pub fn expect_lines(&mut self, timetable: &[u16], number: u32, beside: u32) {
         assert_eq!(self.build_lines(timetable), Reply { number, beside }, "for {}", first_words(timetable));
     }
+
+    /// Asks question 10 of line tables lent with a timetable, and fails unless the reply is the reference's and nothing
+    /// but working space was written. Returns the reply's number.
+    pub fn check_lines(&mut self, timetable: &[u16], lines: &[u16]) -> u32 {
+        let expected = expected::check_lines(timetable, lines, self.works[0].length());
+        self.ask(&[timetable, lines], &"question 10", expected, |work| ffi::check_lines(timetable, lines, work)).number
+    }
+
+    /// As `check_lines`, of line tables lent alone.
+    pub fn check_lines_alone(&mut self, lines: &[u16]) -> u32 {
+        let expected = expected::check_lines_alone(lines, self.works[0].length());
+        self.ask(&[lines], &"question 10 alone", expected, |work| ffi::check_lines_alone(lines, work)).number
+    }
+
+    /// Asks for the piece of one line, and fails unless the reply is the reference's and nothing but working space was
+    /// written. Returns the reply.
+    pub fn line_trips(&mut self, lines: &[u16], line: u32) -> Reply {
+        let expected = expected::line_trips(lines, self.works[0].length(), line);
+        self.ask(&[lines], &("line", line), expected, |work| ffi::line_trips(lines, work, line))
+    }
+
+    /// Makes a call that has no result slice.
+    fn ask(
+        &mut self,
+        lent: &[&[u16]],
+        asked: &dyn Debug,
+        expected: Reply,
+        call: impl Fn(&mut [u32]) -> Reply,
+    ) -> Reply {
+        compare(&mut self.answers, &mut self.works, lent, asked, (expected, Vec::new()), |_, work| call(work))
+    }
+
+    /// Makes a direct query, and fails unless the reply and every word of the answer are the reference's. Returns the
+    /// reply.
+    pub fn direct(&mut self, timetable: &[u16], lines: &[u16], query: Query) -> Reply {
+        self.direct_to(timetable, lines, query, ANSWER_WORDS)
+    }
+
+    /// As `direct`, with so many words lent for the answer, at most `ANSWER_WORDS`.
+    pub fn direct_to(&mut self, timetable: &[u16], lines: &[u16], query: Query, length: usize) -> Reply {
+        let expected = expected::direct(timetable, lines, self.works[0].length(), query, length);
+        let call =
+            |answer: &mut [u32], work: &mut [u32]| ffi::direct(timetable, lines, work, query, &mut answer[..length]);
+        compare(&mut self.answers, &mut self.works, &[timetable, lines], &(query, length), expected, call)
+    }
+}
+
+/// Makes a call with a result slice and working space, and fails unless the reply and every word are as expected and
+/// the words lent for reading have not changed. Returns the reply.
+fn compare<W: Copy + Display + Not<Output = W> + PartialEq>(
+    results: &mut [Loan<W>; 2],
+    works: &mut [Loan<u32>; 2],
+    lent: &[&[u16]],
+    asked: &dyn Debug,
+    (expected, result): Expected<W>,
+    call: impl Fn(&mut [W], &mut [u32]) -> Reply,
+) -> Reply {
+    let before: Vec<Vec<u16>> = lent.iter().map(|words| words.to_vec()).collect();
+    for (loan, work) in results.iter_mut().zip(works) {
+        let reply = call(loan.slice(), work.slice());
+        let of = || {
+            let words: String = lent.iter().map(|words| first_words(words) + "\n").collect();
+            format!("{asked:?} for the words\n{words}")
+        };
+        assert_eq!(reply, expected, "the reply (left) and the reference's, {}", of());
+        if let Err(difference) = loan.settle(&result) {
+            panic!("{difference} after {reply:?}, {}", of());
+        }
+        if let Err(difference) = work.settle_work() {
+            panic!("beside the working space {difference} after {reply:?}, {}", of());
+        }
+        assert!(lent == before, "words that were lent for reading changed after {reply:?}, {}", of());
+    }
+    expected
 }
 
 impl<W: Copy + Display + Not<Output = W> + PartialEq> Loan<W> {
@@ -122,6 +189,10 @@ impl<W: Copy + Display + Not<Output = W> + PartialEq> Loan<W> {
         let entry: Vec<W> = (0..length + 2 * FENCE).map(|_| word()).collect();
         let inverse = entry.iter().map(|&word| !word).collect();
         [entry, inverse].map(|entry: Vec<W>| Loan { words: entry.clone(), entry })
+    }
+
+    fn length(&self) -> usize {
+        self.words.len() - 2 * FENCE
     }
 
     fn slice(&mut self) -> &mut [W] {
@@ -152,29 +223,10 @@ impl<W: Copy + Display + Not<Output = W> + PartialEq> Loan<W> {
     }
 }
 
-/// The reply to reading `text` into a slice of `length` words, and the words of the result.
-fn expected_read(text: &[u8], length: usize) -> (Reply, Vec<u16>) {
-    if length < TIMETABLE_WORDS {
-        return (Reply { number: 8, beside: 0 }, Vec::new());
-    }
-    match reference::read(text) {
-        Ok(timetable) => {
-            let lines = timetable.stations.len() + timetable.trips.iter().map(Vec::len).sum::<usize>();
-            (Reply { number: 0, beside: lines as u32 }, to_words(&timetable))
-        }
-        Err(refusal) => (Reply { number: refusal.number, beside: refusal.line }, Vec::new()),
-    }
-}
-
-/// The reply to building of `timetable` into slices of these lengths, and the words of the result.
-fn expected_lines(timetable: &[u16], length: usize, work_length: usize) -> (Reply, Vec<u16>) {
-    if timetable.len() < TIMETABLE_WORDS || length < LINE_WORDS || work_length < WORK_WORDS {
-        return (Reply { number: 8, beside: 0 }, Vec::new());
-    }
-    let Some(text) = text_of(timetable) else { return (Reply { number: 9, beside: 0 }, Vec::new()) };
-    let timetable = reference::read(&text).expect("the words have this text");
-    let lines = lines::lines(&timetable).len();
-    (Reply { number: 0, beside: lines as u32 }, lines::to_words(&timetable))
+/// The table in a slice of the least length, with any words behind it.
+pub fn lent(mut table: Vec<u16>, random: &mut Random) -> Vec<u16> {
+    table.resize_with(table.len().max(TIMETABLE_WORDS), || random.word());
+    table
 }
 
 /// How many words a table has, by its first three.

@@ -50,10 +50,14 @@ fn penalty(stop: &Stop) -> Option<u16> {
 
 /// The words of the timetable's line tables.
 pub fn to_words(timetable: &Timetable) -> Vec<u16> {
-    let lines = lines(timetable);
+    words_of(timetable, &lines(timetable))
+}
+
+/// The words of tables with these lines, each of trips of one length, whether or not they are the timetable's.
+pub fn words_of(timetable: &Timetable, lines: &[Vec<usize>]) -> Vec<u16> {
     let pieces: Vec<Vec<u16>> = lines.iter().map(|line| line_words(timetable, line)).collect();
     let lists: Vec<Vec<u16>> =
-        (1..=timetable.stations.len()).map(|station| list_words(timetable, &lines, word(station))).collect();
+        (1..=timetable.stations.len()).map(|station| list_words(timetable, lines, word(station))).collect();
 
     let first_piece = 4 + lines.len();
     let first_index = first_piece + pieces.iter().map(Vec::len).sum::<usize>();

@@ -51,7 +51,7 @@ fn from_words(words: &[u16]) -> Option<Timetable> {
     })
 }
 
-fn take<'a>(words: &mut &'a [u16], count: usize) -> Option<&'a [u16]> {
+pub(crate) fn take<'a>(words: &mut &'a [u16], count: usize) -> Option<&'a [u16]> {
     let (taken, rest) = words.split_at_checked(count)?;
     *words = rest;
     Some(taken)

@@ -5,21 +5,26 @@
 use std::hint::black_box;
 use std::time::{Duration, Instant};
 
-use dairyepoch_tests::ffi::{build_lines, check_timetable, read, Reply};
-use dairyepoch_tests::generate::{long_lines, overtaking};
+use dairyepoch_tests::direct::{self, Query, ROW_WORDS};
+use dairyepoch_tests::ffi::{self, build_lines, check_lines, check_lines_alone, check_timetable, read, Reply};
+use dairyepoch_tests::generate::{long_lines, most_rows, overtaking, DIRECT_ROWS_MOST};
 use dairyepoch_tests::lines::{self, LINE_WORDS, WORK_WORDS};
 use dairyepoch_tests::reference;
+use dairyepoch_tests::tables;
 use dairyepoch_tests::timetable::Timetable;
 use dairyepoch_tests::words::{text_of, to_words, TIMETABLE_WORDS};
 
-const ROUNDS: usize = 1_001;
+const ROUNDS_MOST: usize = 1_001;
+const ROUNDS_LEAST: usize = 5;
+/// After this time there are no further rounds, but for the least number.
+const ENOUGH: Duration = Duration::from_secs(5);
 
 fn main() {
     let text = long_lines().to_text();
     let mut words = vec![0; TIMETABLE_WORDS];
     let lines = 64 + 2_048;
     assert_eq!(read(&text, &mut words), Reply { number: 0, beside: lines }, "the largest text is accepted");
-    println!("the largest timetable: {lines} lines, {} bytes; medians of {ROUNDS} rounds", text.len());
+    println!("the largest timetable: {lines} lines, {} bytes; medians of up to {ROUNDS_MOST} rounds", text.len());
 
     let table = words.clone();
     let [reading, reference, question, reference_question] = medians([
@@ -41,6 +46,11 @@ fn main() {
     report("question 9 on its words", question, reference_question);
     building("line tables of one line", &long_lines(), 1);
     building("line tables of 256 lines", &overtaking(), 256);
+    asking("question 10 on one line", &long_lines());
+    asking("question 10 on 256 lines", &overtaking());
+    querying("direct rides on one line of 256 trips", &long_lines(), Query { from: 60, to: 61, minute: 0 }, 1);
+    querying("direct rides on 256 lines of one trip", &overtaking(), Query { from: 1, to: 64, minute: 0 }, 1);
+    querying("direct rides in 507 rows", &most_rows(), Query { from: 1, to: 2, minute: 0 }, DIRECT_ROWS_MOST);
 }
 
 /// Times building, with question 9 on both sides and then without it on the reference's.
@@ -67,10 +77,81 @@ fn building(what: &str, timetable: &Timetable, lines: u32) {
     report(&format!("{what}, the reference not asking"), library, alone);
 }
 
+/// The words of a timetable and of its line tables, as they are lent.
+fn lent(timetable: &Timetable) -> [Vec<u16>; 2] {
+    [(to_words(timetable), TIMETABLE_WORDS), (lines::to_words(timetable), LINE_WORDS)].map(|(mut words, length)| {
+        words.resize(length, 0);
+        words
+    })
+}
+
+/// Times question 10 to tables that have a yes, lent with timetable words and alone.
+fn asking(what: &str, timetable: &Timetable) {
+    let [table, lines] = lent(timetable);
+    let (mut work, mut work_alone) = (vec![0; WORK_WORDS], vec![0; WORK_WORDS]);
+    let yes = Reply { number: 0, beside: 0 };
+    assert_eq!(check_lines(&table, &lines, &mut work), yes, "with its timetable");
+    assert_eq!(check_lines_alone(&lines, &mut work), yes, "alone");
+    let [with, reference_with, alone, reference_alone] = medians([
+        &mut || {
+            black_box(check_lines(black_box(&table), black_box(&lines), &mut work));
+        },
+        &mut || {
+            let text = text_of(black_box(&table)).expect("the words have a text");
+            let timetable = reference::read(&text).expect("the text of words is accepted");
+            black_box(tables::are_of(&timetable, black_box(&lines)));
+        },
+        &mut || {
+            black_box(check_lines_alone(black_box(&lines), &mut work_alone));
+        },
+        &mut || {
+            black_box(tables::timetable_of(black_box(&lines)));
+        },
+    ]);
+    report(&format!("{what}, with timetable words"), with, reference_with);
+    report(&format!("{what}, alone"), alone, reference_alone);
+}
+
+/// Times a direct query beside a scan of all trips that asks nothing, and tells how much of it the questions take.
+fn querying(what: &str, timetable: &Timetable, query: Query, rows: u32) {
+    let [table, lines] = lent(timetable);
+    let (mut work, mut work_asked) = (vec![0; WORK_WORDS], vec![0; WORK_WORDS]);
+    let mut answer = vec![0; ROW_WORDS * rows as usize];
+    let mut scanned = Vec::with_capacity(DIRECT_ROWS_MOST as usize + 1);
+    let reply = ffi::direct(&table, &lines, &mut work, query, &mut answer);
+    direct::scan(&table, query, &mut scanned);
+    assert_eq!(reply, Reply { number: 0, beside: rows }, "{query:?}");
+    assert_eq!(answer, direct::to_words(&scanned), "{query:?}");
+    let [library, scan, nine, nine_and_ten] = medians([
+        &mut || {
+            black_box(ffi::direct(black_box(&table), &lines, &mut work, query, &mut answer));
+        },
+        &mut || {
+            direct::scan(black_box(&table), black_box(query), &mut scanned);
+            black_box(&scanned);
+        },
+        &mut || {
+            black_box(check_timetable(black_box(&table)));
+        },
+        &mut || {
+            black_box(check_lines(black_box(&table), &lines, &mut work_asked));
+        },
+    ]);
+    report(&format!("{what}, against a scan of all trips"), library, scan);
+    let part = |part: Duration| 100.0 * part.as_secs_f64() / library.as_secs_f64();
+    let (nine_part, both_part) = (part(nine), part(nine_and_ten));
+    println!("  of these question 9 {nine:.1?} ({nine_part:.0} %), 9 and 10 {nine_and_ten:.1?} ({both_part:.0} %)");
+    report("  the rest, against the scan", library.saturating_sub(nine_and_ten), scan);
+}
+
 /// Runs the works in turn, so that what else the machine does falls on all of them, and takes each one's median.
 fn medians<const N: usize>(mut works: [&mut dyn FnMut(); N]) -> [Duration; N] {
     let mut times = [const { Vec::new() }; N];
-    for _ in 0..ROUNDS {
+    let began = Instant::now();
+    for round in 0..ROUNDS_MOST {
+        if round >= ROUNDS_LEAST && began.elapsed() > ENOUGH {
+            break;
+        }
         for (work, times) in works.iter_mut().zip(&mut times) {
             let began = Instant::now();
             work();
@@ -79,7 +160,7 @@ fn medians<const N: usize>(mut works: [&mut dyn FnMut(); N]) -> [Duration; N] {
     }
     times.map(|mut times| {
         times.sort_unstable();
-        times[ROUNDS / 2]
+        times[times.len() / 2]
     })
 }
 

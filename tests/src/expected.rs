@@ -1,0 +1,132 @@
+//! What each call must reply and write: document 01's questions, in its order, put to what the other modules hold of
+//! the lent words.
+
+use crate::direct::{self, Query, Ride};
+use crate::ffi::Reply;
+use crate::lines::{self, LINE_WORDS, WORK_WORDS};
+use crate::reference;
+use crate::tables;
+use crate::timetable::{Stop, Timetable, LAST_MINUTE};
+use crate::words::{text_of, to_words, TIMETABLE_WORDS};
+
+/// The reply, and the words of the result: none on a refusal.
+pub type Expected<W> = (Reply, Vec<W>);
+
+/// The count and the words of a result, or the number of the first question that had a no.
+type Answer<W> = Result<(u32, Vec<W>), u32>;
+
+/// Reading `text` into a slice of `length` words.
+pub fn read(text: &[u8], length: usize) -> Expected<u16> {
+    if length < TIMETABLE_WORDS {
+        return refusal(8, 0);
+    }
+    match reference::read(text) {
+        Ok(timetable) => {
+            let lines = timetable.stations.len() + timetable.trips.iter().map(Vec::len).sum::<usize>();
+            (Reply { number: 0, beside: lines as u32 }, to_words(&timetable))
+        }
+        Err(reference::Refusal { number, line }) => refusal(number, line),
+    }
+}
+
+/// Building of `timetable` into a slice of `length` words.
+pub fn build_lines(timetable: &[u16], length: usize, work_length: usize) -> Expected<u16> {
+    let answer = || {
+        let timetable = lent_timetable(timetable, length, work_length)?;
+        Ok((lines::lines(&timetable).len() as u32, lines::to_words(&timetable)))
+    };
+    expected(answer())
+}
+
+/// Question 10 to `lines`, lent with timetable words.
+pub fn check_lines(timetable: &[u16], lines: &[u16], work_length: usize) -> Reply {
+    reply(lent_both(timetable, lines, work_length).map(|_| 0))
+}
+
+/// Question 10 to `lines`, lent without any.
+pub fn check_lines_alone(lines: &[u16], work_length: usize) -> Reply {
+    reply(lent_lines(lines, work_length).map(|_| 0))
+}
+
+/// The piece of one line.
+pub fn line_trips(lines: &[u16], work_length: usize, line: u32) -> Reply {
+    let answer = || {
+        let piece = tables::piece(&lent_lines(lines, work_length)?, line).ok_or(11u32)?;
+        Ok((piece.start * 65_536 + piece.len()) as u32)
+    };
+    reply(answer())
+}
+
+/// A direct query, with an answer slice of `length` words.
+pub fn direct(timetable: &[u16], lines: &[u16], work_length: usize, query: Query, length: usize) -> Expected<u32> {
+    let answer = || {
+        let parsed = lent_both(timetable, lines, work_length)?;
+        let listed = |station: u32| (1..=parsed.stations.len() as u32).contains(&station);
+        ask(listed(query.from) && listed(query.to) && query.from != query.to, 11)?;
+        ask(query.minute <= LAST_MINUTE.into(), 12)?;
+        let rows = direct_rows(&parsed, timetable, query);
+        ask(!rows.is_empty(), 14)?;
+        let words = direct::to_words(&rows);
+        ask(length >= words.len(), 15)?;
+        Ok((rows.len() as u32, words))
+    };
+    expected(answer())
+}
+
+/// By listing all rides, where they are not too many to be held against each other.
+fn direct_rows(timetable: &Timetable, words: &[u16], query: Query) -> Vec<Ride> {
+    let meets = |trip: &[Stop], station: u32| trip.iter().filter(|stop| u32::from(stop.station) == station).count();
+    let rides_most: usize = timetable.trips.iter().map(|trip| meets(trip, query.from) * meets(trip, query.to)).sum();
+    if rides_most <= 2_000 {
+        return direct::rows(timetable, query);
+    }
+    let mut rows = Vec::new();
+    direct::scan(words, query, &mut rows);
+    rows
+}
+
+/// Questions 8 and 9 to a timetable that is lent with line tables of this length.
+fn lent_timetable(timetable: &[u16], lines_length: usize, work_length: usize) -> Result<Timetable, u32> {
+    ask(timetable.len() >= TIMETABLE_WORDS && lines_length >= LINE_WORDS && work_length >= WORK_WORDS, 8)?;
+    let text = text_of(timetable).ok_or(9u32)?;
+    Ok(reference::read(&text).expect("the words have this text"))
+}
+
+/// Questions 8 to 10 to a timetable and line tables that are lent together.
+fn lent_both(timetable: &[u16], lines: &[u16], work_length: usize) -> Result<Timetable, u32> {
+    let timetable = lent_timetable(timetable, lines.len(), work_length)?;
+    ask(tables::are_of(&timetable, lines), 10)?;
+    Ok(timetable)
+}
+
+/// Questions 8 and 10 to line tables that are lent without a timetable.
+fn lent_lines(lines: &[u16], work_length: usize) -> Result<Timetable, u32> {
+    ask(lines.len() >= LINE_WORDS && work_length >= WORK_WORDS, 8)?;
+    tables::timetable_of(lines).ok_or(10)
+}
+
+fn ask(yes: bool, number: u32) -> Result<(), u32> {
+    if yes {
+        Ok(())
+    } else {
+        Err(number)
+    }
+}
+
+fn expected<W>(answer: Answer<W>) -> Expected<W> {
+    match answer {
+        Ok((beside, words)) => (Reply { number: 0, beside }, words),
+        Err(number) => refusal(number, 0),
+    }
+}
+
+fn reply(answer: Result<u32, u32>) -> Reply {
+    match answer {
+        Ok(beside) => Reply { number: 0, beside },
+        Err(number) => Reply { number, beside: 0 },
+    }
+}
+
+fn refusal<W>(number: u32, line: u32) -> Expected<W> {
+    (Reply { number, beside: line }, Vec::new())
+}

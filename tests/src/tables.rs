@@ -1,0 +1,105 @@
+//! Line tables that are lent to a call: question 10, and where in them the trips of one line stand.
+
+use std::ops::Range;
+
+use crate::lines;
+use crate::reference;
+use crate::timetable::{Onward, Station, Stop, Timetable, STATIONS_MOST, TRIPS_MOST};
+use crate::words::take;
+
+/// Do the words begin with the line tables of this timetable?
+pub fn are_of(timetable: &Timetable, words: &[u16]) -> bool {
+    words.starts_with(&lines::to_words(timetable))
+}
+
+/// An accepted timetable with the line tables that `words` begins with, if there is one. Line tables tell nothing of
+/// changes: its stations have change minutes 0 and change penalty 1.
+///
+/// Nothing is judged here but whether the words can be taken apart: the text of the timetable that they would have is
+/// written out, and the reader decides whether it is a text at all and leads back to the same words.
+pub fn timetable_of(words: &[u16]) -> Option<Timetable> {
+    let timetable = reference::read(&from_words(words)?.to_text()).ok()?;
+    are_of(&timetable, words).then_some(timetable)
+}
+
+fn from_words(words: &[u16]) -> Option<Timetable> {
+    let [stations, lines, trips] = words.first_chunk()?.map(usize::from);
+    if stations > STATIONS_MOST || lines > trips || trips > TRIPS_MOST {
+        return None; // too many to be written out
+    }
+    let mut stops_of_trips = vec![None; trips];
+    for &begin in words.get(4..4 + lines)? {
+        for (number, stops) in line_from_words(words.get(usize::from(begin)..)?)? {
+            *stops_of_trips.get_mut(usize::from(number).checked_sub(1)?)? = Some(stops);
+        }
+    }
+    let station = Station { change_minutes: 0, change_penalty: 1 };
+    Some(Timetable { stations: vec![station; stations], trips: stops_of_trips.into_iter().collect::<Option<_>>()? })
+}
+
+/// The trips of the line whose words these begin with, each with its number.
+fn line_from_words(words: &[u16]) -> Option<Vec<(u16, Vec<Stop>)>> {
+    let (counts, mut rest) = words.split_first_chunk()?;
+    let [positions, trips] = counts.map(usize::from);
+    let numbers = take(&mut rest, trips)?;
+    let course = take(&mut rest, 2 * positions)?;
+    let times = take(&mut rest, 2 * positions * trips)?;
+    let stop = |place: usize, position: usize| {
+        let (arrivals, departures) = times[2 * trips * position..][..2 * trips].split_at(trips);
+        let onward = Onward { depart: departures[place], penalty: course[2 * position + 1] };
+        Stop {
+            station: course[2 * position],
+            arrive: (position > 0).then_some(arrivals[place]),
+            onward: (position + 1 < positions).then_some(onward),
+        }
+    };
+    let stops = |place: usize| (0..positions).map(|position| stop(place, position)).collect();
+    Some(numbers.iter().enumerate().map(|(place, &number)| (number, stops(place))).collect())
+}
+
+/// Where in the timetable's line tables the numbers of a line's trips stand, if there is this line.
+pub fn piece(timetable: &Timetable, line: u32) -> Option<Range<usize>> {
+    let lines = lines::lines(timetable);
+    let place = usize::try_from(line).ok()?.checked_sub(1)?;
+    let trips = lines.get(place)?.len();
+    let words = |line: &Vec<usize>| {
+        let (positions, trips) = (timetable.trips[line[0]].len(), line.len());
+        2 + trips + 2 * positions + 2 * positions * trips
+    };
+    let start = 4 + lines.len() + lines[..place].iter().map(words).sum::<usize>() + 2;
+    Some(start..start + trips)
+}
+
+#[cfg(test)]
+mod tests {
+    use super::*;
+    use crate::examples::M;
+    use crate::generate::{crowded, timetable, with_shared_ways, CROWDED, LARGE, MIDDLING, SMALL};
+    use crate::random::Random;
+
+    #[test]
+    fn line_tables_lead_back_to_their_timetables() {
+        let mut random = Random::new(1);
+        for (size, count) in [(CROWDED, 500), (SMALL, 500), (MIDDLING, 200), (LARGE, 20)] {
+            for _ in 0..count {
+                let mut timetable = match random.below(3) {
+                    0 => timetable(&mut random, &size),
+                    1 => with_shared_ways(&mut random, &size),
+                    _ => crowded(&mut random, &CROWDED),
+                };
+                let mut words = lines::to_words(&timetable);
+                let length = words.len();
+                words.push(random.word());
+                timetable.stations.fill(Station { change_minutes: 0, change_penalty: 1 });
+                assert_eq!(timetable_of(&words), Some(timetable));
+                assert_eq!(timetable_of(&words[..length - 1]), None);
+            }
+        }
+    }
+
+    #[test]
+    fn the_pieces_of_m() {
+        let m = reference::read(M.as_bytes()).expect("M is accepted");
+        assert_eq!([0, 1, 2, 3].map(|line| piece(&m, line)), [None, Some(8..9), Some(23..25), None]);
+    }
+}
