@@ -6,4 +6,3 @@ pub mod CallLaws
 pub mod KeepLaws
 pub mod RowLaws
 pub mod ShownLaws
-pub mod BlankLaws

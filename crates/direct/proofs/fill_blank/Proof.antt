@@ -4,7 +4,7 @@ use Prim.Native.Nat.{_≤_, _-_}
 use mathlib.Core.List.{_++_}
 use lib.ListN.{length, drop, replicate}
 use Rattle.direct.specs.Choosing.{noPoints}
-use Rattle.direct.proofs.BlankLaws.{blank-more, blank-done}
+use Rattle.direct.proofs.NoteLaws.{blank-more, blank-done}
 use borrow.Author.Needs.{needs}
 use Rattle.direct.proofs.fill_blank.Statement.{statement}
 use Rattle.direct.proofs.fill_blank.Tie as tie
