@@ -29,6 +29,7 @@ const STATIONS: usize = 66;
 
 // The flags of so many nodes are found in one go: 64 for each node.
 const CHUNK: usize = 32;
+
 const FLAGS: usize = 2048;
 
 // A store has fewer arcs than this.
@@ -221,7 +222,22 @@ fn mark_nodes(
 {
     let mut node = lo;
     while node < hi {
-        mark_at(words, chain, first, catch, work, lo, node, source, d, allowed, q, x, arcs, kids);
+        mark_at(
+            words,
+            chain,
+            first,
+            catch,
+            work,
+            lo,
+            node,
+            source,
+            d,
+            allowed,
+            q,
+            x,
+            arcs,
+            kids,
+        );
         node += 1;
     }
 }
@@ -298,7 +314,22 @@ fn mark_minute(
         × (length (now (kids .exit)) ≡ 2048) ⌝ }
 {
     judge(words, order, n, arrivals, begins, catch, source, d, v, q, x);
-    mark_nodes(words, chain, first, catch, work, lo, hi, source, d, v, q, x, arcs, kids);
+    mark_nodes(
+        words,
+        chain,
+        first,
+        catch,
+        work,
+        lo,
+        hi,
+        source,
+        d,
+        v,
+        q,
+        x,
+        arcs,
+        kids,
+    );
 }
 
 // ---- the marks of the nodes, over all minutes
@@ -352,8 +383,8 @@ fn mark_departure(
         × (getD (now first) source 0 ≤ p)
         × (p < getD (now first) (source + 1) 0)
         × Sought (now words) source (now chain) (getD (now first) source 0) p last lo hi (now arcs) (now kids) ⌝ }
-    ensures { λ r. ⌜ Sought (now (words .entry)) source (now (chain .entry)) (getD (now (first .entry)) source 0) (p + 1)
-        r lo hi (now (arcs .exit)) (now (kids .exit))
+    ensures { λ r. ⌜ Sought (now (words .entry)) source (now (chain .entry)) (getD (now (first .entry)) source 0)
+        (p + 1) r lo hi (now (arcs .exit)) (now (kids .exit))
         × (length (now (v .exit)) ≡ 2048)
         × (length (now (q .exit)) ≡ 2048)
         × (length (now (x .exit)) ≡ 2048)
@@ -365,7 +396,24 @@ fn mark_departure(
         return d;
     }
     mark_minute(
-        words, order, n, chain, first, arrivals, begins, catch, work, lo, hi, source, d, v, q, x, arcs, kids,
+        words,
+        order,
+        n,
+        chain,
+        first,
+        arrivals,
+        begins,
+        catch,
+        work,
+        lo,
+        hi,
+        source,
+        d,
+        v,
+        q,
+        x,
+        arcs,
+        kids,
     );
     d
 }
@@ -436,7 +484,25 @@ fn mark_departures(
     let mut last = NO_MINUTE;
     while p < end {
         last = mark_departure(
-            words, order, n, chain, first, arrivals, begins, catch, work, lo, hi, source, p, last, v, q, x, arcs, kids,
+            words,
+            order,
+            n,
+            chain,
+            first,
+            arrivals,
+            begins,
+            catch,
+            work,
+            lo,
+            hi,
+            source,
+            p,
+            last,
+            v,
+            q,
+            x,
+            arcs,
+            kids,
         );
         p += 1;
     }
@@ -485,7 +551,23 @@ fn mark_chunk(
     clear(arcs);
     clear(kids);
     mark_departures(
-        words, order, n, chain, first, arrivals, begins, catch, work, lo, hi, source, v, q, x, arcs, kids,
+        words,
+        order,
+        n,
+        chain,
+        first,
+        arrivals,
+        begins,
+        catch,
+        work,
+        lo,
+        hi,
+        source,
+        v,
+        q,
+        x,
+        arcs,
+        kids,
     );
 }
 
@@ -550,7 +632,8 @@ fn grow_chunk(
         × (lo ≤ hi)
         × (hi ≤ nodes + 1)
         × (hi ≤ lo + 32) ⌝ }
-    ensures { λ r. ⌜ Reached (sequences (now (words .entry)) source) source (now (work .exit)) (now (targets .exit)) hi r ⌝ }
+    ensures { λ r. ⌜ Reached (sequences (now (words .entry)) source) source (now (work .exit)) (now (targets .exit)) hi
+        r ⌝ }
 {
     let mut v = [0u32; STOPS_MOST];
     let mut q = [0u32; STOPS_MOST];
@@ -558,8 +641,23 @@ fn grow_chunk(
     let mut arcs = [0u8; FLAGS];
     let mut kids = [0u8; FLAGS];
     mark_chunk(
-        words, order, count, chain, first, arrivals, begins, catch, work, lo, hi, source, &mut v, &mut q, &mut x,
-        &mut arcs, &mut kids,
+        words,
+        order,
+        count,
+        chain,
+        first,
+        arrivals,
+        begins,
+        catch,
+        work,
+        lo,
+        hi,
+        source,
+        &mut v,
+        &mut q,
+        &mut x,
+        &mut arcs,
+        &mut kids,
     );
     take_chunk(work, targets, lo, hi, nodes, ends, &arcs, &kids)
 }
@@ -603,7 +701,21 @@ fn grow(
     while lo <= n {
         let hi = chunk_end(lo, n);
         let taken = grow_chunk(
-            words, order, count, chain, first, arrivals, begins, catch, source, work, targets, lo, hi, n, m,
+            words,
+            order,
+            count,
+            chain,
+            first,
+            arrivals,
+            begins,
+            catch,
+            source,
+            work,
+            targets,
+            lo,
+            hi,
+            n,
+            m,
         );
         if !taken.fits {
             return taken;
@@ -680,7 +792,17 @@ fn grow_tree(
     list_arrivals(words, work, &mut arrivals, &mut begins);
     growing::plant_root(work, source as u32);
     grow(
-        words, order, count, chain, first, &arrivals, &begins, catch, source, work, targets,
+        words,
+        order,
+        count,
+        chain,
+        first,
+        &arrivals,
+        &begins,
+        catch,
+        source,
+        work,
+        targets,
     )
 }
 
@@ -700,7 +822,17 @@ fn make_tree(words: &[u16], source: usize, work: &mut [u32], targets: &mut [u8])
     let mut first = [0u32; STATIONS];
     let mut catch = [0u16; STOPS_MOST];
     let count = list_departures(words, work, &mut order, &mut chain, &mut first, &mut catch);
-    grow_tree(words, &order, count, &chain, &first, &catch, source, work, targets)
+    grow_tree(
+        words,
+        &order,
+        count,
+        &chain,
+        &first,
+        &catch,
+        source,
+        work,
+        targets,
+    )
 }
 
 // Makes and writes the store of the source.
@@ -731,7 +863,13 @@ fn make(words: &[u16], work: &mut [u32], source: usize, store: &mut [u16]) -> Re
 }
 
 // The store of one source. Working space may hold any words afterwards.
-pub fn make_store(words: &[u16], lines: &[u16], work: &mut [u32], source: u32, store: &mut [u16]) -> Reply
+pub fn make_store(
+    words: &[u16],
+    lines: &[u16],
+    work: &mut [u32],
+    source: u32,
+    store: &mut [u16],
+) -> Reply
     ensures reply { λ r. ⌜ r
         ≡ storeReply
         (now (words .entry))
