@@ -24,12 +24,13 @@ use replies::Reply;
 // A timetable has at most so many stops.
 const STOPS_MOST: usize = 2048;
 
-// Stations count from 1, 64 at most; where each one's departures begin, and where those of the last end.
-const STATIONS: usize = 66;
+// Stations count from 1, 64 at most, and the departures of each end where those of the next one begin.
+const BEGINS: usize = 66;
 
-// The flags of so many nodes are found in one go: 64 for each node.
+// The arcs and kids of so many nodes are found in one go.
 const CHUNK: usize = 32;
 
+// Their flags, 64 for each node.
 const FLAGS: usize = 2048;
 
 // A store has fewer arcs than this.
@@ -418,6 +419,7 @@ fn mark_departure(
     d
 }
 
+// Takes down all flags.
 fn clear(flags: &mut [u8])
     ensures { λ _. ⌜ Down (now (flags .exit)) × (length (now (flags .exit)) ≡ length (now (flags .entry))) ⌝ }
 {
@@ -508,7 +510,7 @@ fn mark_departures(
     }
 }
 
-// The same where the flags may be any.
+// The same, whatever the flags were before.
 fn mark_chunk(
     words: &[u16],
     order: &[u16],
@@ -573,7 +575,7 @@ fn mark_chunk(
 
 // ---- the tree
 
-// Takes the nodes from lo up to hi, whose flags are told. Answers the numbers of nodes and arcs then, if they fit.
+// Takes the nodes from lo up to hi by their flags. Answers the numbers of nodes and arcs then, if they fit.
 fn take_chunk(
     work: &mut [u32],
     targets: &mut [u8],
@@ -662,7 +664,7 @@ fn grow_chunk(
     take_chunk(work, targets, lo, hi, nodes, ends, &arcs, &kids)
 }
 
-// The nodes from lo on, of nodes 0 to n, that make the next chunk end before this one.
+// Where the chunk ends that begins with node lo, the last node being n.
 fn chunk_end(lo: usize, n: usize) -> usize
     requires { ⌜ (lo ≤ n) × (n ≤ 16383) ⌝ }
     ensures { λ r. ⌜ (lo < r) × (r ≤ n + 1) × (r ≤ lo + 32) ⌝ }
@@ -788,7 +790,7 @@ fn grow_tree(
     ensures { λ r. ⌜ Whole (sequences (now (words .entry)) source) source (now (work .exit)) (now (targets .exit)) r ⌝ }
 {
     let mut arrivals = [0u16; STOPS_MOST];
-    let mut begins = [0u32; STATIONS];
+    let mut begins = [0u32; BEGINS];
     list_arrivals(words, work, &mut arrivals, &mut begins);
     growing::plant_root(work, source as u32);
     grow(
@@ -819,7 +821,7 @@ fn make_tree(words: &[u16], source: usize, work: &mut [u32], targets: &mut [u8])
 {
     let mut order = [0u16; STOPS_MOST];
     let mut chain = [0u16; STOPS_MOST];
-    let mut first = [0u32; STATIONS];
+    let mut first = [0u32; BEGINS];
     let mut catch = [0u16; STOPS_MOST];
     let count = list_departures(words, work, &mut order, &mut chain, &mut first, &mut catch);
     grow_tree(
