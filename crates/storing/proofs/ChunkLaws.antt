@@ -12,5 +12,6 @@ use Rattle.stopwise.specs.Stopwise.{depart}
 pub few-stations : (w : List ℕ) → isTimetable w ≡ true → stationCount w ≤ 64
 few-stations w sure = stations-few w sure
 
-pub minute-is : (w l : List ℕ) (p j : ℕ) (s : Stop) → j ≡ getD l p 0 → s ≡ stopAt w j → s .depart ≡ depart w (getD l p 0)
+pub minute-is : (w l : List ℕ) (p j : ℕ) (s : Stop) → j ≡ getD l p 0 → s ≡ stopAt w j
+    → s .depart ≡ depart w (getD l p 0)
 minute-is w l p j s e f = ap (λ s. s .depart) f ∙ ap (depart w) e

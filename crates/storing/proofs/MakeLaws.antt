@@ -1,16 +1,15 @@
 -- The ways out of making a store: it does not fit, there is too little room, or it is written.
-use mathlib.Core.Path.{_≡_, refl, sym, ap, subst, _∙_}
+use mathlib.Core.Path.{_≡_, sym, ap, subst, _∙_}
 use mathlib.Core.Bool.{Bool, true, false, not, _&&_}
 use mathlib.Core.Logic.{inl, inr}
-use mathlib.Core.List.{List, [], _∷_}
-use Prim.Native.Nat.{ℕ, suc, _+_, _*_, _≤_, _<_}
+use mathlib.Core.List.{List}
+use Prim.Native.Nat.{ℕ, suc, _+_, _*_, _^_, _≤_, _<_}
 use native.Mathlib.Omega.{arith}
 use borrow.Author.Tests.{le-leb, lt-leb, not-true, not-false}
 use lib.Dec.{leb}
-use lib.ListN.{length, getD}
-use Rattle.questions.specs.Question.{ask, firstNo, and-both, and-false}
+use lib.ListN.{length}
+use Rattle.questions.specs.Question.{and-false}
 use Rattle.words.specs.Put.{put}
-use Rattle.replies.specs.declared.Reply.{Reply}
 use Rattle.replies.specs.declared.Reply.the-variants.{Done, Refused}
 use Rattle.replies.specs.Replies.{reply-done, reply-refused, words-done, words-kept}
 use Rattle.timetable.specs.Words.{stationCount, isTimetable}
@@ -65,67 +64,72 @@ module _ (w : List ℕ) (a : ℕ) (work targets : List ℕ) (r : Counts)
     many-words old = words-15 w a old (many-fails (length old) many)
 
   -- ---- it fits
-  module _ (sure : isTimetable w ≡ true) (some : 1 ≤ a) (listed : a ≤ stationCount w) (fit : not (r .fits) ≡ false) where
-    grown : Grown (sequences w a) a work targets (r .n) (r .m) (suc (r .n))
-    grown = whole .taken (not-false (r .fits) fit)
+  module _ (sure : isTimetable w ≡ true) (some : 1 ≤ a) (listed : a ≤ stationCount w) (fit : not (r .fits) ≡ false)
+    where
+      grown : Grown (sequences w a) a work targets (r .n) (r .m) (suc (r .n))
+      grown = whole .taken (not-false (r .fits) fit)
 
-    pub nodes-few : r .n ≤ 16383
-    nodes-few = grown .few-nodes
+      pub nodes-few : r .n ≤ 16383
+      nodes-few = grown .few-nodes
 
-    pub arcs-few : r .m ≤ 16383
-    arcs-few = grown .few-arcs
+      pub arcs-few : r .m ≤ 16383
+      arcs-few = grown .few-arcs
 
-    is-made : Made (stationCount w) (sequences w a)
-    is-made = made w sure a some listed
+      pub count-small : 2 + 2 * r .n + 2 * r .m < 2 ^ 32
+      count-small = omega (arith, nodes-few, arcs-few)
 
-    pub finished : (stations : ℕ) → stations ≡ stationCount w → Finished stations work targets (r .n) (r .m)
-    finished stations e =
-        record {
-          sequences = sequences w a;
-          source = a;
-          made = subst (λ k. Made k (sequences w a)) (sym e) is-made;
-          grown = grown;
-        }
+      is-made : Made (stationCount w) (sequences w a)
+      is-made = made w sure a some listed
 
-    long : 2 + 2 * r .n + 2 * r .m ≡ length (storeOf w a)
-    unfolding storeWords
-    long = grown-length (sequences w a) (stationCount w) is-made a work targets (r .n) (r .m) grown
+      pub finished : (stations : ℕ) → stations ≡ stationCount w → Finished stations work targets (r .n) (r .m)
+      finished stations e =
+          record {
+            sequences = sequences w a;
+            source = a;
+            made = subst (λ k. Made k (sequences w a)) (sym e) is-made;
+            grown = grown;
+          }
 
-    fits-if : (m : ℕ) (b : Bool) → leb (length (storeOf w a)) m ≡ b → fits w a m ≡ b
-    fits-if m b e =
-        let n-is = grown-nodes (sequences w a) (stationCount w) is-made a work targets (r .n) (r .m) grown in
-        let m-is = grown-arcs (sequences w a) (stationCount w) is-made a work targets (r .n) (r .m) grown in
-        let few-n = grown .few-nodes in
-        let few-m = grown .few-arcs in
-        rw (
-          le-leb (length (nodes (sequences w a))) entriesMost (omega arith),
-          le-leb (length (arcs (sequences w a))) entriesMost (omega arith),
-          e,
-        )
+      long : 2 + 2 * r .n + 2 * r .m ≡ length (storeOf w a)
+      unfolding storeWords
+      long = grown-length (sequences w a) (stationCount w) is-made a work targets (r .n) (r .m) grown
 
-    module _ (m : ℕ) (short : m < 2 + 2 * r .n + 2 * r .m) where
-      pub short-reply : Refused 15 ≡ madeReply w a m
-      short-reply = reply-15 w a m (fits-if m false (lt-leb (length (storeOf w a)) m (omega (arith, long))))
+      fits-if : (m : ℕ) (b : Bool) → leb (length (storeOf w a)) m ≡ b → fits w a m ≡ b
+      fits-if m b e =
+          let n-is = grown-nodes (sequences w a) (stationCount w) is-made a work targets (r .n) (r .m) grown in
+          let m-is = grown-arcs (sequences w a) (stationCount w) is-made a work targets (r .n) (r .m) grown in
+          let few-n = grown .few-nodes in
+          let few-m = grown .few-arcs in
+          rw (
+            le-leb (length (nodes (sequences w a))) entriesMost (omega arith),
+            le-leb (length (arcs (sequences w a))) entriesMost (omega arith),
+            e,
+          )
 
-    pub short-words : (old : List ℕ) → length old < 2 + 2 * r .n + 2 * r .m → old ≡ madeAfter w a old
-    short-words old short =
-        words-15 w a old (fits-if (length old) false (lt-leb (length (storeOf w a)) (length old) (omega (arith, long))))
+      module _ (m : ℕ) (short : m < 2 + 2 * r .n + 2 * r .m) where
+        pub short-reply : Refused 15 ≡ madeReply w a m
+        short-reply = reply-15 w a m (fits-if m false (lt-leb (length (storeOf w a)) m (omega (arith, long))))
 
-    none-left : (m : ℕ) → 2 + 2 * r .n + 2 * r .m ≤ m → 0 ≡ madeNumber w a m
-    unfolding madeNumber
-    none-left m room = rw (fits-if m true (le-leb (length (storeOf w a)) m (omega (arith, long))))
+      pub short-words : (old : List ℕ) → length old < 2 + 2 * r .n + 2 * r .m → old ≡ madeAfter w a old
+      short-words old short =
+          words-15 w a old
+          (fits-if (length old) false (lt-leb (length (storeOf w a)) (length old) (omega (arith, long))))
 
-    pub done-reply : (m : ℕ) → 2 + 2 * r .n + 2 * r .m ≤ m → Done (2 + 2 * r .n + 2 * r .m) ≡ madeReply w a m
-    unfolding madeReply
-    done-reply m room =
-        ap Done long ∙ reply-done (madeNumber w a m) (length (storeOf w a)) (sym (none-left m room))
+      none-left : (m : ℕ) → 2 + 2 * r .n + 2 * r .m ≤ m → 0 ≡ madeNumber w a m
+      unfolding madeNumber
+      none-left m room = rw (fits-if m true (le-leb (length (storeOf w a)) m (omega (arith, long))))
 
-    pub done-words : (old new : List ℕ) (stations : ℕ) → stations ≡ stationCount w
-        → 2 + 2 * r .n + 2 * r .m ≤ length old
-        → ((ps : List (List ℕ)) (source : ℕ) → Made stations ps
-        → Grown ps source work targets (r .n) (r .m) (suc (r .n)) → new ≡ put 0 (encode ps) old)
-        → new ≡ madeAfter w a old
-    unfolding madeAfter storeWords
-    done-words old new stations e room wrote =
-        wrote (sequences w a) a (subst (λ k. Made k (sequences w a)) (sym e) is-made) grown
-        ∙ words-done (madeNumber w a (length old)) (storeOf w a) old (sym (none-left (length old) room))
+      pub done-reply : (m : ℕ) → 2 + 2 * r .n + 2 * r .m ≤ m → Done (2 + 2 * r .n + 2 * r .m) ≡ madeReply w a m
+      unfolding madeReply
+      done-reply m room =
+          ap Done long ∙ reply-done (madeNumber w a m) (length (storeOf w a)) (sym (none-left m room))
+
+      pub done-words : (old new : List ℕ) (stations : ℕ) → stations ≡ stationCount w
+          → 2 + 2 * r .n + 2 * r .m ≤ length old
+          → ((ps : List (List ℕ)) (source : ℕ) → Made stations ps
+          → Grown ps source work targets (r .n) (r .m) (suc (r .n)) → new ≡ put 0 (encode ps) old)
+          → new ≡ madeAfter w a old
+      unfolding madeAfter storeWords
+      done-words old new stations e room wrote =
+          wrote (sequences w a) a (subst (λ k. Made k (sequences w a)) (sym e) is-made) grown
+          ∙ words-done (madeNumber w a (length old)) (storeOf w a) old (sym (none-left (length old) room))

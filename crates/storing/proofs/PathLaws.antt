@@ -1,12 +1,13 @@
 -- A turn of reading the way to a node: the parent's way, and then the node's own station.
-use mathlib.Core.Path.{_≡_, refl, sym, ap, subst, _∙_}
+use mathlib.Core.Path.{_≡_, sym, ap, subst, _∙_}
 use mathlib.Core.List.{List, [], _∷_, _++_}
-use Prim.Native.Nat.{ℕ, _+_, _≤_, _<_}
+use Prim.Native.Nat.{ℕ, _+_, _<_}
 use native.Mathlib.Omega.{arith}
 use lib.ListN.{length, getD, set}
 use Rattle.words.specs.Put.{put, put-none, put-next}
 use Rattle.growing.specs.Tree.{stationIn, parentIn}
-use Rattle.storing.specs.Paths.{pathTo, Rooted, path-root, path-step, path-longer, path-room, parent-falls, parent-rooted}
+use Rattle.storing.specs.Paths.{pathTo, Rooted, path-root, path-step, path-longer, path-room}
+use Rattle.storing.specs.Paths.{parent-falls, parent-rooted}
 
 pub rooted-inside : (work : List ℕ) (v : ℕ) → Rooted work v → v < length work
 rooted-inside work v r = r .inside

@@ -4,7 +4,7 @@ use mathlib.Core.Path.{_≡_, refl, sym, ap, subst, _∙_}
 use mathlib.Core.Bool.{Bool}
 use mathlib.Core.Logic.{_⊎_, inl, inr, _↔_}
 use mathlib.Core.List.{List, _++_}
-use Prim.Native.Nat.{ℕ, zero, suc, _+_, _-_, _*_, _≤_, _<_}
+use Prim.Native.Nat.{ℕ, suc, _+_, _-_, _*_, _≤_, _<_}
 use native.Mathlib.Omega.{arith}
 use lib.Dec.{T, ltb, ltb→lt, nltb→le}
 use lib.ListN.{length, getD, take, drop, length-take, length-drop, length-append, List·getD-append}
@@ -95,7 +95,8 @@ module _ (lo v : ℕ) (l part : List ℕ) (long : length l ≡ 2048) (low : lo �
   pub marked-long : length (putPart (64 * (v - lo)) l part) ≡ 2048
   marked-long = put-long (64 * (v - lo)) l part room part-is ∙ long
 
-  pub marked-at : (Told : (b : ℕ) → Type 0) → Marked Told (partOf (64 * (v - lo)) l) part → MarkedAt Told lo v l (putPart (64 * (v - lo)) l part)
+  pub marked-at : (Told : (b : ℕ) → Type 0) → Marked Told (partOf (64 * (v - lo)) l) part
+      → MarkedAt Told lo v l (putPart (64 * (v - lo)) l part)
   marked-at Told marked =
       record {
         here = says;
@@ -110,10 +111,10 @@ module _ (lo v : ℕ) (l part : List ℕ) (long : length l ≡ 2048) (low : lo �
           let new-is = put-here (64 * (v - lo)) l part room part-is (b - 1) (omega arith) in
           let old-is = part-at (64 * (v - lo)) l (b - 1) (omega arith) in (
             λ e.
-            (elim (marked .exactly b s f .0 (sym new-is ∙ e)) [
-              | inl z ↦ inl (sym old-is ∙ z)
-              | inr t ↦ inr t
-            ]),
+                (elim (marked .exactly b s f .0 (sym new-is ∙ e)) [
+                  | inl z ↦ inl (sym old-is ∙ z)
+                  | inr t ↦ inr t
+                ]),
             λ e. new-is ∙ marked .exactly b s f .1 (elim e [ inl z ↦ inl (old-is ∙ z) | inr t ↦ inr t ]),
           )
 
@@ -173,18 +174,20 @@ module _ (lo hi : ℕ) where
   shown-more Told Now Next old new s r next =
       record {
         here =
-            λ v b h g f t.
-            (λ e.
-            next v b .1
-            (elim (r .here v b h g f t .0 e) [
-              | inl z ↦ inl (s .here v b h g f t .0 z)
-              | inr z ↦ inr z
-            ]), λ e.
-            r .here v b h g f t .1
-            (elim (next v b .0 e) [
-              | inl z ↦ inl (s .here v b h g f t .1 z)
-              | inr z ↦ inr z
-            ]));
+            λ v b h g f t. (
+              λ e.
+                  next v b .1
+                  (elim (r .here v b h g f t .0 e) [
+                    | inl z ↦ inl (s .here v b h g f t .0 z)
+                    | inr z ↦ inr z
+                  ]),
+              λ e.
+                  r .here v b h g f t .1
+                  (elim (next v b .0 e) [
+                    | inl z ↦ inl (s .here v b h g f t .1 z)
+                    | inr z ↦ inr z
+                  ]),
+            );
       }
 
   pub shown-same : (Told Next : (v b : ℕ) → Type 0) (flags : List ℕ) → Shown Told lo hi flags

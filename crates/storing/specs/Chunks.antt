@@ -1,7 +1,7 @@
--- The tree grows chunk by chunk: the flags of the nodes of a chunk are found in one go, and then the nodes are taken one
--- after the other.
-use mathlib.Core.Path.{_≡_, refl, sym, ap, subst, _∙_}
-use mathlib.Core.Bool.{Bool, true, false, not}
+-- The tree grows chunk by chunk: the flags of the nodes of a chunk are found in one go, and then the nodes are taken
+-- one after the other.
+use mathlib.Core.Path.{_≡_, sym, ap, subst, _∙_}
+use mathlib.Core.Bool.{true, false, not}
 use mathlib.Core.List.{List, _++_}
 use Prim.Native.Nat.{ℕ, suc, _+_, _-_, _*_, _≤_, _<_}
 use native.Mathlib.Omega.{arith}
@@ -10,7 +10,7 @@ use lib.Dec.{T}
 use lib.ListN.{length, take, drop, length-append}
 use lib.Seq.{take-add}
 use Rattle.lists.specs.Lists.{concatMap}
-use Rattle.timetable.specs.Words.{stationCount, isTimetable}
+use Rattle.timetable.specs.Words.{stationCount}
 use Rattle.prospects.specs.Routes.{Routes}
 use Rattle.growing.specs.declared.Counts.{Counts}
 use Rattle.growing.specs.Tree.{hasArc, hasKid, children, rooted, nodeAt, Made, Grown, TooMany, Flags}
@@ -117,7 +117,8 @@ module _ (work₀ targets₀ : List ℕ) (n₀ m₀ lo hi : ℕ) (arcs kids : Li
                 omega (
                   arith,
                   c .on,
-                  grown-rises ps source work₀ targets₀ work targets n₀ m₀ lo n m v (c .grown) (u .grown ps source c) low,
+                  grown-rises ps source work₀ targets₀ work targets n₀ m₀ lo n m v (c .grown)
+                      (u .grown ps source c) low,
                 );
             arc-flags = c .arc-flags v low inside;
             kid-flags = c .kid-flags v low inside;
@@ -169,7 +170,8 @@ module _ (work₀ targets₀ : List ℕ) (n₀ m₀ lo hi : ℕ) (arcs kids : Li
 -- ---- the chunk of the stored sequences
 module _ (w order : List ℕ) (k : ℕ) (caught : List ℕ) (routes : Routes w order k caught) (a : ℕ) (some : 1 ≤ a)
     (listed : a ≤ stationCount w) (work targets : List ℕ) (n m lo hi : ℕ)
-    (grown : Grown (sequences w a) a work targets n m lo) (ordered : lo ≤ hi) (on : hi ≤ n + 1) (few : hi ≤ lo + 32) where
+    (grown : Grown (sequences w a) a work targets n m lo) (ordered : lo ≤ hi) (on : hi ≤ n + 1)
+    (few : hi ≤ lo + 32) where
   pub standing-to : StandingTo w a work hi
   standing-to =
       record { targets = targets; n = n; m = m; lo = lo; grown = grown; on = omega arith }
@@ -189,12 +191,12 @@ module _ (w order : List ℕ) (k : ℕ) (caught : List ℕ) (routes : Routes w o
           long-kids = long-kids;
           arc-flags =
               (λ v h g.
-              shown-flags lo hi (λ v b. hasArc (sequences w a) (nodeAt (sequences w a) v) b) arcs (chunked .arcs-up) v h g
-              (omega arith));
+              shown-flags lo hi (λ v b. hasArc (sequences w a) (nodeAt (sequences w a) v) b) arcs (chunked .arcs-up) v h
+              g (omega arith));
           kid-flags =
               (λ v h g.
-              shown-flags lo hi (λ v b. hasKid (sequences w a) (nodeAt (sequences w a) v) b) kids (chunked .kids-up) v h g
-              (omega arith));
+              shown-flags lo hi (λ v b. hasKid (sequences w a) (nodeAt (sequences w a) v) b) kids (chunked .kids-up) v h
+              g (omega arith));
         }
 
     pub some-chunk : SomeChunk work targets n m lo hi arcs kids

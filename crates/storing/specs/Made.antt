@@ -2,14 +2,14 @@
 -- question 15 alone is left.
 use mathlib.Core.Path.{_≡_, refl, sym, ap, _∙_}
 use mathlib.Core.Bool.{Bool, true, false, not}
-use mathlib.Core.List.{List, [], _∷_, _++_}
+use mathlib.Core.List.{List, [], _∷_}
 use Prim.Native.Nat.{ℕ, zero, suc, _≤_}
 use native.Mathlib.Omega.{arith}
 use borrow.Author.Tests.{leb-true, not-true, not-false}
 use lib.Dec.{leb}
 use lib.ListN.{length, take}
 use lib.Seq.{length-take-le}
-use Rattle.questions.specs.Question.{Question, ask, firstNo, yes-here, yes-later, and-left, and-right}
+use Rattle.questions.specs.Question.{ask, firstNo, yes-here, yes-later, and-left, and-right}
 use Rattle.replies.specs.declared.Reply.{Reply}
 use Rattle.replies.specs.declared.Reply.the-variants.{Refused}
 use Rattle.replies.specs.Replies.{replyOf, wordsAfter, reply-refused, words-kept}

@@ -7,8 +7,7 @@ use mathlib.Core.Logic.{_≢_, _↔_}
 use mathlib.Core.List.{List, [], _∷_, _++_, reverseAux, reverseAux-eq, reverse-reverse, append-assoc}
 use Prim.Native.Nat.{ℕ}
 use lib.Dec.{T}
-use lib.ListN.{length}
-use Rattle.lists.specs.Lists.{_∈_, concatMap}
+use Rattle.lists.specs.Lists.{_∈_}
 use Rattle.lists.specs.Members.{concatMap-in, concatMap-out}
 use Rattle.timetable.specs.Words.{isTimetable}
 use Rattle.stores.specs.Words.{beginnings}
@@ -18,7 +17,7 @@ use Rattle.stopwise.specs.Paid.{LeastArrivals}
 use Rattle.stopwise.specs.Prospects.{Allows, Ends, GoesOn}
 use Rattle.stopwise.specs.Settled.{Timely}
 use Rattle.stopwise.specs.RideStops.{netOf, spelled-sound}
-use Rattle.stopwise.specs.Marks.{Begins, ends-closing, goes-on-way}
+use Rattle.stopwise.specs.Marks.{ends-closing, goes-on-way}
 use Rattle.stopwise.specs.StoredMarks.{Source, way-stored, stored-way, sequence-end}
 use Rattle.growing.specs.Tree.{hasArc, hasKid}
 use Rattle.growing.specs.Numbering.{arc-out, arc-in, kid-out, kid-in}

@@ -1,20 +1,20 @@
 -- The nodes of the store's tree: stations of the timetable, none twice and none the source, so at most 63 of them.
-use mathlib.Core.Path.{_≡_, refl, sym, ap, subst, _∙_}
+use mathlib.Core.Path.{_≡_, refl, sym, subst}
 use mathlib.Core.Bool.{true}
 use mathlib.Core.Logic.{_≢_}
 use mathlib.Core.List.{List, [], _∷_, _++_, List·Memᴰ·head as here, List·Memᴰ·tail as there, Memᴰ·append-left}
 use Prim.Native.Nat.{ℕ, zero, suc, _+_, _≤_, _<_}
 use native.Mathlib.Omega.{arith}
 use lib.ListN.{length, getD, length-append}
-use Rattle.lists.specs.Lists.{_∈_, concatMap, Distinct}
-use Rattle.lists.specs.Members.{none, cons-cases, concatMap-out}
+use Rattle.lists.specs.Lists.{_∈_, Distinct}
+use Rattle.lists.specs.Members.{cons-cases, concatMap-out}
 use Rattle.lists.specs.Pigeonhole.{Within}
-use Rattle.timetable.specs.Words.{stationCount, isTimetable, timetableOf}
+use Rattle.timetable.specs.Words.{stationCount, isTimetable}
 use Rattle.timetable.specs.Check.{length-stations}
 use Rattle.connections.specs.OptimalLaws.{pattern-distinct}
 use Rattle.stores.specs.Words.{beginnings, nodes}
 use Rattle.stores.specs.Nodes.{node-out}
-use Rattle.stores.specs.StoredLaws.{stored-out, stored-short, sequence-is}
+use Rattle.stores.specs.StoredLaws.{stored-out, stored-short}
 use Rattle.stopwise.specs.RideStops.{netOf, spelled-sound}
 use Rattle.growing.specs.Tree.{rooted, nodeAt, Made}
 use Rattle.growing.specs.Numbering.{root-first, getD-in}
@@ -93,6 +93,7 @@ module _ (w : List ℕ) (yes : isTimetable w ≡ true) (a : ℕ) (some : 1 ≤ a
 
   pub sequenced : (v : ℕ) → v < length (rooted (sequences w a)) → Sequenced w a (nodeAt (sequences w a) v)
   sequenced v h =
-      cons-cases (subst (λ l. nodeAt (sequences w a) v ∈ l) (root-first (sequences w a)) (getD-in (rooted (sequences w a)) v h))
+      cons-cases
+      (subst (λ l. nodeAt (sequences w a) v ∈ l) (root-first (sequences w a)) (getD-in (rooted (sequences w a)) v h))
       (λ e. subst (Sequenced w a) (sym e) root)
       (λ m. node (nodeAt (sequences w a) v) m)

@@ -2,8 +2,8 @@
 -- the later passes rely on them.
 use mathlib.Core.Path.{_≡_, sym, ap, subst, _∙_}
 use mathlib.Core.Bool.{true}
-use mathlib.Core.List.{List, _∷_, _++_}
-use Prim.Native.Nat.{ℕ, zero, suc, _+_, _-_, _≤_, _<_}
+use mathlib.Core.List.{List}
+use Prim.Native.Nat.{ℕ, zero, suc, _+_, _-_, _≤_}
 use native.Mathlib.Nat.{add-zero}
 use native.Mathlib.Omega.{arith}
 use lib.ListN.{length, getD, take, drop, length-take}
@@ -12,7 +12,7 @@ use Rattle.words.specs.Put.{put, take-put}
 use Rattle.lists.specs.Lists.{_∈_, Distinct}
 use Rattle.timetable.specs.Words.{stationCount, isTimetable}
 use Rattle.timetable.specs.Access.{stations-few}
-use Rattle.stopwise.specs.Stopwise.{station, arrive, Goes}
+use Rattle.stopwise.specs.Stopwise.{station}
 use Rattle.stopwise.specs.Settled.{Timely}
 use Rattle.stopwise.specs.TimelyLaws.{timely}
 use Rattle.chains.specs.Order.{beginOf, order, chain, arrivals, stationKeys, byKey}

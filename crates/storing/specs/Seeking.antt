@@ -4,18 +4,16 @@ use mathlib.Core.Path.{_≡_, refl, sym, ap, subst, _∙_}
 use mathlib.Core.Bool.{true}
 use mathlib.Core.Logic.{_⊎_, inl, inr, _↔_}
 use mathlib.Core.List.{List}
-use Prim.Native.Nat.{ℕ, suc, _+_, _-_, _*_, _≤_, _<_}
+use Prim.Native.Nat.{ℕ, _+_, _-_, _*_, _≤_, _<_}
 use native.Mathlib.Omega.{arith}
 use lib.Dec.{T, ltb, ltb→lt, nltb→le}
 use lib.ListN.{length, getD}
-use lib.Seq.{slice}
 use Rattle.lists.specs.Lists.{_∈_}
 use Rattle.lists.specs.Tests.{either}
 use Rattle.timetable.specs.Words.{stationCount, isTimetable}
 use Rattle.timetable.specs.Access.{stations-few}
 use Rattle.stopwise.specs.Stopwise.{station, depart, Goes}
 use Rattle.stopwise.specs.TimelyLaws.{timely}
-use Rattle.stopwise.specs.StoredMarks.{Source}
 use Rattle.chains.specs.Order.{waiting}
 use Rattle.chains.specs.Parts.{waiting-in, waiting-out}
 use Rattle.prospects.specs.Routes.{Routes}
@@ -138,59 +136,60 @@ module _ (w order : List ℕ) (n : ℕ) (caught : List ℕ) (routes : Routes w o
     pub stop-few : getD chained p 0 < 2048
     stop-few = omega (arith, goes-few w yes (getD chained p 0) (departs .0))
 
-    module _ (last lo hi : ℕ) (arcs kids : List ℕ) (s : Sought w a chained (getD first a 0) p last lo hi arcs kids) where
-      pub sought-same : (d : ℕ) → d ≡ depart w (getD chained p 0) → d ≡ last
-          → Sought w a chained (getD first a 0) (p + 1) d lo hi arcs kids
-      sought-same d is same =
-          let from = getD first a 0 in
-          let in-time : last ≤ 2879 = omega (arith, timely w yes .leaves (getD chained p 0) (departs .0)) in
-          let e : depart w (getD chained p 0) ≡ last = sym is ∙ same in
-          record {
-            arcs-up =
-                shown-same lo hi
-                (λ v b. Seen w chained from p (λ d. ArcsAt w a d v b))
-                (λ v b. Seen w chained from (p + 1) (λ d. ArcsAt w a d v b))
-                arcs
-                (s .arcs-up)
-                (λ v b. seen-again w chained from p begun (λ d. ArcsAt w a d v b) last (s .seen-last) in-time e);
-            kids-up =
-                shown-same lo hi
-                (λ v b. Seen w chained from p (λ d. KidsAt w a d v b))
-                (λ v b. Seen w chained from (p + 1) (λ d. KidsAt w a d v b))
-                kids
-                (s .kids-up)
-                (λ v b. seen-again w chained from p begun (λ d. KidsAt w a d v b) last (s .seen-last) in-time e);
-            seen-last = inr (seen-here w chained from p begun (λ z. z ≡ d) (sym is));
-          }
+    module _ (last lo hi : ℕ) (arcs kids : List ℕ) (s : Sought w a chained (getD first a 0) p last lo hi arcs kids)
+      where
+        pub sought-same : (d : ℕ) → d ≡ depart w (getD chained p 0) → d ≡ last
+            → Sought w a chained (getD first a 0) (p + 1) d lo hi arcs kids
+        sought-same d is same =
+            let from = getD first a 0 in
+            let in-time : last ≤ 2879 = omega (arith, timely w yes .leaves (getD chained p 0) (departs .0)) in
+            let e : depart w (getD chained p 0) ≡ last = sym is ∙ same in
+            record {
+              arcs-up =
+                  shown-same lo hi
+                  (λ v b. Seen w chained from p (λ d. ArcsAt w a d v b))
+                  (λ v b. Seen w chained from (p + 1) (λ d. ArcsAt w a d v b))
+                  arcs
+                  (s .arcs-up)
+                  (λ v b. seen-again w chained from p begun (λ d. ArcsAt w a d v b) last (s .seen-last) in-time e);
+              kids-up =
+                  shown-same lo hi
+                  (λ v b. Seen w chained from p (λ d. KidsAt w a d v b))
+                  (λ v b. Seen w chained from (p + 1) (λ d. KidsAt w a d v b))
+                  kids
+                  (s .kids-up)
+                  (λ v b. seen-again w chained from p begun (λ d. KidsAt w a d v b) last (s .seen-last) in-time e);
+              seen-last = inr (seen-here w chained from p begun (λ z. z ≡ d) (sym is));
+            }
 
-      pub sought-more : (d : ℕ) (arcs′ kids′ : List ℕ) → d ≡ depart w (getD chained p 0)
-          → Raised (ArcsAt w a d) lo hi arcs arcs′ → Raised (KidsAt w a d) lo hi kids kids′
-          → Sought w a chained (getD first a 0) (p + 1) d lo hi arcs′ kids′
-      sought-more d arcs′ kids′ is up raised =
-          let from = getD first a 0 in
-          record {
-            arcs-up =
-                shown-more lo hi
-                (λ v b. Seen w chained from p (λ d. ArcsAt w a d v b))
-                (ArcsAt w a (depart w (getD chained p 0)))
-                (λ v b. Seen w chained from (p + 1) (λ d. ArcsAt w a d v b))
-                arcs
-                arcs′
-                (s .arcs-up)
-                (subst (λ d. Raised (ArcsAt w a d) lo hi arcs arcs′) is up)
-                (λ v b. seen-next w chained from p begun (λ d. ArcsAt w a d v b));
-            kids-up =
-                shown-more lo hi
-                (λ v b. Seen w chained from p (λ d. KidsAt w a d v b))
-                (KidsAt w a (depart w (getD chained p 0)))
-                (λ v b. Seen w chained from (p + 1) (λ d. KidsAt w a d v b))
-                kids
-                kids′
-                (s .kids-up)
-                (subst (λ d. Raised (KidsAt w a d) lo hi kids kids′) is raised)
-                (λ v b. seen-next w chained from p begun (λ d. KidsAt w a d v b));
-            seen-last = inr (seen-here w chained from p begun (λ z. z ≡ d) (sym is));
-          }
+        pub sought-more : (d : ℕ) (arcs′ kids′ : List ℕ) → d ≡ depart w (getD chained p 0)
+            → Raised (ArcsAt w a d) lo hi arcs arcs′ → Raised (KidsAt w a d) lo hi kids kids′
+            → Sought w a chained (getD first a 0) (p + 1) d lo hi arcs′ kids′
+        sought-more d arcs′ kids′ is up raised =
+            let from = getD first a 0 in
+            record {
+              arcs-up =
+                  shown-more lo hi
+                  (λ v b. Seen w chained from p (λ d. ArcsAt w a d v b))
+                  (ArcsAt w a (depart w (getD chained p 0)))
+                  (λ v b. Seen w chained from (p + 1) (λ d. ArcsAt w a d v b))
+                  arcs
+                  arcs′
+                  (s .arcs-up)
+                  (subst (λ d. Raised (ArcsAt w a d) lo hi arcs arcs′) is up)
+                  (λ v b. seen-next w chained from p begun (λ d. ArcsAt w a d v b));
+              kids-up =
+                  shown-more lo hi
+                  (λ v b. Seen w chained from p (λ d. KidsAt w a d v b))
+                  (KidsAt w a (depart w (getD chained p 0)))
+                  (λ v b. Seen w chained from (p + 1) (λ d. KidsAt w a d v b))
+                  kids
+                  kids′
+                  (s .kids-up)
+                  (subst (λ d. Raised (KidsAt w a d) lo hi kids kids′) is raised)
+                  (λ v b. seen-next w chained from p begun (λ d. KidsAt w a d v b));
+              seen-last = inr (seen-here w chained from p begun (λ z. z ≡ d) (sym is));
+            }
 
   -- ---- all departures of the source
   abbrev from : ℕ
@@ -227,7 +226,8 @@ module _ (w order : List ℕ) (n : ℕ) (caught : List ℕ) (routes : Routes w o
   once-seen : (At : ℕ → Type 0) → Once w a At → Seen w chained from end At
   once-seen At o =
       let g = o .source .g in
-      let there : g ∈ waiting w a = subst (λ c. g ∈ waiting w c) (o .source .here) (waiting-in w yes g (o .source .goes)) in
+      let there : g ∈ waiting w a =
+      subst (λ c. g ∈ waiting w c) (o .source .here) (waiting-in w yes g (o .source .goes)) in
       let k =
       placed chained from end g places-ordered (omega (arith, places-few, held .chain-long))
       (subst (λ l. g ∈ l) (sym (part-is w yes chained first held a few)) there) in

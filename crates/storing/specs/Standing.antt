@@ -1,7 +1,7 @@
 -- A node of the store's tree while it grows: the way to it, its station, and its marks for one minute.
 use mathlib.Core.Path.{_≡_, refl, sym, ap, subst, _∙_}
 use mathlib.Core.Bool.{true}
-use mathlib.Core.Logic.{_≢_, _⊎_, inl, inr, _↔_}
+use mathlib.Core.Logic.{inl, inr, _↔_}
 use mathlib.Core.List.{List, [], _∷_, reverseAux}
 use Prim.Native.Nat.{ℕ, zero, suc, _-_, _≤_, _<_}
 use native.Mathlib.Omega.{arith}
@@ -89,12 +89,14 @@ marked-same : (A B : ℕ → Type 0) (old new : List ℕ) → ((b : ℕ) → A b
 marked-same A B old new same m =
     record {
       exactly =
-          λ b h g.
-          (λ e.
-          (elim (m .exactly b h g .0 e) [
-            | inl o ↦ inl o
-            | inr t ↦ inr (same b .0 t)
-          ]), λ e. m .exactly b h g .1 (elim e [ inl o ↦ inl o | inr t ↦ inr (same b .1 t) ]));
+          λ b h g. (
+            λ e.
+                (elim (m .exactly b h g .0 e) [
+                  | inl o ↦ inl o
+                  | inr t ↦ inr (same b .0 t)
+                ]),
+            λ e. m .exactly b h g .1 (elim e [ inl o ↦ inl o | inr t ↦ inr (same b .1 t) ]),
+          );
       flags = m .flags;
     }
 
@@ -106,8 +108,8 @@ module _ (w : List ℕ) (yes : isTimetable w ≡ true) (a : ℕ) (some : 1 ≤ a
   named : (u : ℕ) → u ≤ s .n → Sequenced w a (nodeAt (sequences w a) u)
   named u h =
       sequenced w yes a some inside u
-      (grown-listed (sequences w a) (stationCount w) (made w yes a some inside) a work (s .targets) (s .n) (s .m) (s .lo)
-      (s .grown) u h)
+      (grown-listed (sequences w a) (stationCount w) (made w yes a some inside) a work (s .targets) (s .n) (s .m)
+      (s .lo) (s .grown) u h)
 
   pub node-rooted : Rooted work v
   node-rooted =

@@ -5,7 +5,7 @@ use mathlib.Core.List.{List, [], _∷_, _++_}
 use Prim.Native.Nat.{ℕ}
 use lib.Dec.{leb}
 use lib.ListN.{length}
-use Rattle.questions.specs.Question.{Question, ask, firstNo}
+use Rattle.questions.specs.Question.{ask, firstNo}
 use Rattle.replies.specs.declared.Reply.{Reply}
 use Rattle.replies.specs.Replies.{replyOf, wordsAfter}
 use Rattle.timetable.specs.Words.{timetableOf}

@@ -24,11 +24,13 @@ use replies::Reply;
 // A timetable has at most so many stops.
 const STOPS_MOST: usize = 2048;
 
-// Stations count from 1, 64 at most; where each one's departures begin, and where those of the last end.
-const STATIONS: usize = 66;
+// Stations count from 1, 64 at most, and the departures of each end where those of the next one begin.
+const BEGINS: usize = 66;
 
-// The flags of so many nodes are found in one go: 64 for each node.
+// The arcs and kids of so many nodes are found in one go.
 const CHUNK: usize = 32;
+
+// Their flags, 64 for each node.
 const FLAGS: usize = 2048;
 
 // A store has fewer arcs than this.
@@ -221,7 +223,22 @@ fn mark_nodes(
 {
     let mut node = lo;
     while node < hi {
-        mark_at(words, chain, first, catch, work, lo, node, source, d, allowed, q, x, arcs, kids);
+        mark_at(
+            words,
+            chain,
+            first,
+            catch,
+            work,
+            lo,
+            node,
+            source,
+            d,
+            allowed,
+            q,
+            x,
+            arcs,
+            kids,
+        );
         node += 1;
     }
 }
@@ -298,7 +315,22 @@ fn mark_minute(
         × (length (now (kids .exit)) ≡ 2048) ⌝ }
 {
     judge(words, order, n, arrivals, begins, catch, source, d, v, q, x);
-    mark_nodes(words, chain, first, catch, work, lo, hi, source, d, v, q, x, arcs, kids);
+    mark_nodes(
+        words,
+        chain,
+        first,
+        catch,
+        work,
+        lo,
+        hi,
+        source,
+        d,
+        v,
+        q,
+        x,
+        arcs,
+        kids,
+    );
 }
 
 // ---- the marks of the nodes, over all minutes
@@ -352,8 +384,8 @@ fn mark_departure(
         × (getD (now first) source 0 ≤ p)
         × (p < getD (now first) (source + 1) 0)
         × Sought (now words) source (now chain) (getD (now first) source 0) p last lo hi (now arcs) (now kids) ⌝ }
-    ensures { λ r. ⌜ Sought (now (words .entry)) source (now (chain .entry)) (getD (now (first .entry)) source 0) (p + 1)
-        r lo hi (now (arcs .exit)) (now (kids .exit))
+    ensures { λ r. ⌜ Sought (now (words .entry)) source (now (chain .entry)) (getD (now (first .entry)) source 0)
+        (p + 1) r lo hi (now (arcs .exit)) (now (kids .exit))
         × (length (now (v .exit)) ≡ 2048)
         × (length (now (q .exit)) ≡ 2048)
         × (length (now (x .exit)) ≡ 2048)
@@ -365,11 +397,29 @@ fn mark_departure(
         return d;
     }
     mark_minute(
-        words, order, n, chain, first, arrivals, begins, catch, work, lo, hi, source, d, v, q, x, arcs, kids,
+        words,
+        order,
+        n,
+        chain,
+        first,
+        arrivals,
+        begins,
+        catch,
+        work,
+        lo,
+        hi,
+        source,
+        d,
+        v,
+        q,
+        x,
+        arcs,
+        kids,
     );
     d
 }
 
+// Takes down all flags.
 fn clear(flags: &mut [u8])
     ensures { λ _. ⌜ Down (now (flags .exit)) × (length (now (flags .exit)) ≡ length (now (flags .entry))) ⌝ }
 {
@@ -436,13 +486,31 @@ fn mark_departures(
     let mut last = NO_MINUTE;
     while p < end {
         last = mark_departure(
-            words, order, n, chain, first, arrivals, begins, catch, work, lo, hi, source, p, last, v, q, x, arcs, kids,
+            words,
+            order,
+            n,
+            chain,
+            first,
+            arrivals,
+            begins,
+            catch,
+            work,
+            lo,
+            hi,
+            source,
+            p,
+            last,
+            v,
+            q,
+            x,
+            arcs,
+            kids,
         );
         p += 1;
     }
 }
 
-// The same where the flags may be any.
+// The same, whatever the flags were before.
 fn mark_chunk(
     words: &[u16],
     order: &[u16],
@@ -485,13 +553,29 @@ fn mark_chunk(
     clear(arcs);
     clear(kids);
     mark_departures(
-        words, order, n, chain, first, arrivals, begins, catch, work, lo, hi, source, v, q, x, arcs, kids,
+        words,
+        order,
+        n,
+        chain,
+        first,
+        arrivals,
+        begins,
+        catch,
+        work,
+        lo,
+        hi,
+        source,
+        v,
+        q,
+        x,
+        arcs,
+        kids,
     );
 }
 
 // ---- the tree
 
-// Takes the nodes from lo up to hi, whose flags are told. Answers the numbers of nodes and arcs then, if they fit.
+// Takes the nodes from lo up to hi by their flags. Answers the numbers of nodes and arcs then, if they fit.
 fn take_chunk(
     work: &mut [u32],
     targets: &mut [u8],
@@ -550,7 +634,8 @@ fn grow_chunk(
         × (lo ≤ hi)
         × (hi ≤ nodes + 1)
         × (hi ≤ lo + 32) ⌝ }
-    ensures { λ r. ⌜ Reached (sequences (now (words .entry)) source) source (now (work .exit)) (now (targets .exit)) hi r ⌝ }
+    ensures { λ r. ⌜ Reached (sequences (now (words .entry)) source) source (now (work .exit)) (now (targets .exit)) hi
+        r ⌝ }
 {
     let mut v = [0u32; STOPS_MOST];
     let mut q = [0u32; STOPS_MOST];
@@ -558,13 +643,28 @@ fn grow_chunk(
     let mut arcs = [0u8; FLAGS];
     let mut kids = [0u8; FLAGS];
     mark_chunk(
-        words, order, count, chain, first, arrivals, begins, catch, work, lo, hi, source, &mut v, &mut q, &mut x,
-        &mut arcs, &mut kids,
+        words,
+        order,
+        count,
+        chain,
+        first,
+        arrivals,
+        begins,
+        catch,
+        work,
+        lo,
+        hi,
+        source,
+        &mut v,
+        &mut q,
+        &mut x,
+        &mut arcs,
+        &mut kids,
     );
     take_chunk(work, targets, lo, hi, nodes, ends, &arcs, &kids)
 }
 
-// The nodes from lo on, of nodes 0 to n, that make the next chunk end before this one.
+// Where the chunk ends that begins with node lo, the last node being n.
 fn chunk_end(lo: usize, n: usize) -> usize
     requires { ⌜ (lo ≤ n) × (n ≤ 16383) ⌝ }
     ensures { λ r. ⌜ (lo < r) × (r ≤ n + 1) × (r ≤ lo + 32) ⌝ }
@@ -603,7 +703,21 @@ fn grow(
     while lo <= n {
         let hi = chunk_end(lo, n);
         let taken = grow_chunk(
-            words, order, count, chain, first, arrivals, begins, catch, source, work, targets, lo, hi, n, m,
+            words,
+            order,
+            count,
+            chain,
+            first,
+            arrivals,
+            begins,
+            catch,
+            source,
+            work,
+            targets,
+            lo,
+            hi,
+            n,
+            m,
         );
         if !taken.fits {
             return taken;
@@ -676,11 +790,21 @@ fn grow_tree(
     ensures { λ r. ⌜ Whole (sequences (now (words .entry)) source) source (now (work .exit)) (now (targets .exit)) r ⌝ }
 {
     let mut arrivals = [0u16; STOPS_MOST];
-    let mut begins = [0u32; STATIONS];
+    let mut begins = [0u32; BEGINS];
     list_arrivals(words, work, &mut arrivals, &mut begins);
     growing::plant_root(work, source as u32);
     grow(
-        words, order, count, chain, first, &arrivals, &begins, catch, source, work, targets,
+        words,
+        order,
+        count,
+        chain,
+        first,
+        &arrivals,
+        &begins,
+        catch,
+        source,
+        work,
+        targets,
     )
 }
 
@@ -697,10 +821,20 @@ fn make_tree(words: &[u16], source: usize, work: &mut [u32], targets: &mut [u8])
 {
     let mut order = [0u16; STOPS_MOST];
     let mut chain = [0u16; STOPS_MOST];
-    let mut first = [0u32; STATIONS];
+    let mut first = [0u32; BEGINS];
     let mut catch = [0u16; STOPS_MOST];
     let count = list_departures(words, work, &mut order, &mut chain, &mut first, &mut catch);
-    grow_tree(words, &order, count, &chain, &first, &catch, source, work, targets)
+    grow_tree(
+        words,
+        &order,
+        count,
+        &chain,
+        &first,
+        &catch,
+        source,
+        work,
+        targets,
+    )
 }
 
 // Makes and writes the store of the source.
@@ -731,7 +865,13 @@ fn make(words: &[u16], work: &mut [u32], source: usize, store: &mut [u16]) -> Re
 }
 
 // The store of one source. Working space may hold any words afterwards.
-pub fn make_store(words: &[u16], lines: &[u16], work: &mut [u32], source: u32, store: &mut [u16]) -> Reply
+pub fn make_store(
+    words: &[u16],
+    lines: &[u16],
+    work: &mut [u32],
+    source: u32,
+    store: &mut [u16],
+) -> Reply
     ensures reply { λ r. ⌜ r
         ≡ storeReply
         (now (words .entry))

@@ -1,3 +1,4 @@
+-- The way to the parent first, then the station of the node itself.
 use Prim.Native.Nat.{ℕ, _<_}
 use native.Mathlib.Omega.{arith}
 use borrow.Author.Needs.{needs}

@@ -1,3 +1,4 @@
+-- The flags of the chunk are those of its arcs and kids, so its nodes can be taken.
 use borrow.Author.Needs.{needs}
 use Rattle.storing.specs.Chunks.{standing-to, some-chunk, chunk-reached}
 use Rattle.storing.proofs.grow_chunk.Statement.{statement}
@@ -25,35 +26,13 @@ take-chunk-requires c κs = search some-chunk
 
 returns : tie.Need-returns
 returns c =
-    let p = c .before .before .before .before .before .before .before .before .before .before .before .before .before .before .before .before .before .before .before .before .before .before .before .before .before .before .before .before .before .before .pre in
-    let marks = c .before .before .before .before .before .before .before .before .before .before .before .before .before .before .mark-chunk .ensures in
-    chunk-reached
-    _
-    _
-    _
-    _
-    (p .0)
-    _
-    (p .3)
-    (p .4)
-    _
-    _
-    _
-    _
-    _
-    _
-    (p .5)
-    (p .6)
-    (p .7)
-    (p .8)
-    _
-    _
-    (marks .0)
-    (marks .4)
-    (marks .5)
-    _
-    _
-    _
+    let taken = c .before .before .before .before .before in
+    let marked = taken .before .before .before .before .before .before .before .before .before in
+    let lent = marked .before .before .before .before .before .before .before .before in
+    let p = lent .before .before .before .before .before .before .before .before .pre in
+    let marks = marked .mark-chunk .ensures in
+    chunk-reached _ _ _ _ (p .0) _ (p .3) (p .4) _ _ _ _ _ _ (p .5) (p .6) (p .7) (p .8) _ _ (marks .0) (marks .4)
+    (marks .5) _ _ _
     (c .before .before .before .before .take-chunk .ensures)
 
 pub grow-chunk-spec : {M : Type 1} → statement M

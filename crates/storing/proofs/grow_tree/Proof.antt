@@ -1,3 +1,4 @@
+-- The arrivals are listed and the root is planted, so the tree can grow.
 use borrow.Author.Needs.{needs}
 use Rattle.storing.proofs.MakeLaws.{planted}
 use Rattle.storing.proofs.grow_tree.Statement.{statement}

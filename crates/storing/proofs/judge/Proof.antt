@@ -1,3 +1,4 @@
+-- Least penalties, what they allow, and who can still end well: each pass takes up what the last one left.
 use borrow.Author.Needs.{needs}
 use Rattle.storing.specs.Prepared.{counted-order, arranged}
 use Rattle.storing.specs.Standing.{judged}
@@ -5,7 +6,8 @@ use Rattle.storing.proofs.judge.Statement.{statement}
 use Rattle.storing.proofs.judge.Tie as tie
 
 least-penalties-requires : tie.Need-least-penalties-requires
-least-penalties-requires c κs = ((search needs, search needs), ((search needs, search needs), (search counted-order, search arranged)))
+least-penalties-requires c κs =
+    ((search needs, search needs), ((search needs, search needs), (search counted-order, search arranged)))
 
 prospects-requires : tie.Need-prospects-requires
 prospects-requires c κs = (search needs, search needs, search needs, search needs)

@@ -1,3 +1,4 @@
+-- The path of the node is one of changes, so its labels are those of the node.
 use borrow.Author.Needs.{needs}
 use Rattle.storing.specs.Standing.{node-rooted, node-path, node-station, node-labels}
 use Rattle.storing.proofs.label_node.Statement.{statement}
@@ -7,7 +8,7 @@ path-of-requires : tie.Need-path-of-requires
 path-of-requires c κs = (search node-rooted, search needs)
 
 label-path-requires : tie.Need-label-path-requires
-label-path-requires c κs = 
+label-path-requires c κs =
     ((search needs, search needs), ((search needs, search needs), ((search needs, search node-path), search needs)))
 
 returns : tie.Need-returns

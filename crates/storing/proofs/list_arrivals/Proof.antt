@@ -1,3 +1,4 @@
+-- What the order of arrivals is, part by part.
 use borrow.Author.Needs.{needs}
 use Rattle.stopwise.specs.TimelyLaws.{timely}
 use Rattle.storing.specs.Prepared.{arrivals-of}
@@ -9,8 +10,9 @@ chain-arrivals-requires c κs = (search needs, search needs, search timely, sear
 
 returns : tie.Need-returns
 returns c =
-    let b = c .before .before .before .before .before .before .before .before .before .before .before .before .before .before in
-    let e = c .before .before .before .before .before .before .chain-arrivals .ensures in
+    let listed = c .before .before .before .before .before .before in
+    let b = listed .before .before .before .before .before .before .before .before in
+    let e = listed .chain-arrivals .ensures in
     arrivals-of _ (b .pre .1) _ _ _ (e .0) (e .1 .1 .1 .0) _ (e .1 .1 .1 .1 .0) (b .pre .4)
 
 pub list-arrivals-spec : {M : Type 1} → statement M

@@ -1,3 +1,4 @@
+-- The order of departures, by minute and by station, and the departures caught.
 use native.Mathlib.Omega.{arith}
 use borrow.Author.Needs.{needs}
 use Rattle.stopwise.specs.TimelyLaws.{timely}
@@ -40,8 +41,10 @@ find-catches-requires c κs = (
 
 returns : tie.Need-returns
 returns c =
-    let e = c .before .before .before .before .before .before .before .before .before .before .chain-departures .ensures in
-    let b = c .before .before .before .before .before .before .before .before .before .before .before .before .before .before .before .before .before .before .before .before .before .before .before .before .before .before .before in
+    let chained = c .before .before .before .before .before .before .before .before .before .before in
+    let ordered = chained .before .before .before .before .before .before .before .before in
+    let b = ordered .before .before .before .before .before .before .before .before .before in
+    let e = chained .chain-departures .ensures in
     (search routes, departures-of _ _ _ _ (e .0) (e .1 .0) (e .1 .1 .0) (omega (arith, e .1 .1 .1, b .pre .5)))
 
 pub list-departures-spec : {M : Type 1} → statement M

@@ -1,8 +1,9 @@
+-- The tree does not fit, the slice is too short, or the store is written.
 use Prim.Native.Nat.{_≤_}
 use native.Mathlib.Omega.{arith}
 use borrow.Author.Needs.{needs}
 use Rattle.storing.proofs.MakeLaws.{many-reply, many-words, short-reply, short-words, nodes-few, arcs-few}
-use Rattle.storing.proofs.MakeLaws.{finished, done-reply, done-words}
+use Rattle.storing.proofs.MakeLaws.{finished, count-small, done-reply, done-words}
 use Rattle.storing.proofs.make.Statement.{statement}
 use Rattle.storing.proofs.make.Tie as tie
 
@@ -11,23 +12,27 @@ returns c = (search many-reply, search many-words)
 
 mul-count : tie.Need-mul-count
 mul-count c =
-    let few-n : c .before .before .before .before .before .before .make-tree .result .n ≤ 16383 = search nodes-few in
+    let tree = c .before .before .before .before .before .before .make-tree .result in
+    let few-n : tree .n ≤ 16383 = search nodes-few in
     omega arith
 
 add-count : tie.Need-add-count
 add-count c =
-    let few-n : c .before .before .before .before .before .before .make-tree .result .n ≤ 16383 = search nodes-few in
+    let tree = c .before .before .before .before .before .before .make-tree .result in
+    let few-n : tree .n ≤ 16383 = search nodes-few in
     omega arith
 
 mul-count-2 : tie.Need-mul-count-2
 mul-count-2 c =
-    let few-m : c .before .before .before .before .before .before .before .make-tree .result .m ≤ 16383 = search arcs-few in
+    let tree = c .before .before .before .before .before .before .before .make-tree .result in
+    let few-m : tree .m ≤ 16383 = search arcs-few in
     omega arith
 
 add-count-2 : tie.Need-add-count-2
 add-count-2 c =
-    let few-n : c .before .before .before .before .before .before .before .make-tree .result .n ≤ 16383 = search nodes-few in
-    let few-m : c .before .before .before .before .before .before .before .make-tree .result .m ≤ 16383 = search arcs-few in
+    let tree = c .before .before .before .before .before .before .before .make-tree .result in
+    let few-n : tree .n ≤ 16383 = search nodes-few in
+    let few-m : tree .m ≤ 16383 = search arcs-few in
     omega arith
 
 returns-2 : tie.Need-returns-2
@@ -37,10 +42,7 @@ write-store-requires : tie.Need-write-store-requires
 write-store-requires c κs = (search finished, search needs)
 
 cast-t17 : tie.Need-cast-t17
-cast-t17 c =
-    let few-n : c .before .before .before .before .before .before .before .before .before .before .before .before .before .before .before .make-tree .result .n ≤ 16383 = search nodes-few in
-    let few-m : c .before .before .before .before .before .before .before .before .before .before .before .before .before .before .before .make-tree .result .m ≤ 16383 = search arcs-few in
-    omega arith
+cast-t17 c = record { fits = search count-small }
 
 returns-3 : tie.Need-returns-3
 returns-3 c = (search done-reply, search done-words)

@@ -1,6 +1,8 @@
+-- Questions 8 to 10, then 11, and then the store with question 15.
 use borrow.Author.Needs.{needs}
 use Rattle.storing.specs.Made.{asked-reply, asked-words, unlisted-reply, unlisted-words, made-reply, made-words}
-use Rattle.storing.specs.Made.{words-room, accepted, source-some, source-listed, source-few, space-room, space-part}
+use Rattle.storing.specs.Made.{words-room, accepted, source-some, source-listed, source-few}
+use Rattle.storing.specs.Made.{space-room, space-part}
 use Rattle.storing.proofs.make_store.Statement.{statement}
 use Rattle.storing.proofs.make_store.Tie as tie
 
@@ -17,7 +19,14 @@ part-space-end : tie.Need-part-space-end
 part-space-end c = search space-room
 
 make-requires : tie.Need-make-requires
-make-requires c κs = (search words-room, search accepted, search source-some, search source-listed, search source-few, search space-part)
+make-requires c κs = (
+  search words-room,
+  search accepted,
+  search source-some,
+  search source-listed,
+  search source-few,
+  search space-part,
+)
 
 returns-3 : tie.Need-returns-3
 returns-3 c = (search made-reply, search made-words)

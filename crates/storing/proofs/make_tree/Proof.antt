@@ -1,3 +1,4 @@
+-- The arrays are as long as the calls ask for.
 use borrow.Author.Needs.{needs}
 use Rattle.storing.proofs.make_tree.Statement.{statement}
 use Rattle.storing.proofs.make_tree.Tie as tie

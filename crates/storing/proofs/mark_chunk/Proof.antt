@@ -1,3 +1,4 @@
+-- No flag is up before the first departure.
 use borrow.Author.Needs.{needs}
 use Rattle.storing.specs.Seeking.{sought-none}
 use Rattle.storing.proofs.mark_chunk.Statement.{statement}

@@ -1,3 +1,4 @@
+-- The same minute once more changes nothing; another one adds its own marks.
 use borrow.Author.Needs.{needs}
 use Rattle.storing.specs.Prepared.{long-enough, accepted}
 use Rattle.storing.specs.Seeking.{place-inside, stop-few, sought-same, sought-more}

@@ -13,7 +13,7 @@ use Rattle.storing.proofs.mark_departures.Statement.{statement}
 use Rattle.storing.proofs.mark_departures.Tie as tie
 
 abbrev Inv-loop : tie.InvT-loop
-Inv-loop words order n chain first arrivals begins catch work lo hi source v₀ q₀ x₀ arcs₀ kids₀ end p₀ last₀ v q x arcs kids p last =
+Inv-loop words order n chain first arrivals begins catch work lo hi source _ _ _ _ _ end _ _ v q x arcs kids p last =
     Routes words order n catch
     × Arrivals words arrivals begins
     × Departures words chain first
@@ -33,7 +33,7 @@ Inv-loop words order n chain first arrivals begins catch work lo hi source v₀ 
     × Sought words source chain (getD first source 0) p last lo hi arcs kids
 
 abbrev μ-loop : tie.MeasureT-loop
-μ-loop words order n chain first arrivals begins catch work lo hi source v₀ q₀ x₀ arcs₀ kids₀ end p₀ last₀ v q x arcs kids p last =
+μ-loop words order n chain first arrivals begins catch work lo hi source _ _ _ _ _ end _ _ v q x arcs kids p last =
     end - p
 
 place-at-requires : tie.Need-place-at-requires Inv-loop μ-loop
@@ -106,9 +106,15 @@ loop-again c = (
 
 returns : tie.Need-returns Inv-loop μ-loop
 returns c = (
-    let b = c .before .loop in
-    let i = b .inv in
-    chunked _ _ _ _ (i .0) _ _ (i .2) _ (i .4) (b .p) (b .last) _ _ _ _ (i .10) _ (i .8) (c .loop-test .left) (i .16), search needs, search needs, search needs, search needs, search needs)
+  let b = c .before .loop in
+      let i = b .inv in
+      chunked _ _ _ _ (i .0) _ _ (i .2) _ (i .4) (b .p) (b .last) _ _ _ _ (i .10) _ (i .8) (c .loop-test .left) (i .16),
+  search needs,
+  search needs,
+  search needs,
+  search needs,
+  search needs,
+)
 
 pub mark-departures-spec : {M : Type 1} → statement M
 mark-departures-spec =

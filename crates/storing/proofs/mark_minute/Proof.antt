@@ -1,3 +1,4 @@
+-- What is allowed at the minute decides the marks.
 use borrow.Author.Needs.{needs}
 use Rattle.storing.specs.Prepared.{long-enough, accepted, changes}
 use Rattle.storing.proofs.mark_minute.Statement.{statement}

@@ -1,3 +1,4 @@
+-- The marks of the labels are those of the node.
 use borrow.Author.Needs.{needs}
 use Rattle.storing.specs.Standing.{arcs-at, kids-at}
 use Rattle.storing.proofs.mark_node.Statement.{statement}

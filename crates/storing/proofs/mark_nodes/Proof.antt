@@ -1,3 +1,4 @@
+-- The nodes below the one at hand have been marked.
 use mathlib.Core.Path.{_≡_}
 use Prim.Native.Nat.{_≤_, _-_}
 use lib.ListN.{length}
@@ -21,7 +22,15 @@ abbrev μ-loop : tie.MeasureT-loop
 μ-loop words chain first catch work lo hi source d allowed q x₀ arcs₀ kids₀ node₀ x arcs kids node = hi - node
 
 loop-holds : tie.Need-loop-holds Inv-loop μ-loop
-loop-holds c = (search needs, search needs, search needs, search needs, search needs, search raised-none, search raised-none)
+loop-holds c = (
+  search needs,
+  search needs,
+  search needs,
+  search needs,
+  search needs,
+  search raised-none,
+  search raised-none,
+)
 
 mark-at-requires : tie.Need-mark-at-requires Inv-loop μ-loop
 mark-at-requires c κs = (
@@ -43,7 +52,15 @@ mark-at-requires c κs = (
 )
 
 loop-again : tie.Need-loop-again Inv-loop μ-loop
-loop-again c = (search needs, search needs, search needs, search needs, search needs, search raised-more, search raised-more)
+loop-again c = (
+  search needs,
+  search needs,
+  search needs,
+  search needs,
+  search needs,
+  search raised-more,
+  search raised-more,
+)
 
 returns : tie.Need-returns Inv-loop μ-loop
 returns c = (search raised-all, search raised-all, search needs, search needs, search needs)

@@ -1,3 +1,4 @@
+-- The stop that stands at the place, and its departure.
 use borrow.Author.Needs.{needs}
 use Rattle.storing.proofs.ChunkLaws.{few-stations, minute-is}
 use Rattle.storing.proofs.minute_at.Statement.{statement}
