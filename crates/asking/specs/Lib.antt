@@ -9,4 +9,3 @@ pub mod Arcs
 pub mod Shown
 pub mod Trying
 pub mod Found
-pub mod Demand

@@ -9,6 +9,7 @@ ghost use Rattle.checking.specs.Question10.{tablesNumber};
 ghost use Rattle.alone.specs.Drawn.{aloneNumber};
 ghost use Rattle.direct.specs.Direct.{directReply, directWords};
 ghost use Rattle.storing.specs.Storing.{storeReply, storeAfter};
+ghost use Rattle.asking.specs.Asking.{askReply, askWords};
 ghost use Rattle.host.specs.Packed.{packed, packedReply, packedCount, packedPlace};
 use reading::Reply;
 
@@ -172,4 +173,41 @@ pub extern "C" fn dairyepoch_make_store(
         (now (store .entry)) ⌝ }
 {
     pack_count(storing::make_store(timetable, lines, work, source, store))
+}
+
+// Answers a query from a store, row by row in the lent answer.
+#[no_mangle]
+pub extern "C" fn dairyepoch_query(
+    timetable: &[u16],
+    lines: &[u16],
+    store: &[u16],
+    work: &mut [u32],
+    from: u32,
+    to: u32,
+    minute: u32,
+    answer: &mut [u32],
+) -> u64
+    ensures reply { λ r. ⌜ r
+        ≡ packedCount
+        (askReply
+        (now (timetable .entry))
+        (now (lines .entry))
+        (now (store .entry))
+        (length (now (work .entry)))
+        from
+        to
+        minute
+        (length (now (answer .entry)))) ⌝ }
+    ensures words { λ _. ⌜ now (answer .exit)
+        ≡ askWords
+        (now (timetable .entry))
+        (now (lines .entry))
+        (now (store .entry))
+        (length (now (work .entry)))
+        from
+        to
+        minute
+        (now (answer .entry)) ⌝ }
+{
+    pack_count(asking::query(timetable, lines, store, work, from, to, minute, answer))
 }
