@@ -1,10 +1,13 @@
 //! What each call must reply and write: document 01's questions, in its order, put to what the other modules hold of
 //! the lent words.
 
+use crate::connections;
 use crate::direct::{self, Query, Ride};
 use crate::ffi::Reply;
 use crate::lines::{self, LINE_WORDS, WORK_WORDS};
 use crate::reference;
+use crate::search::{self, Network};
+use crate::store;
 use crate::tables;
 use crate::timetable::{Stop, Timetable, LAST_MINUTE};
 use crate::words::{text_of, to_words, TIMETABLE_WORDS};
@@ -83,6 +86,30 @@ fn direct_rows(timetable: &Timetable, words: &[u16], query: Query) -> Vec<Ride> 
     let mut rows = Vec::new();
     direct::scan(words, query, &mut rows);
     rows
+}
+
+/// The connections of one station that are listed, where there are not too many.
+pub const LISTED_MOST: usize = 2_000;
+
+/// Making the store of a source, in a slice of `length` words.
+pub fn make_store(timetable: &[u16], lines: &[u16], work_length: usize, source: u32, length: usize) -> Expected<u16> {
+    let answer = || {
+        let timetable = lent_both(timetable, lines, work_length)?;
+        ask((1..=timetable.stations.len() as u32).contains(&source), 11)?;
+        let words = store_words(&timetable, source).ok_or(15u32)?;
+        ask(length >= words.len(), 15)?;
+        Ok((words.len() as u32, words))
+    };
+    expected(answer())
+}
+
+/// The words of a source's store; none if it has too many nodes or arcs. By listing all connections, where there are
+/// not too many.
+pub fn store_words(timetable: &Timetable, source: u32) -> Option<Vec<u16>> {
+    match connections::list(timetable, source, LISTED_MOST) {
+        Some(list) => store::to_words(&store::by_list(&list, source)),
+        None => search::patterns(&Network::new(timetable), source).map(|patterns| patterns.to_words()),
+    }
 }
 
 /// Questions 8 and 9 to a timetable that is lent with line tables of this length.

@@ -51,6 +51,17 @@ mod exported {
             answer: *mut u32,
             answer_len: usize,
         ) -> u64;
+        pub fn dairyepoch_make_store(
+            timetable: *const u16,
+            timetable_len: usize,
+            lines: *const u16,
+            lines_len: usize,
+            work: *mut u32,
+            work_len: usize,
+            source: u32,
+            store: *mut u16,
+            store_len: usize,
+        ) -> u64;
     }
 }
 
@@ -200,5 +211,48 @@ pub fn direct_of_nothing(Query { from, to, minute }: Query) -> Reply {
     // SAFETY: no slice has a word, so that nothing is read or written.
     let bits =
         unsafe { exported::dairyepoch_direct(null(), 0, null(), 0, null_mut(), 0, from, to, minute, null_mut(), 0) };
+    Reply::from_bits(bits)
+}
+
+pub fn make_store(timetable: &[u16], lines: &[u16], work: &mut [u32], source: u32, store: &mut [u16]) -> Reply {
+    // SAFETY: the store's pointer and length are those of a slice, which overlaps no other.
+    unsafe { make_store_in(timetable, lines, work, source, store.as_mut_ptr(), store.len()) }
+}
+
+/// A store call without a store slice: a null pointer and length 0.
+pub fn make_store_of_no_words(timetable: &[u16], lines: &[u16], work: &mut [u32], source: u32) -> Reply {
+    // SAFETY: the store has no word, so that nothing is written of it.
+    unsafe { make_store_in(timetable, lines, work, source, null_mut(), 0) }
+}
+
+/// # Safety
+///
+/// The store's pointer must lead to as many words as its length says, which are in none of the slices.
+unsafe fn make_store_in(
+    timetable: &[u16],
+    lines: &[u16],
+    work: &mut [u32],
+    source: u32,
+    store: *mut u16,
+    store_len: usize,
+) -> Reply {
+    let bits = exported::dairyepoch_make_store(
+        timetable.as_ptr(),
+        timetable.len(),
+        lines.as_ptr(),
+        lines.len(),
+        work.as_mut_ptr(),
+        work.len(),
+        source,
+        store,
+        store_len,
+    );
+    Reply::from_bits(bits)
+}
+
+/// A store call with nothing lent at all: null pointers and lengths 0.
+pub fn make_store_of_nothing(source: u32) -> Reply {
+    // SAFETY: no slice has a word, so that nothing is read or written.
+    let bits = unsafe { exported::dairyepoch_make_store(null(), 0, null(), 0, null_mut(), 0, source, null_mut(), 0) };
     Reply::from_bits(bits)
 }
