@@ -6,10 +6,17 @@ use std::hint::black_box;
 use std::time::{Duration, Instant};
 
 use dairyepoch_tests::direct::{self, Query, ROW_WORDS};
-use dairyepoch_tests::ffi::{self, build_lines, check_lines, check_lines_alone, check_timetable, read, Reply};
-use dairyepoch_tests::generate::{long_lines, most_rows, overtaking, DIRECT_ROWS_MOST};
+use dairyepoch_tests::ffi::{
+    self, build_lines, check_lines, check_lines_alone, check_timetable, make_store, read, Reply,
+};
+use dairyepoch_tests::generate::{
+    largest, long_lines, most_rows, overtaking, rural, with_trips, Diamonds, DIRECT_ROWS_MOST,
+};
 use dairyepoch_tests::lines::{self, LINE_WORDS, WORK_WORDS};
+use dairyepoch_tests::random::Random;
 use dairyepoch_tests::reference;
+use dairyepoch_tests::search::{self, Network};
+use dairyepoch_tests::store::STORE_WORDS_MOST;
 use dairyepoch_tests::tables;
 use dairyepoch_tests::timetable::Timetable;
 use dairyepoch_tests::words::{text_of, to_words, TIMETABLE_WORDS};
@@ -51,6 +58,52 @@ fn main() {
     querying("direct rides on one line of 256 trips", &long_lines(), Query { from: 60, to: 61, minute: 0 }, 1);
     querying("direct rides on 256 lines of one trip", &overtaking(), Query { from: 1, to: 64, minute: 0 }, 1);
     querying("direct rides in 507 rows", &most_rows(), Query { from: 1, to: 2, minute: 0 }, DIRECT_ROWS_MOST);
+    for seed in 1..=3 {
+        storing(&format!("stores of rural timetable {seed}"), &rural(&mut Random::new(seed), 8));
+    }
+    for rounds in [1, 2, 4] {
+        storing(&format!("stores of a rural timetable of {} trips", 32 * rounds), &rural(&mut Random::new(1), rounds));
+    }
+    let mut random = Random::new(4);
+    storing("stores of random trips", &largest(&mut random));
+    storing("stores of one line of 256 trips", &long_lines());
+    storing("stores of 256 lines of one trip", &overtaking());
+    storing("stores of one trip of 2,044 stops", &most_rows());
+    storing("stores of one trip of 2,048 stops at 2 stations", &with_trips(&mut random, 2, &[2_048]));
+    storing("stores of 12 diamonds", &Diamonds { count: 12, late: false, beyond: false, chain: 3 }.timetable());
+    storing("stores of 12 late diamonds", &Diamonds { count: 12, late: true, beyond: true, chain: 4 }.timetable());
+    storing("stores of 20 diamonds", &Diamonds { count: 20, ..Diamonds::default() }.timetable());
+}
+
+/// Times the stores of all sources, each against the search of the reference, which asks no question.
+fn storing(what: &str, timetable: &Timetable) {
+    let [table, lines] = lent(timetable);
+    let network = Network::new(timetable);
+    let (mut store, mut work) = (vec![0; STORE_WORDS_MOST], vec![0; WORK_WORDS]);
+    let (mut largest, mut refused) = ((0, 0), 0);
+    let mut times = Vec::new();
+    for source in 1..=timetable.stations.len() as u32 {
+        let began = Instant::now();
+        let reply = make_store(black_box(&table), &lines, &mut work, source, &mut store);
+        let library = began.elapsed();
+        let began = Instant::now();
+        let words = search::patterns(black_box(&network), source).map(|patterns| patterns.to_words());
+        let reference = began.elapsed();
+        assert_eq!(reply.number, if words.is_some() { 0 } else { 15 });
+        assert!(words.is_none_or(|words| words == store[..reply.beside as usize]), "the store of {source}");
+        refused += u32::from(reply.number == 15);
+        largest = largest.max((reply.beside, source));
+        times.push((library, reference, source));
+    }
+    let count = times.len() as u32;
+    let [library, reference] = [|time: &(_, _, _)| time.0, |time: &(_, _, _)| time.1]
+        .map(|part| times.iter().map(part).sum::<Duration>() / count);
+    println!("{what}: {count} sources, {refused} refused, the largest has {} words", largest.0);
+    report("  mean", library, reference);
+    let worst = times.iter().max().expect("a station is listed");
+    report(&format!("  worst of the library, source {}", worst.2), worst.0, worst.1);
+    let worst = times.iter().max_by_key(|time| time.1).expect("a station is listed");
+    report(&format!("  worst of the reference, source {}", worst.2), worst.0, worst.1);
 }
 
 /// Times building, with question 9 on both sides and then without it on the reference's.
