@@ -70,9 +70,12 @@ fn rides(timetable: &Timetable) -> Vec<Ride> {
     rides
 }
 
-/// Every connection from a station to any, unless there are more than `most`. Those that are feasible at a minute are
-/// those that depart then or later.
+/// Every connection from a station to any, unless they are more than `most`, or the timetable has more rides than that.
+/// Those that are feasible at a minute are those that depart then or later.
 pub fn list(timetable: &Timetable, from: u32, most: usize) -> Option<Vec<Connection>> {
+    if timetable.trips.iter().map(|stops| stops.len() * (stops.len() - 1) / 2).sum::<usize>() > most {
+        return None;
+    }
     let rides = rides(timetable);
     let alone = |ride: &Ride| Connection {
         depart: ride.depart,

@@ -249,6 +249,16 @@ fn shorter_nodes_come_first_and_arcs_rise() {
     // nodes: 3; 5; 5,4; 5,4,3. arcs: 2 by 5,4,3; 3 direct and by 5,4; 4 by 5; 5 direct and by 3
     let expected = [4, 6, 3, 0, 5, 0, 4, 2, 3, 3, 2, 4, 3, 0, 3, 3, 4, 2, 5, 0, 5, 1];
     assert_eq!(words, Ok(expected.to_vec()));
+    // 1 to 2 to 4 to 5, and 1 to 3 to 5 later on. Nodes: 2; 3; 2,4. Arcs: 2; 3; 4 by 2; 5 by 3 and by 2,4
+    let trips: [&[_]; 5] = [
+        &hop(1, 2, 10, 11, 0),
+        &hop(2, 4, 11, 12, 0),
+        &hop(4, 5, 12, 13, 0),
+        &hop(1, 3, 11, 12, 0),
+        &hop(3, 5, 12, 14, 0),
+    ];
+    let words = store(&text(&[(0, 1); 5], &trips), 1);
+    assert_eq!(words, Ok(vec![3, 5, 2, 0, 3, 0, 4, 1, 2, 0, 3, 0, 4, 1, 5, 2, 5, 3]));
 }
 
 /// What must have been met among the stores of generated timetables.
