@@ -21,6 +21,8 @@ pub const MIDDLING: Size = Size { stations: 1..=20, trips: 0..=20, stops_of_a_tr
 pub const CROWDED: Size = Size { stations: 2..=4, trips: 0..=7, stops_of_a_trip: 2..=6 };
 /// For `changing`.
 pub const CHANGING: Size = Size { stations: 2..=6, trips: 3..=12, stops_of_a_trip: 2..=5 };
+/// For `changing`, at the limits.
+pub const BUSY: Size = Size { stations: 64..=64, trips: 256..=256, stops_of_a_trip: 8..=8 };
 pub const LARGE: Size = Size { stations: 40..=64, trips: 100..=256, stops_of_a_trip: 2..=16 };
 
 pub fn timetable(random: &mut Random, size: &Size) -> Timetable {
@@ -427,6 +429,24 @@ mod tests {
                 let timetable = crowded(&mut random, &CROWDED);
                 assert_eq!(read(&timetable.to_text()), Ok(timetable));
             }
+        }
+    }
+
+    #[test]
+    fn timetables_with_changes_read_back_from_their_texts() {
+        let mut random = Random::new(3);
+        for _ in 0..200 {
+            let timetable = changing(&mut random, &CHANGING);
+            assert_eq!(read(&timetable.to_text()), Ok(timetable));
+        }
+        for timetable in [rural(&mut random, 8), changing(&mut random, &BUSY)] {
+            assert_eq!((timetable.trips.len(), timetable.trips.concat().len()), (TRIPS_MOST, STOPS_MOST));
+            assert_eq!(read(&timetable.to_text()), Ok(timetable));
+        }
+        for (count, late) in [(1, false), (12, true), (20, true)] {
+            let timetable = Diamonds { count, late, beyond: true, chain: 2 }.timetable();
+            assert_eq!(timetable.stations.len(), 3 * count + 4);
+            assert_eq!(read(&timetable.to_text()), Ok(timetable));
         }
     }
 

@@ -8,7 +8,7 @@ use dairyepoch_tests::expected::{self, LISTED_MOST};
 use dairyepoch_tests::ffi::{self, Reply};
 use dairyepoch_tests::generate::{
     changing, crowded, every_trip, largest, long_lines, most_rows, overtaking, rural, timetable, with_shared_ways,
-    with_trips, Diamonds, Size, CHANGING, CROWDED, LARGE, MIDDLING, SMALL,
+    with_trips, Diamonds, Size, BUSY, CHANGING, CROWDED, LARGE, MIDDLING, SMALL,
 };
 use dairyepoch_tests::host::{lent, Host, STORE_WORDS};
 use dairyepoch_tests::lines::{self, LINE_WORDS, WORK_WORDS};
@@ -385,6 +385,14 @@ fn made(timetable: &Timetable, sources: impl Iterator<Item = u32>) -> [usize; 2]
 #[test]
 fn all_sources_of_a_rural_timetable_at_the_limits() {
     assert_eq!(made(&rural(&mut Random::new(10), 8), 1..=64), [64, 0]);
+}
+
+#[test]
+fn all_sources_of_busy_timetables_at_the_limits() {
+    let mut random = Random::new(33);
+    for _ in 0..2 {
+        assert_eq!(made(&changing(&mut random, &BUSY), 1..=64), [64, 0]);
+    }
 }
 
 #[test]
