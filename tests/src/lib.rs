@@ -10,6 +10,7 @@ pub mod direct;
 pub mod examples;
 pub mod expected;
 pub mod ffi;
+pub mod following;
 pub mod generate;
 pub mod host;
 pub mod lines;

@@ -28,6 +28,12 @@ pub struct Hop {
     place: usize,
 }
 
+impl Hop {
+    pub fn before(&self) -> Option<usize> {
+        self.before
+    }
+}
+
 /// The hops of a timetable by departure. A hop takes a minute or more, so that all ways to a departure come before it.
 pub struct Network {
     pub hops: Vec<Hop>,
@@ -84,6 +90,20 @@ impl Network {
 
     pub fn stations(&self) -> usize {
         self.arrivals.len() - 1
+    }
+
+    /// The hops that arrive at a station, by arrival.
+    pub fn arrivals(&self, station: usize) -> &[usize] {
+        &self.arrivals[station]
+    }
+
+    /// The arrivals that are early enough to change to a hop, but for the first so many, which are.
+    pub fn early(&self, hop: &Hop, seen: usize) -> &[usize] {
+        &self.arrivals[hop.from][seen..hop.early]
+    }
+
+    pub fn change_penalty(&self, station: usize) -> u32 {
+        self.change_penalty[station]
     }
 
     /// The minutes at which something departs from a station.
@@ -290,23 +310,19 @@ pub struct Label {
 pub struct Labels(Vec<Label>);
 
 impl Labels {
-    pub fn clear(&mut self) {
-        self.0.clear();
-    }
-
-    fn add(&mut self, label: Label) -> usize {
+    fn add(&mut self, label: Label) -> Arrival {
         self.0.push(label);
-        self.0.len() - 1
+        Arrival { label: self.0.len() - 1, ridden: 0, alight: label.board }
     }
 
     /// Boards a hop at the source.
-    pub fn begin(&mut self, hop: &Hop) -> usize {
+    pub fn begin(&mut self, hop: &Hop) -> Arrival {
         let (trip, board) = (hop.trip, hop.stop);
         self.add(Label { penalty: 0, depart: hop.depart, rides: 1, trip, board, before: None })
     }
 
     /// Boards a hop after a change.
-    pub fn change(&mut self, arrival: Arrival, hop: &Hop, change_penalty: u32) -> usize {
+    pub fn change(&mut self, arrival: Arrival, hop: &Hop, change_penalty: u32) -> Arrival {
         let Label { penalty, depart, rides, .. } = self.0[arrival.label];
         let penalty = penalty + arrival.ridden + change_penalty;
         let before = Some((arrival.label, arrival.alight));
@@ -369,6 +385,13 @@ pub struct Arrival {
     alight: u32,
 }
 
+impl Arrival {
+    /// One hop further.
+    pub fn ride(self, hop: &Hop) -> Arrival {
+        Arrival { ridden: self.ridden + hop.penalty, alight: hop.stop + 1, ..self }
+    }
+}
+
 /// The better of two, where there are two.
 pub fn better(labels: &Labels, one: Option<Arrival>, other: Option<Arrival>) -> Option<Arrival> {
     match (one, other) {
@@ -378,7 +401,7 @@ pub fn better(labels: &Labels, one: Option<Arrival>, other: Option<Arrival>) -> 
 }
 
 /// The undominated of these arrivals, each with its hop, in rising duration, and of one cost the best.
-fn result(network: &Network, labels: &Labels, mut arrived: Vec<(usize, Arrival)>) -> Vec<Connection> {
+pub fn result(network: &Network, labels: &Labels, mut arrived: Vec<(usize, Arrival)>) -> Vec<Connection> {
     arrived.sort_by(|&(one, one_arrival), &(other, other_arrival)| {
         let arrive = |hop: usize| network.hops[hop].arrive;
         arrive(one).cmp(&arrive(other)).then_with(|| labels.compare(one_arrival, other_arrival))
@@ -406,13 +429,11 @@ pub fn whole(network: &Network, query: Query) -> Vec<Connection> {
             *best = better(&labels, *best, arrived[other]);
         }
         *seen = hop.early;
-        let fresh = |label: usize| Arrival { label, ridden: 0, alight: hop.stop };
         let stay = hop.before.and_then(|before| arrived[before]);
-        let begun = (hop.from == query.from as usize).then(|| fresh(labels.begin(hop)));
-        let changed = best.map(|best| fresh(labels.change(best, hop, network.change_penalty[hop.from])));
+        let begun = (hop.from == query.from as usize).then(|| labels.begin(hop));
+        let changed = best.map(|best| labels.change(best, hop, network.change_penalty[hop.from]));
         let aboard = [begun, changed].into_iter().fold(stay, |best, next| better(&labels, best, next));
-        let ride = |arrival: Arrival| Arrival { ridden: arrival.ridden + hop.penalty, alight: hop.stop + 1, ..arrival };
-        arrived[at] = aboard.map(ride);
+        arrived[at] = aboard.map(|arrival| arrival.ride(hop));
     }
     let at_target = |&at: &usize| network.hops[at].to == query.to as usize;
     let ends = (0..network.hops.len()).filter(at_target).filter_map(|at| arrived[at].map(|arrival| (at, arrival)));

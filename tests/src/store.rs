@@ -3,6 +3,7 @@
 use std::collections::{BTreeMap, BTreeSet};
 
 use crate::connections::{optimal, Connection};
+use crate::direct::Query;
 use crate::words::word;
 
 /// No store has more prefix nodes, nor more arcs.
@@ -29,6 +30,20 @@ pub fn by_list(list: &[Connection], source: u32) -> BTreeSet<Sequence> {
         }
     }
     sequences
+}
+
+/// Those of a source's connections that are feasible for the query and whose pattern is one of the sequences.
+pub fn kept<'a>(
+    list: &'a [Connection],
+    sequences: &'a BTreeSet<Sequence>,
+    query: Query,
+) -> impl Iterator<Item = &'a Connection> {
+    feasible(list, query).filter(|connection| sequences.contains(&(connection.changes.clone(), connection.to)))
+}
+
+/// Those of a source's connections that are feasible for the query.
+pub fn feasible(list: &[Connection], query: Query) -> impl Iterator<Item = &Connection> {
+    list.iter().filter(move |connection| u32::from(connection.to) == query.to && connection.depart >= query.minute)
 }
 
 /// The words of a store that holds these sequences; none if it has too many nodes or arcs.
