@@ -10,7 +10,7 @@ use dairyepoch_tests::ffi::{self, Reply, Tables};
 use dairyepoch_tests::following::Guide;
 use dairyepoch_tests::generate::{
     changing, crowded, every_trip, largest, long_lines, most_rows, overtaking, rural, timetable, with_shared_ways,
-    Diamonds, Size, CHANGING, CROWDED, DIRECT_ROWS_MOST, MIDDLING, SMALL,
+    Diamonds, Size, BUSY, CHANGING, CROWDED, DIRECT_ROWS_MOST, MIDDLING, SMALL,
 };
 use dairyepoch_tests::host::{lent, Host, QUERY_WORDS};
 use dairyepoch_tests::lines::{self, LINE_WORDS, WORK_WORDS};
@@ -571,6 +571,8 @@ fn queries_of_other_timetables_at_the_limits() {
     let mut random = Random::new(21);
     let found = some_queries(&largest(&mut random), 5, 10, &mut random);
     assert!(found[0] > 20, "{found:?}");
+    let found = some_queries(&changing(&mut random, &BUSY), 5, 20, &mut random);
+    assert!(found[0] > 100 && found[1] > 50, "{found:?}");
     for timetable in [long_lines(), overtaking()] {
         some_queries(&timetable, 5, 6, &mut random);
     }
