@@ -166,25 +166,33 @@ fn storing(what: &str, timetable: &Timetable) {
     let [table, lines] = lent(timetable);
     let network = Network::new(timetable);
     let (mut store, mut work) = (vec![0; STORE_WORDS_MOST], vec![0; WORK_WORDS]);
-    let (mut largest, mut refused) = ((0, 0), 0);
+    let (mut largest, mut refused) = (0, 0);
     let mut times = Vec::new();
-    for source in 1..=timetable.stations.len() as u32 {
-        let began = Instant::now();
-        let reply = make_store(black_box(&table), &lines, &mut work, source, &mut store);
-        let library = began.elapsed();
-        let began = Instant::now();
-        let words = search::patterns(black_box(&network), source).map(|patterns| patterns.to_words());
-        let reference = began.elapsed();
+    let stations = timetable.stations.len() as u32;
+    for source in 1..=stations {
+        let reply = make_store(&table, &lines, &mut work, source, &mut store);
+        let words = search::patterns(&network, source).map(|patterns| patterns.to_words());
         assert_eq!(reply.number, if words.is_some() { 0 } else { 15 });
         assert!(words.is_none_or(|words| words == store[..reply.beside as usize]), "the store of {source}");
         refused += u32::from(reply.number == 15);
-        largest = largest.max((reply.beside, source));
+        largest = largest.max(reply.beside);
+        let [library, reference] = medians_within(
+            [
+                &mut || {
+                    black_box(make_store(black_box(&table), &lines, &mut work, source, &mut store));
+                },
+                &mut || {
+                    black_box(search::patterns(black_box(&network), source).map(|patterns| patterns.to_words()));
+                },
+            ],
+            ENOUGH / stations / 2,
+        );
         times.push((library, reference, source));
     }
     let count = times.len() as u32;
     let [library, reference] = [|time: &(_, _, _)| time.0, |time: &(_, _, _)| time.1]
         .map(|part| times.iter().map(part).sum::<Duration>() / count);
-    println!("{what}: {count} sources, {refused} refused, the largest has {} words", largest.0);
+    println!("{what}: {count} sources, {refused} refused, the largest has {largest} words");
     report("  mean", library, reference);
     let worst = times.iter().max().expect("a station is listed");
     report(&format!("  worst of the library, source {}", worst.2), worst.0, worst.1);
@@ -284,11 +292,16 @@ fn querying(what: &str, timetable: &Timetable, query: Query, rows: u32) {
 }
 
 /// Runs the works in turn, so that what else the machine does falls on all of them, and takes each one's median.
-fn medians<const N: usize>(mut works: [&mut dyn FnMut(); N]) -> [Duration; N] {
+fn medians<const N: usize>(works: [&mut dyn FnMut(); N]) -> [Duration; N] {
+    medians_within(works, ENOUGH)
+}
+
+/// As `medians`, with no further rounds after this time.
+fn medians_within<const N: usize>(mut works: [&mut dyn FnMut(); N], enough: Duration) -> [Duration; N] {
     let mut times = [const { Vec::new() }; N];
     let began = Instant::now();
     for round in 0..ROUNDS_MOST {
-        if round >= ROUNDS_LEAST && began.elapsed() > ENOUGH {
+        if round >= ROUNDS_LEAST && began.elapsed() > enough {
             break;
         }
         for (work, times) in works.iter_mut().zip(&mut times) {
