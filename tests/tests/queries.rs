@@ -588,13 +588,12 @@ fn the_most_rows() {
     let rows = Guide::new(&BTreeSet::from([(Vec::new(), 2)])).rows(&network, query);
     assert_eq!(rows.len(), DIRECT_ROWS_MOST as usize);
     lent.ask_for(&mut host, query, &rows);
-    lengths_around(&mut host, &lent, query, &rows);
     // with a change at 3 or 4 as well
     let store = vec![2, 3, 3, 0, 4, 0, 2, 0, 2, 1, 2, 2];
     let lent = Lent::new(&timetable, store, &mut Random::new(24));
     let sequences = BTreeSet::from([(Vec::new(), 2), (vec![3], 2), (vec![4], 2)]);
     let guide = Guide::new(&sequences);
-    for minute in [0, 1_000, 2_000, 2_040, 2_045] {
+    for minute in [1_950, 2_000, 2_040, 2_045] {
         let query = Query { minute, ..query };
         lent.ask_for(&mut host, query, &guide.rows(&network, query));
     }
@@ -619,10 +618,13 @@ fn rides_without_end() {
 fn queries_from_the_largest_stores() {
     let mut host = Host::new(25);
     for diamonds in [
+        Diamonds { count: 8, late: false, beyond: false, chain: 3 },
+        Diamonds { count: 8, late: true, beyond: true, chain: 4 },
         Diamonds { count: 12, late: false, beyond: false, chain: 3 },
-        Diamonds { count: 12, late: true, beyond: true, chain: 4 },
     ] {
         let timetable = diamonds.timetable();
+        let last = 1 + 3 * diamonds.count as u32;
+        let targets = if diamonds.count < 12 { vec![2, 3, 4, last - 1, last, last + 1] } else { vec![last] };
         let network = Network::new(&timetable);
         let words = search::patterns(&network, 1).expect("not too many").to_words();
         let sequences = Store::from_words(&words).expect("all its words").sequences();
@@ -631,7 +633,7 @@ fn queries_from_the_largest_stores() {
         for sequences in [sequences, struck] {
             let lent = Lent::new(&timetable, store::to_words(&sequences).expect("fewer"), &mut Random::new(26));
             let guide = Guide::new(&sequences);
-            for to in [2, 3, 4, 36, 37, 38, timetable.stations.len() as u32] {
+            for &to in &targets {
                 let query = Query { from: 1, to, minute: 0 };
                 lent.ask_for(&mut host, query, &guide.rows(&network, query));
             }
