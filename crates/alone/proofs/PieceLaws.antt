@@ -125,3 +125,7 @@ piece-is v n line s k is-s is-k =
         ≡ cond b (take (pieceLength v line) (drop (pieceStart v line) v)) []
     by-test true = refl
     by-test false = refl
+
+pub part-is : (v : List ℕ) (n line s k : ℕ) → s ≡ startTold v n line → k ≡ lengthTold v n line
+    → take (s + k - s) (drop s v) ≡ take (lengthTold v n line) (drop (startTold v n line) v)
+part-is v n line s k is-s is-k = rw add-sub-cancel-left (λ i. take (is-k i) (drop (is-s i) v))

@@ -7,12 +7,12 @@ use Prim.Native.Nat.{ℕ, suc, _+_, _-_, _≤_, _<_}
 use native.Mathlib.Omega.{arith}
 use borrow.Author.Tests.{leb-true, eq-eqb}
 use lib.Dec.{leb}
-use lib.ListN.{length, getD, take, drop, length-map, length-append}
+use lib.ListN.{length, getD, take, drop, length-map, length-append, List·getD-map}
 use lib.Seq.{take-at, drop-at, take-all, getD-take}
 use Rattle.questions.specs.Question.{ask, firstNo, and-left, and-right}
 use Rattle.timetable.specs.Timetable.{Trip}
 use Rattle.timetable.specs.Words.{words}
-use Rattle.lines.specs.Lines.{lines, course}
+use Rattle.lines.specs.Lines.{lines, lineNumbers, course}
 use Rattle.tables.specs.Tables.{courseWords, lineTimes, lineWords, linePlaces, allLineWords, callPlaces}
 use Rattle.tables.specs.Tables.{allCallPairs, indexPlace, tableWords}
 use Rattle.tables.specs.Building.{tablesOf}
@@ -151,7 +151,16 @@ module _ (v : List ℕ) (n line : ℕ) (granted : pieceNumber v n line ≡ 0) wh
       (omega (arith, told-line, counted)) in
       omega (arith, inside, told-place, told-few)
 
-  -- the numbers of the line's trips, as the timetable told has them
+  -- "The trips of one line are handed out": of whatever timetable the tables are, these are the numbers of the trips of
+  -- its line, in the line's order
+  pub trips-handed : (k : ℕ) (t : List Trip) → Holds v k t → piece v n line ≡ getD (lineNumbers t) (line - 1) []
+  unfolding piece pieceStart pieceLength
+  trips-handed k t h =
+      rw (eq-eqb (pieceNumber v n line) 0 granted)
+      (numbers-are v k t (line - 1) h (omega (arith, line-least, line-most)))
+      ∙ sym (List·getD-map (map suc) (lines t) (line - 1) [])
+
+  -- the same for the timetable that the tables tell
   pub handed-out : piece v n line ≡ map suc (getD (lines ((drawn v) .trips)) (line - 1) [])
   unfolding piece pieceStart pieceLength
   handed-out =

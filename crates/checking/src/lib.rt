@@ -1,5 +1,5 @@
-// The questions that are put to a query before it is looked at: 8 to 12. Question 10 here is about line tables lent with
-// a timetable: are they its own?
+// The questions that are put to a query before it is looked at: 8 to 12. Question 10 here is about line tables lent
+// with a timetable: are they its own?
 ghost use mathlib.Core.Path.{_≡_};
 ghost use mathlib.Core.Bool.{true};
 ghost use Prim.Native.Nat.{_≤_};

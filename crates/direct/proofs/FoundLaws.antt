@@ -1,13 +1,13 @@
 -- Which of two rides is shown, number by number: where all numbers before are the same, the next one decides.
-use mathlib.Core.Path.{_≡_, refl, sym, ap, _∙_}
+use mathlib.Core.Path.{_≡_, refl, sym, _∙_}
 use mathlib.Core.List.{[], _∷_}
-use mathlib.Core.Bool.{Bool, true, false, cond, _&&_, _||_}
+use mathlib.Core.Bool.{Bool, true, false, _&&_, _||_}
 use Prim.Native.Nat.{ℕ, _≤_, _<_}
 use native.Mathlib.Omega.{arith}
 use borrow.Author.Tests.{lt-ltb, le-ltb, eq-eqb, ne-eqb}
 use lib.Dec.{ltb, eqb}
 use Rattle.lists.specs.Lists.{before}
-use Rattle.direct.specs.Choosing.{Found, goesBefore, better}
+use Rattle.direct.specs.Choosing.{Found, goesBefore}
 
 -- a comparison by one number, and by more where it is the same
 module _ (a b : ℕ) (more : Bool) where
@@ -70,9 +70,3 @@ module _ (g f : Found) where
           → ltb (g .alight) (f .alight) ≡ goesBefore g f
       alight-decides k h =
           sym (same-trip ∙ first-same (g .board) (f .board) _ k h ∙ last-number (g .alight) (f .alight))
-
-  pub takes-new : (r : Bool) → r ≡ goesBefore g f → r ≡ true → g ≡ better f g
-  takes-new r e h = ap (λ b. cond b g f) (sym h ∙ e)
-
-  pub keeps-old : (r : Bool) → r ≡ goesBefore g f → r ≡ false → f ≡ better f g
-  keeps-old r e h = ap (λ b. cond b g f) (sym h ∙ e)

@@ -3,7 +3,6 @@ pub mod NoteLaws
 pub mod LeadLaws
 pub mod ReachLaws
 pub mod CallLaws
-pub mod PickLaws
-pub mod PickedLaws
+pub mod KeepLaws
 pub mod RowLaws
 pub mod ShownLaws

@@ -13,8 +13,8 @@ use Rattle.words.specs.Written.{left-next, write-some, write-done}
 use Rattle.lists.specs.Lists.{concatMap}
 use Rattle.results.specs.Results.{Cost}
 use Rattle.results.specs.declared.Cost.{Cost as CostStruct}
-use Rattle.connections.specs.Rides.{Ride}
-use Rattle.direct.specs.Choosing.{Found, noPoints, leads, pickFor, rowFor, rowsFrom}
+use Rattle.direct.specs.Choosing.{Found, noPoints, leads, rowFor}
+use Rattle.direct.specs.Keeping.{keptAt, rowsKept}
 use Rattle.direct.specs.Turns.{costOf, leadWords}
 use Rattle.direct.proofs.LeadLaws.{leads-here, leads-not}
 
@@ -41,69 +41,69 @@ row-written at u cost f g old one two three d room is-d is-f e₁ e₂ e₃ =
     rowFor′ d f = d ∷ cost .points .0 ∷ 1 ∷ f .trip ∷ f .board ∷ f .alight ∷ []
 
 -- ---- one minute
-module _ (u at least : ℕ) (all : List Ride) (cost : CostStruct) (old : List ℕ) where
+module _ (u at least : ℕ) (kept : List ℕ) (cost : CostStruct) (old : List ℕ) where
   module _ (low : cost .points .0 < least) where
-    lead-is : leadWords u all (costOf cost) least ≡ rowFor u (costOf cost) (pickFor all (costOf cost))
+    lead-is : leadWords u kept (costOf cost) least ≡ rowFor u (costOf cost) (keptAt kept (cost .minutes .0))
     unfolding leadWords
     lead-is = rw (lt-ltb (cost .points .0) least low)
 
-    pub lead-room : at + length (leadWords u all (costOf cost) least) ≤ length old → at + 6 ≤ length old
+    pub lead-room : at + length (leadWords u kept (costOf cost) least) ≤ length old → at + 6 ≤ length old
     lead-room h = omega (arith, ap length lead-is)
 
-    pub lead-written : (end : List ℕ) → end ≡ put at (rowFor u (costOf cost) (pickFor all (costOf cost))) old
-        → end ≡ put at (leadWords u all (costOf cost) least) old
+    pub lead-written : (end : List ℕ) → end ≡ put at (rowFor u (costOf cost) (keptAt kept (cost .minutes .0))) old
+        → end ≡ put at (leadWords u kept (costOf cost) least) old
     lead-written end e = e ∙ ap (λ w. put at w old) (sym lead-is)
 
-    pub lead-end : at + 6 ≡ at + length (leadWords u all (costOf cost) least)
+    pub lead-end : at + 6 ≡ at + length (leadWords u kept (costOf cost) least)
     lead-end = omega (arith, ap length lead-is)
 
   module _ (high : least ≤ cost .points .0) where
-    no-lead : leadWords u all (costOf cost) least ≡ []
+    no-lead : leadWords u kept (costOf cost) least ≡ []
     unfolding leadWords
     no-lead = rw (le-ltb (cost .points .0) least high)
 
-    pub none-written : old ≡ put at (leadWords u all (costOf cost) least) old
+    pub none-written : old ≡ put at (leadWords u kept (costOf cost) least) old
     none-written = sym (ap (λ w. put at w old) no-lead ∙ put-none at old)
 
-    pub none-end : at ≡ at + length (leadWords u all (costOf cost) least)
+    pub none-end : at ≡ at + length (leadWords u kept (costOf cost) least)
     none-end = omega (arith, ap length no-lead)
 
 -- ---- from minute to minute
-abbrev pub wordsOf : (u : ℕ) → List Ride → List Cost → List ℕ
-wordsOf u all cs = concatMap (λ r. r) (rowsFrom u all cs)
+abbrev pub wordsOf : (u : ℕ) → List ℕ → List Cost → List ℕ
+wordsOf u kept cs = concatMap (λ r. r) (rowsKept u kept cs)
 
-rows-long : (u : ℕ) (all : List Ride) (cs : List Cost) → length (wordsOf u all cs) ≡ 6 * length cs
-unfolding rowsFrom
-rows-long u all [] = refl
-rows-long u all (c ∷ cs) = omega (arith, rows-long u all cs)
+rows-long : (u : ℕ) (kept : List ℕ) (cs : List Cost) → length (wordsOf u kept cs) ≡ 6 * length cs
+unfolding rowsKept
+rows-long u kept [] = refl
+rows-long u kept (c ∷ cs) = omega (arith, rows-long u kept cs)
 
-module _ (u : ℕ) (all : List Ride) (best : List ℕ) (least a : ℕ) (more : a < length best) where
-  lead-next : wordsOf u all (leads least a (drop a best))
-      ≡ leadWords u all (record { minutes = a; points = getD best a 0 }) least
-      ++ wordsOf u all (leads (min least (getD best a 0)) (a + 1) (drop (a + 1) best))
-  unfolding rowsFrom leadWords
+module _ (u : ℕ) (kept best : List ℕ) (least a : ℕ) (more : a < length best) where
+  lead-next : wordsOf u kept (leads least a (drop a best))
+      ≡ leadWords u kept (record { minutes = a; points = getD best a 0 }) least
+      ++ wordsOf u kept (leads (min least (getD best a 0)) (a + 1) (drop (a + 1) best))
+  unfolding rowsKept leadWords
   lead-next = go (ltb (getD best a 0) least) refl
     where
       c : Cost
       c = record { minutes = a; points = getD best a 0 }
 
       go : (t : Bool) → ltb (getD best a 0) least ≡ t
-          → wordsOf u all (leads least a (drop a best))
-          ≡ cond t (rowFor u c (pickFor all c)) []
-          ++ wordsOf u all (leads (min least (getD best a 0)) (a + 1) (drop (a + 1) best))
-      go true e = ap (wordsOf u all) (leads-here best least a more (ltb-true _ _ e))
-      go false e = ap (wordsOf u all) (leads-not best least a more (ltb-false _ _ e))
+          → wordsOf u kept (leads least a (drop a best))
+          ≡ cond t (rowFor u c (keptAt kept (c .minutes))) []
+          ++ wordsOf u kept (leads (min least (getD best a 0)) (a + 1) (drop (a + 1) best))
+      go true e = ap (wordsOf u kept) (leads-here best least a more (ltb-true _ _ e))
+      go false e = ap (wordsOf u kept) (leads-not best least a more (ltb-false _ _ e))
 
 -- the first `here` words are written, and those of the minutes from a on are left
-pub record Rows (u : ℕ) (all : List Ride) (best old out : List ℕ) (here least a : ℕ) : Type 0 where
+pub record Rows (u : ℕ) (kept best old out : List ℕ) (here least a : ℕ) : Type 0 where
   pub on : a ≤ 2880
-  pub within : here ≤ length (wordsOf u all (leads noPoints 0 best))
-  pub is-out : out ≡ put 0 (take here (wordsOf u all (leads noPoints 0 best))) old
-  pub left : drop here (wordsOf u all (leads noPoints 0 best)) ≡ wordsOf u all (leads least a (drop a best))
+  pub within : here ≤ length (wordsOf u kept (leads noPoints 0 best))
+  pub is-out : out ≡ put 0 (take here (wordsOf u kept (leads noPoints 0 best))) old
+  pub left : drop here (wordsOf u kept (leads noPoints 0 best)) ≡ wordsOf u kept (leads least a (drop a best))
   pub long : length out ≡ length old
 
-module _ (u : ℕ) (all : List Ride) (best old : List ℕ) where
-  pub rows-first : 6 * length (leads noPoints 0 best) ≤ length old → Rows u all best old old 0 noPoints 0
+module _ (u : ℕ) (kept best old : List ℕ) where
+  pub rows-first : 6 * length (leads noPoints 0 best) ≤ length old → Rows u kept best old old 0 noPoints 0
   rows-first h =
       record {
         on = omega arith;
@@ -117,38 +117,38 @@ module _ (u : ℕ) (all : List Ride) (best old : List ℕ) where
       (out : List ℕ)
       (here least a : ℕ)
       (room : 6 * length (leads noPoints 0 best) ≤ length old)
-      (k : Rows u all best old out here least a)
+      (k : Rows u kept best old out here least a)
       (long : length best ≡ 2880)
     where
       abbrev whole : List ℕ
-      whole = wordsOf u all (leads noPoints 0 best)
+      whole = wordsOf u kept (leads noPoints 0 best)
 
       fits : 0 + length whole ≤ length old
-      fits = omega (arith, rows-long u all (leads noPoints 0 best))
+      fits = omega (arith, rows-long u kept (leads noPoints 0 best))
 
       module _ (more : a < 2880) where
         abbrev this : List ℕ
-        this = leadWords u all (record { minutes = a; points = getD best a 0 }) least
+        this = leadWords u kept (record { minutes = a; points = getD best a 0 }) least
 
         abbrev rest : List ℕ
-        rest = wordsOf u all (leads (min least (getD best a 0)) (a + 1) (drop (a + 1) best))
+        rest = wordsOf u kept (leads (min least (getD best a 0)) (a + 1) (drop (a + 1) best))
 
         next : drop here whole ≡ this ++ rest
-        next = k .left ∙ lead-next u all best least a (omega arith)
+        next = k .left ∙ lead-next u kept best least a (omega arith)
 
         next-long : length whole ≡ here + (length this + length rest)
         next-long = omega (arith, k .within, length-drop here whole, ap length next, length-append this rest)
 
-        pub row-room : here + length (leadWords u all (record { minutes = a; points = getD best a 0 }) least)
+        pub row-room : here + length (leadWords u kept (record { minutes = a; points = getD best a 0 }) least)
             ≤ length out
         row-room = omega (arith, next-long, fits, k .long)
 
         pub rows-more : (end : List ℕ) (here′ least′ : ℕ)
-            → end ≡ put here (leadWords u all (record { minutes = a; points = getD best a 0 }) least) out
+            → end ≡ put here (leadWords u kept (record { minutes = a; points = getD best a 0 }) least) out
             → length end ≡ length out
-            → here′ ≡ here + length (leadWords u all (record { minutes = a; points = getD best a 0 }) least)
+            → here′ ≡ here + length (leadWords u kept (record { minutes = a; points = getD best a 0 }) least)
             → least′ ≡ min least (getD best a 0)
-            → Rows u all best old end here′ least′ (a + 1)
+            → Rows u kept best old end here′ least′ (a + 1)
         rows-more end here′ least′ e f g h =
             record {
               on = omega arith;
@@ -161,14 +161,14 @@ module _ (u : ℕ) (all : List Ride) (best old : List ℕ) where
               left =
                   ap (λ i. drop i whole) g
                   ∙ left-next whole here this rest next
-                  ∙ ap (λ m. wordsOf u all (leads m (a + 1) (drop (a + 1) best))) (sym h);
+                  ∙ ap (λ m. wordsOf u kept (leads m (a + 1) (drop (a + 1) best))) (sym h);
               long = f ∙ k .long;
             }
 
-      pub rows-done : 2880 ≤ a → out ≡ put 0 (concatMap (λ r. r) (rowsFrom u all (leads noPoints 0 best))) old
-      unfolding leads rowsFrom
+      pub rows-done : 2880 ≤ a → out ≡ put 0 (concatMap (λ r. r) (rowsKept u kept (leads noPoints 0 best))) old
+      unfolding leads rowsKept
       rows-done h =
           let none : drop here whole ≡ [] =
-          k .left ∙ ap (λ l. wordsOf u all (leads least a l)) (drop-of-length-le best {i = a} (omega arith)) in
+          k .left ∙ ap (λ l. wordsOf u kept (leads least a l)) (drop-of-length-le best {i = a} (omega arith)) in
           write-done whole old out 0 here (k .is-out) fits
           (omega (arith, k .within, length-drop here whole, ap length none))

@@ -1,10 +1,9 @@
 -- The ways out of the call: nothing found, too little room, or the rows written.
-use mathlib.Core.Path.{_≡_, refl, sym, ap, _∙_}
-use mathlib.Core.List.{List, []}
+use mathlib.Core.Path.{_≡_, sym, ap, _∙_}
+use mathlib.Core.List.{List}
 use Prim.Native.Nat.{ℕ, _*_, _≤_, _<_}
 use native.Mathlib.Omega.{arith}
 use borrow.Author.Tests.{le-leb, lt-leb}
-use lib.Dec.{leb}
 use lib.ListN.{length, take}
 use lib.Seq.{length-take-le}
 use Rattle.words.specs.Put.{put}
@@ -15,6 +14,7 @@ use Rattle.checking.specs.Asked.{queryNumber}
 use Rattle.checking.specs.Yes.{yes-all}
 use Rattle.direct.specs.Candidates.{firstRead, allRead}
 use Rattle.direct.specs.Choosing.{noPoints, noteAll, blank, leads, rowsFrom}
+use Rattle.direct.specs.Keeping.{Keeps, rowsKept, rows-kept}
 use Rattle.direct.specs.Shown.{bestOf, leadsOf, foundNumber, foundWords, foundReply, foundAnswer}
 
 pub best-found : (v filled best : List ℕ) (a b u : ℕ) → filled ≡ blank → best ≡ noteAll filled (firstRead v a u b)
@@ -64,12 +64,14 @@ module _ (v : List ℕ) (a b u count : ℕ) (is : count ≡ length (leadsOf v a 
     done-reply m room =
         ap Done is ∙ reply-done (foundNumber v a b u m) (length (leadsOf v a b u)) (sym (enough m room))
 
-    pub done-words : (old new best : List ℕ) → 6 * count ≤ length old → best ≡ bestOf v a b u
-        → new ≡ put 0 (concatMap (λ r. r) (rowsFrom u (allRead v a u b) (leads noPoints 0 best))) old
+    pub done-words : (old new best kept : List ℕ) → 6 * count ≤ length old → best ≡ bestOf v a b u
+        → length best ≡ 2880 → Keeps best kept (allRead v a u b)
+        → new ≡ put 0 (concatMap (λ r. r) (rowsKept u kept (leads noPoints 0 best))) old
         → new ≡ foundAnswer v a b u old
     unfolding foundAnswer
-    done-words old new best room e f =
+    done-words old new best kept room e long keeps f =
         f
+        ∙ ap (λ rows. put 0 (concatMap (λ r. r) rows) old) (rows-kept u best kept (allRead v a u b) long keeps)
         ∙ ap (λ l. put 0 (concatMap (λ r. r) (rowsFrom u (allRead v a u b) (leads noPoints 0 l))) old) e
         ∙ words-done (foundNumber v a b u (length old)) (foundWords v a b u) old (sym (enough (length old) room))
 
@@ -81,9 +83,9 @@ rows-room v best a b u count m e is room = omega (arith, ap (λ l. length (leads
 module _ (w v work after : List ℕ) (a b u number : ℕ)
     (is : number ≡ queryNumber w v (length work) a b u) (none-denied : number ≡ 0) (kept : length after ≡ length work)
   where
-    pub minutes-room : 2880 ≤ length after
-    minutes-room =
+    pub kept-room : 11520 ≤ length after
+    kept-room =
         omega (arith, yes-all w v (length work) a b u (sym is ∙ none-denied) .slices .work)
 
-    pub minutes-part : length (take 2880 after) ≡ 2880
-    minutes-part = length-take-le 2880 after minutes-room
+    pub kept-part : length (take 11520 after) ≡ 11520
+    kept-part = length-take-le 11520 after kept-room

@@ -18,7 +18,7 @@ use Rattle.connections.specs.Rides.{Ride}
 use Rattle.direct.specs.Choosing.{noted, noteAll, leads}
 
 -- what is read past the end matters only past the end
-getD-any : (l : List ℕ) (i d e : ℕ) → i < length l → getD l i d ≡ getD l i e
+pub getD-any : (l : List ℕ) (i d e : ℕ) → i < length l → getD l i d ≡ getD l i e
 getD-any [] i d e h = absurd (omega arith)
 getD-any (x ∷ l) zero d e h = refl
 getD-any (x ∷ l) (suc i) d e h = getD-any l i d e (omega arith)

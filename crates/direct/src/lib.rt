@@ -9,11 +9,11 @@ ghost use Rattle.words.specs.Put.{put};
 ghost use Rattle.lists.specs.Lists.{concatMap};
 ghost use Rattle.lookup.specs.Lookup.{lineAt, callsPlace};
 ghost use Rattle.direct.specs.Candidates.{rideOn, reach, firstRead, allRead};
-ghost use Rattle.direct.specs.Choosing.{noPoints, blank, noteAll, leads, goesBefore, better, pickFor};
-ghost use Rattle.direct.specs.Choosing.{rowFor, rowsFrom};
-ghost use Rattle.direct.specs.Turns.{costOf, lowered, notedAt, picked, triedOn, tripsFrom, pickedAt};
-ghost use Rattle.direct.specs.Turns.{leadWords, Fitting};
-ghost use Rattle.direct.specs.Direct.{directReply, directWords};
+ghost use Rattle.direct.specs.Choosing.{noPoints, blank, noteAll, leads, goesBefore, rowFor};
+ghost use Rattle.direct.specs.Keeping.{keptAt, rideWords, Unkept, keptWith, keptOn, keepAll, Keeps, rowsKept};
+ghost use Rattle.direct.specs.Turns.{costOf, lowered, notedAt, tripsFrom, keptTo, leadWords};
+ghost use Rattle.replies.specs.Replies.{valuesOf};
+ghost use Rattle.direct.specs.Direct.{directReply, directValues, directWords};
 ghost use Rattle.direct.specs.Shown.{bestOf, leadsOf, foundReply, foundAnswer};
 use lookup::Line;
 use replies::Reply;
@@ -28,17 +28,22 @@ const MINUTES: usize = 2880;
 const NO_POINTS: u32 = u32::MAX;
 
 // The trip of no ride: every trip has a lower number.
-const NO_TRIP: usize = 65536;
+const NO_TRIP: u32 = 65536;
+
+// The words of a ride that is kept for a minute, and of those of all minutes.
+const RIDE_WORDS: usize = 4;
+
+const KEPT_WORDS: usize = 11520;
 
 // The words of a row of the answer.
 const ROW_WORDS: usize = 6;
 
 // A ride that may be shown.
 pub struct Found {
-    pub depart: usize,
-    pub trip: usize,
-    pub board: usize,
-    pub alight: usize,
+    pub depart: u32,
+    pub trip: u32,
+    pub board: u32,
+    pub alight: u32,
 }
 
 // Whether g goes before f, both of one cost: it departs later, or its numbers come first.
@@ -66,16 +71,6 @@ fn goes_before(g: Found, f: Found) -> bool
     g.alight < f.alight
 }
 
-// The one of two rides that is shown.
-fn better(f: Found, g: Found) -> Found
-    ensures { λ r. ⌜ r ≡ better f g ⌝ }
-{
-    if goes_before(g, f) {
-        return g;
-    }
-    f
-}
-
 // The lesser of two numbers of points.
 fn lesser(a: u32, b: u32) -> u32
     ensures { λ r. ⌜ r ≡ min a b ⌝ }
@@ -96,19 +91,6 @@ fn note(best: &mut [u32], cost: Cost)
     let minute = cost.minutes.0 as usize;
     if minute < best.len() {
         best[minute] = lesser(best[minute], cost.points.0);
-    }
-}
-
-// Before a query no ride has been noted for any minute.
-fn fill_blank(best: &mut [u32])
-    requires { ⌜ length (now best) ≡ 2880 ⌝ }
-    ensures { λ _. ⌜ now (best .exit) ≡ blank ⌝ }
-    ensures { λ _. ⌜ length (now (best .exit)) ≡ length (now (best .entry)) ⌝ }
-{
-    let mut i = 0;
-    while i < MINUTES {
-        best[i] = NO_POINTS;
-        i += 1;
     }
 }
 
@@ -219,67 +201,143 @@ fn note_first(v: &[u16], from: usize, to: usize, minute: usize, best: &mut [u32]
     }
 }
 
-// The ride on the trip at place j of a line from place x to place p, if it arrives at the minute of the cost and goes
-// before the one found so far.
-fn pick_trip(v: &[u16], l: Line, x: usize, p: usize, j: usize, cost: Cost, found: Found) -> Found
+// Puts a ride down as the one that is kept for a minute.
+fn put_ride(kept: &mut [u32], minute: usize, ride: Found)
+    requires { ⌜ (minute < 2880) × (length (now kept) ≡ 11520) ⌝ }
+    ensures { λ _. ⌜ now (kept .exit) ≡ put (4 * minute) (rideWords ride) (now (kept .entry)) ⌝ }
+    ensures { λ _. ⌜ length (now (kept .exit)) ≡ length (now (kept .entry)) ⌝ }
+{
+    let at = RIDE_WORDS * minute;
+    words::put_pair(kept, at, ride.depart, ride.trip);
+    words::put_pair(kept, at + 2, ride.board, ride.alight);
+}
+
+// The ride that is kept for a minute.
+fn kept_at(kept: &[u32], minute: usize) -> Found
+    requires { ⌜ (minute < 2880) × (length (now kept) ≡ 11520) ⌝ }
+    ensures { λ r. ⌜ r ≡ keptAt (now (kept .entry)) minute ⌝ }
+{
+    let at = RIDE_WORDS * minute;
+    Found {
+        depart: kept[at],
+        trip: kept[at + 1],
+        board: kept[at + 2],
+        alight: kept[at + 3],
+    }
+}
+
+// Before the rides are gone through none is kept for any minute.
+fn fill_none(kept: &mut [u32])
+    requires { ⌜ length (now kept) ≡ 11520 ⌝ }
+    ensures { λ _. ⌜ Unkept (now (kept .exit)) 2880 ⌝ }
+    ensures { λ _. ⌜ length (now (kept .exit)) ≡ length (now (kept .entry)) ⌝ }
+{
+    let mut a = 0;
+    while a < MINUTES {
+        put_ride(
+            kept,
+            a,
+            Found {
+                depart: 0,
+                trip: NO_TRIP,
+                board: 0,
+                alight: 0,
+            },
+        );
+        a += 1;
+    }
+}
+
+// Keeps a ride that arrives at a minute, if it goes before the one that is kept for that minute.
+fn keep(kept: &mut [u32], minute: usize, ride: Found)
+    requires { ⌜ (minute < 2880) × (length (now kept) ≡ 11520) ⌝ }
+    ensures { λ _. ⌜ now (kept .exit) ≡ keptWith (now (kept .entry)) minute ride ⌝ }
+    ensures { λ _. ⌜ length (now (kept .exit)) ≡ length (now (kept .entry)) ⌝ }
+{
+    if goes_before(ride, kept_at(kept, minute)) {
+        put_ride(kept, minute, ride);
+    }
+}
+
+// Keeps the ride on the trip at place j of a line from place x to place p, if its penalty is the least of the minute in
+// which it arrives.
+fn keep_trip(
+    v: &[u16],
+    l: Line,
+    x: usize,
+    p: usize,
+    j: usize,
+    points: u32,
+    best: &[u32],
+    kept: &mut [u32],
+)
     requires { ⌜ (l .at < 65536)
         × (l .positions < 65536)
         × (l .trips < 65536)
         × (x < 65536)
         × (p < 65536)
         × (j < 65536)
-        × Fitting found ⌝ }
-    ensures { λ r. ⌜ (r ≡ triedOn (now (v .entry)) l x p j (cost .minutes .0) found) × Fitting r ⌝ }
+        × (length (now best) ≡ 2880)
+        × (length (now kept) ≡ 11520) ⌝ }
+    ensures { λ _. ⌜ now (kept .exit)
+        ≡ keptOn (now (best .entry)) (now (kept .entry))
+        (rideOn (now (v .entry)) l x j (record { place = p; points = points })) ⌝ }
+    ensures { λ _. ⌜ length (now (kept .exit)) ≡ length (now (kept .entry)) ⌝ }
 {
-    if lookup::arrive_at(v, l, p, j) == cost.minutes.0 as usize {
-        let depart = lookup::depart_at(v, l, x, j);
-        let trip = lookup::number_at(v, l, j);
-        let ride = Found {
+    let minute = lookup::arrive_at(v, l, p, j);
+    if MINUTES <= minute {
+        return;
+    }
+    if points != best[minute] {
+        return;
+    }
+    let depart = lookup::depart_at(v, l, x, j) as u32;
+    let trip = lookup::number_at(v, l, j) as u32;
+    keep(
+        kept,
+        minute,
+        Found {
             depart,
             trip,
-            board: x + 1,
-            alight: p + 1,
-        };
-        return better(found, ride);
-    }
-    found
+            board: (x + 1) as u32,
+            alight: (p + 1) as u32,
+        },
+    );
 }
 
-// The best of the rides from place x to place p of a line that arrive at the minute of the cost, on its trips from
-// place first on.
-fn pick_trips(
+// Keeps the rides from place x to place p of a line, on its trips from place first on; points is their penalty.
+fn keep_trips(
     v: &[u16],
     l: Line,
     x: usize,
     p: usize,
     first: usize,
-    cost: Cost,
-    found: Found,
-) -> Found
+    points: u32,
+    best: &[u32],
+    kept: &mut [u32],
+)
     requires { ⌜ (l .at < 65536)
         × (l .positions < 65536)
         × (l .trips < 65536)
         × (x < 65536)
         × (p < 65536)
         × (first ≤ l .trips)
-        × Fitting found ⌝ }
-    ensures { λ r. ⌜ (r
-        ≡ picked (costOf cost) found
-        (tripsFrom (now (v .entry)) l x first (record { place = p; points = cost .points .0 })))
-        × Fitting r ⌝ }
+        × (length (now best) ≡ 2880)
+        × (length (now kept) ≡ 11520) ⌝ }
+    ensures { λ _. ⌜ now (kept .exit)
+        ≡ keepAll (now (best .entry)) (now (kept .entry))
+        (tripsFrom (now (v .entry)) l x first (record { place = p; points = points })) ⌝ }
+    ensures { λ _. ⌜ length (now (kept .exit)) ≡ length (now (kept .entry)) ⌝ }
 {
-    let mut best = found;
     let mut j = first;
     while j < l.trips {
-        best = pick_trip(v, l, x, p, j, cost, best);
+        keep_trip(v, l, x, p, j, points, best, kept);
         j += 1;
     }
-    best
 }
 
-// The best of the rides of the cost to place p of a line, if the station there is the one asked for; points is the
-// penalty of those rides.
-fn pick_at(
+// Keeps those rides, if the station at place p is the one asked for.
+fn keep_at(
     v: &[u16],
     l: Line,
     x: usize,
@@ -287,80 +345,69 @@ fn pick_at(
     first: usize,
     to: usize,
     points: u32,
-    cost: Cost,
-    found: Found,
-) -> Found
+    best: &[u32],
+    kept: &mut [u32],
+)
     requires { ⌜ (l .at < 65536)
         × (l .positions < 65536)
         × (l .trips < 65536)
         × (x < 65536)
         × (p < 65536)
         × (first ≤ l .trips)
-        × Fitting found ⌝ }
-    ensures { λ r. ⌜ (r ≡ pickedAt (now (v .entry)) l x p first to points (costOf cost) found) × Fitting r ⌝ }
+        × (length (now best) ≡ 2880)
+        × (length (now kept) ≡ 11520) ⌝ }
+    ensures { λ _. ⌜ now (kept .exit)
+        ≡ keptTo (now (v .entry)) l x p first to points (now (best .entry)) (now (kept .entry)) ⌝ }
+    ensures { λ _. ⌜ length (now (kept .exit)) ≡ length (now (kept .entry)) ⌝ }
 {
-    if lookup::station_at(v, l, p) != to {
-        return found;
+    if lookup::station_at(v, l, p) == to {
+        keep_trips(v, l, x, p, first, points, best, kept);
     }
-    if points != cost.points.0 {
-        return found;
-    }
-    pick_trips(v, l, x, p, first, cost, found)
 }
 
-// The best of the rides of the cost from place x of a line to the station, on its trips from place first on.
-fn pick_reach(
-    v: &[u16],
-    l: Line,
-    x: usize,
-    first: usize,
-    to: usize,
-    cost: Cost,
-    found: Found,
-) -> Found
+// Keeps the rides from place x of a line to the station, on its trips from place first on.
+fn keep_reach(v: &[u16], l: Line, x: usize, first: usize, to: usize, best: &[u32], kept: &mut [u32])
     requires { ⌜ (l .at < 65536)
         × (l .positions < 65536)
         × (l .trips < 65536)
         × (x < 65536)
         × (first ≤ l .trips)
-        × Fitting found ⌝ }
-    ensures { λ r. ⌜ (r
-        ≡ picked (costOf cost) found
-        (concatMap (tripsFrom (now (v .entry)) l x first) (reach (now (v .entry)) l x to)))
-        × Fitting r ⌝ }
+        × (length (now best) ≡ 2880)
+        × (length (now kept) ≡ 11520) ⌝ }
+    ensures { λ _. ⌜ now (kept .exit)
+        ≡ keepAll (now (best .entry)) (now (kept .entry))
+        (concatMap (tripsFrom (now (v .entry)) l x first) (reach (now (v .entry)) l x to)) ⌝ }
+    ensures { λ _. ⌜ length (now (kept .exit)) ≡ length (now (kept .entry)) ⌝ }
 {
-    let mut best = found;
     let mut points: u32 = 0;
     let mut p = x;
     while p + 1 < l.positions {
         points += lookup::points_at(v, l, p) as u32;
         p += 1;
-        best = pick_at(v, l, x, p, first, to, points, cost, best);
+        keep_at(v, l, x, p, first, to, points, best, kept);
     }
-    best
 }
 
-// The ride that is shown for a cost, its minutes being those of the arrival.
-fn pick_ride(v: &[u16], from: usize, to: usize, minute: usize, cost: Cost) -> Found
-    requires { ⌜ (1 ≤ from) × (from ≤ 64) × (callsPlace (now v) from ≤ length (now v)) ⌝ }
-    ensures { λ r. ⌜ (r ≡ pickFor (allRead (now (v .entry)) from minute to) (costOf cost)) × Fitting r ⌝ }
+// Goes once through all rides from one station to another that leave at the minute or later, and keeps them.
+fn keep_all(v: &[u16], from: usize, to: usize, minute: usize, best: &[u32], kept: &mut [u32])
+    requires { ⌜ (1 ≤ from)
+        × (from ≤ 64)
+        × (callsPlace (now v) from ≤ length (now v))
+        × (length (now best) ≡ 2880)
+        × (length (now kept) ≡ 11520) ⌝ }
+    ensures { λ _. ⌜ now (kept .exit)
+        ≡ keepAll (now (best .entry)) (now (kept .entry)) (allRead (now (v .entry)) from minute to) ⌝ }
+    ensures { λ _. ⌜ length (now (kept .exit)) ≡ length (now (kept .entry)) ⌝ }
 {
-    let mut found = Found {
-        depart: 0,
-        trip: NO_TRIP,
-        board: 0,
-        alight: 0,
-    };
     let end = lookup::calls_place(v, from);
     let mut k = lookup::calls_place(v, from - 1);
     while k + 1 < end {
         let l = call_line(v, k);
         let x = call_place(v, k);
         let first = lookup::first_trip(v, l, x, minute);
-        found = pick_reach(v, l, x, first, to, cost, found);
+        keep_reach(v, l, x, first, to, best, kept);
         k += 2;
     }
-    found
 }
 
 // The minutes from one minute to a later one; none if it is not later.
@@ -374,56 +421,40 @@ fn minutes_between(minute: usize, arrive: u32) -> u32
 }
 
 // The row for a cost, its minutes being those of the arrival, from index at on.
-fn write_row(
-    v: &[u16],
-    from: usize,
-    to: usize,
-    minute: usize,
-    cost: Cost,
-    answer: &mut [u32],
-    at: usize,
-)
-    requires { ⌜ (1 ≤ from)
-        × (from ≤ 64)
-        × (callsPlace (now v) from ≤ length (now v))
+fn write_row(kept: &[u32], minute: usize, cost: Cost, answer: &mut [u32], at: usize)
+    requires { ⌜ (length (now kept) ≡ 11520)
+        × (cost .minutes .0 < 2880)
         × (at + 6 ≤ length (now answer)) ⌝ }
     ensures { λ _. ⌜ now (answer .exit)
-        ≡ put at (rowFor minute (costOf cost) (pickFor (allRead (now (v .entry)) from minute to) (costOf cost)))
-        (now (answer .entry)) ⌝ }
+        ≡ put at (rowFor minute (costOf cost) (keptAt (now (kept .entry)) (cost .minutes .0))) (now (answer .entry)) ⌝ }
     ensures { λ _. ⌜ length (now (answer .exit)) ≡ length (now (answer .entry)) ⌝ }
 {
-    let ride = pick_ride(v, from, to, minute, cost);
+    let ride = kept_at(kept, cost.minutes.0 as usize);
     let duration = minutes_between(minute, cost.minutes.0);
     words::put_pair(answer, at, duration, cost.points.0);
-    words::put_pair(answer, at + 2, 1, ride.trip as u32);
-    words::put_pair(answer, at + 4, ride.board as u32, ride.alight as u32);
+    words::put_pair(answer, at + 2, 1, ride.trip);
+    words::put_pair(answer, at + 4, ride.board, ride.alight);
 }
 
 // The row for a cost, if its penalty is below the least of all earlier minutes. Answers the index behind what it wrote.
 fn write_lead(
-    v: &[u16],
-    from: usize,
-    to: usize,
+    kept: &[u32],
     minute: usize,
     cost: Cost,
     least: u32,
     answer: &mut [u32],
     at: usize,
 ) -> usize
-    requires { ⌜ (1 ≤ from)
-        × (from ≤ 64)
-        × (callsPlace (now v) from ≤ length (now v))
-        × (at + length (leadWords minute (allRead (now v) from minute to) (costOf cost) least)
-        ≤ length (now answer)) ⌝ }
+    requires { ⌜ (length (now kept) ≡ 11520)
+        × (cost .minutes .0 < 2880)
+        × (at + length (leadWords minute (now kept) (costOf cost) least) ≤ length (now answer)) ⌝ }
     ensures { λ _. ⌜ now (answer .exit)
-        ≡ put at (leadWords minute (allRead (now (v .entry)) from minute to) (costOf cost) least)
-        (now (answer .entry)) ⌝ }
+        ≡ put at (leadWords minute (now (kept .entry)) (costOf cost) least) (now (answer .entry)) ⌝ }
     ensures { λ _. ⌜ length (now (answer .exit)) ≡ length (now (answer .entry)) ⌝ }
-    ensures { λ r. ⌜ r
-        ≡ at + length (leadWords minute (allRead (now (v .entry)) from minute to) (costOf cost) least) ⌝ }
+    ensures { λ r. ⌜ r ≡ at + length (leadWords minute (now (kept .entry)) (costOf cost) least) ⌝ }
 {
     if cost.points.0 < least {
-        write_row(v, from, to, minute, cost, answer, at);
+        write_row(kept, minute, cost, answer, at);
         return at + ROW_WORDS;
     }
     at
@@ -431,16 +462,13 @@ fn write_lead(
 
 // All rows of the answer, in rising duration: one for each arrival minute whose penalty is below those of all earlier
 // minutes.
-fn write_rows(v: &[u16], best: &[u32], from: usize, to: usize, minute: usize, answer: &mut [u32])
-    requires { ⌜ (1 ≤ from)
-        × (from ≤ 64)
-        × (callsPlace (now v) from ≤ length (now v))
-        × (length (now best) ≡ 2880)
+fn write_rows(best: &[u32], kept: &[u32], minute: usize, answer: &mut [u32])
+    requires { ⌜ (length (now best) ≡ 2880)
+        × (length (now kept) ≡ 11520)
         × (6 * length (leads noPoints 0 (now best)) ≤ length (now answer)) ⌝ }
     ensures { λ _. ⌜ now (answer .exit)
         ≡ put 0
-        (concatMap (λ r. r)
-        (rowsFrom minute (allRead (now (v .entry)) from minute to) (leads noPoints 0 (now (best .entry)))))
+        (concatMap (λ r. r) (rowsKept minute (now (kept .entry)) (leads noPoints 0 (now (best .entry)))))
         (now (answer .entry)) ⌝ }
     ensures { λ _. ⌜ length (now (answer .exit)) ≡ length (now (answer .entry)) ⌝ }
 {
@@ -452,7 +480,7 @@ fn write_rows(v: &[u16], best: &[u32], from: usize, to: usize, minute: usize, an
             minutes: Minutes(a as u32),
             points: Points(best[a]),
         };
-        here = write_lead(v, from, to, minute, cost, least, answer, here);
+        here = write_lead(kept, minute, cost, least, answer, here);
         least = lesser(least, best[a]);
         a += 1;
     }
@@ -460,41 +488,104 @@ fn write_rows(v: &[u16], best: &[u32], from: usize, to: usize, minute: usize, an
 
 // Notes what the first rides cost, for each minute of arrival. Answers how many rows there will be.
 fn find_costs(v: &[u16], from: usize, to: usize, minute: usize, best: &mut [u32]) -> usize
-    requires { ⌜ (1 ≤ from) × (from ≤ 64) × (callsPlace (now v) from ≤ length (now v)) × (length (now best) ≡ 2880) ⌝ }
+    requires { ⌜ (1 ≤ from)
+        × (from ≤ 64)
+        × (callsPlace (now v) from ≤ length (now v))
+        × (now best ≡ blank)
+        × (length (now best) ≡ 2880) ⌝ }
     ensures { λ r. ⌜ (now (best .exit) ≡ bestOf (now (v .entry)) from to minute)
         × (r ≡ length (leadsOf (now (v .entry)) from to minute))
         × (r ≤ 2880)
         × (length (now (best .exit)) ≡ 2880) ⌝ }
 {
-    fill_blank(best);
     note_first(v, from, to, minute, best);
     count_rows(best)
+}
+
+// Finds the rides that are shown, for each minute of arrival the one that goes before all others of its least penalty.
+fn find_rides(v: &[u16], from: usize, to: usize, minute: usize, best: &[u32], kept: &mut [u32])
+    requires { ⌜ (1 ≤ from)
+        × (from ≤ 64)
+        × (callsPlace (now v) from ≤ length (now v))
+        × (length (now best) ≡ 2880)
+        × (length (now kept) ≡ 11520) ⌝ }
+    ensures { λ _. ⌜ Keeps (now (best .entry)) (now (kept .exit)) (allRead (now (v .entry)) from minute to) ⌝ }
+    ensures { λ _. ⌜ length (now (kept .exit)) ≡ length (now (kept .entry)) ⌝ }
+{
+    fill_none(kept);
+    keep_all(v, from, to, minute, best, kept);
 }
 
 // Answers a query from line tables that belong to the timetable. The answer is measured before a word is written.
 fn show(
     v: &[u16],
-    best: &mut [u32],
+    kept: &mut [u32],
     from: usize,
     to: usize,
     minute: usize,
     answer: &mut [u32],
 ) -> Reply
-    requires { ⌜ (1 ≤ from) × (from ≤ 64) × (callsPlace (now v) from ≤ length (now v)) × (length (now best) ≡ 2880) ⌝ }
+    requires { ⌜ (1 ≤ from) × (from ≤ 64) × (callsPlace (now v) from ≤ length (now v)) × (length (now kept) ≡ 11520) ⌝ }
     ensures { λ r. ⌜ r ≡ foundReply (now (v .entry)) from to minute (length (now (answer .entry))) ⌝ }
     ensures { λ _. ⌜ now (answer .exit) ≡ foundAnswer (now (v .entry)) from to minute (now (answer .entry)) ⌝ }
 {
-    let count = find_costs(v, from, to, minute, best);
+    let mut best = [NO_POINTS; MINUTES];
+    let count = find_costs(v, from, to, minute, &mut best);
     if count < 1 {
         return Reply::Refused { number: 14 };
     }
     if answer.len() < ROW_WORDS * count {
         return Reply::Refused { number: 15 };
     }
-    write_rows(v, best, from, to, minute, answer);
+    find_rides(v, from, to, minute, &best, kept);
+    write_rows(&best, kept, minute, answer);
     Reply::Done {
         count: count as u32,
     }
+}
+
+// Answers the query if no question is in the way.
+fn direct_asked(
+    words: &[u16],
+    lines: &[u16],
+    work: &mut [u32],
+    from: u32,
+    to: u32,
+    minute: u32,
+    answer: &mut [u32],
+) -> Reply
+    ensures { λ r. ⌜ r
+        ≡ directReply
+        (now (words .entry))
+        (now (lines .entry))
+        (length (now (work .entry)))
+        from
+        to
+        minute
+        (length (now (answer .entry))) ⌝ }
+    ensures { λ _. ⌜ now (answer .exit)
+        ≡ directWords
+        (now (words .entry))
+        (now (lines .entry))
+        (length (now (work .entry)))
+        from
+        to
+        minute
+        (now (answer .entry)) ⌝ }
+{
+    let number = checking::query_number(words, lines, work, from, to, minute);
+    if number != 0 {
+        return Reply::Refused { number };
+    }
+    let kept = &mut work[0..KEPT_WORDS];
+    show(
+        lines,
+        kept,
+        from as usize,
+        to as usize,
+        minute as usize,
+        answer,
+    )
 }
 
 // The direct rides from one station to another at a minute. Working space may hold any words afterwards.
@@ -516,6 +607,15 @@ pub fn direct(
         to
         minute
         (length (now (answer .entry))) ⌝ }
+    ensures values { λ r. ⌜ valuesOf r
+        ≡ directValues
+        (now (words .entry))
+        (now (lines .entry))
+        (length (now (work .entry)))
+        from
+        to
+        minute
+        (length (now (answer .entry))) ⌝ }
     ensures words { λ _. ⌜ now (answer .exit)
         ≡ directWords
         (now (words .entry))
@@ -526,17 +626,5 @@ pub fn direct(
         minute
         (now (answer .entry)) ⌝ }
 {
-    let number = checking::query_number(words, lines, work, from, to, minute);
-    if number != 0 {
-        return Reply::Refused { number };
-    }
-    let best = &mut work[0..MINUTES];
-    show(
-        lines,
-        best,
-        from as usize,
-        to as usize,
-        minute as usize,
-        answer,
-    )
+    direct_asked(words, lines, work, from, to, minute, answer)
 }

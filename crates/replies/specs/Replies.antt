@@ -3,7 +3,7 @@
 -- number 0."
 use mathlib.Core.Path.{_≡_, refl, sym, ap, _∙_}
 use mathlib.Core.Bool.{Bool, true, false, cond}
-use mathlib.Core.List.{List}
+use mathlib.Core.List.{List, [], _∷_}
 use Prim.Native.Nat.{ℕ, zero, suc}
 use lib.Dec.{eqb, eqb·suc-zero}
 use Rattle.words.specs.Put.{put}
@@ -22,6 +22,14 @@ countOf (Refused number) = 0
 -- the reply, where the first no has this number, and the result this count
 unfoldable pub replyOf : (number count : ℕ) → Reply
 replyOf number count = cond (eqb number 0) (Done count) (Refused number)
+
+-- number and count of a reply, and those where the first no has this number, and the result this count: "A refusal
+-- returns its number, .. count 0"
+abbrev pub valuesOf : Reply → List ℕ
+valuesOf r = numberOf r ∷ countOf r ∷ []
+
+unfoldable pub valuesFor : (number count : ℕ) → List ℕ
+valuesFor number count = number ∷ cond (eqb number 0) count 0 ∷ []
 
 -- the words of the result slice
 unfoldable pub wordsAfter : (number : ℕ) → (result old : List ℕ) → List ℕ
@@ -42,6 +50,15 @@ module _ (number count : ℕ) where
   reply-number = go number
     where
       go : (n : ℕ) → numberOf (cond (eqb n 0) (Done count) (Refused n)) ≡ n
+      go zero = refl
+      go (suc n) = rw (eqb·suc-zero n)
+
+  pub reply-values : (r : Reply) → r ≡ replyOf number count → valuesOf r ≡ valuesFor number count
+  unfolding replyOf valuesFor
+  reply-values r e = ap valuesOf e ∙ go number
+    where
+      go : (n : ℕ)
+          → valuesOf (cond (eqb n 0) (Done count) (Refused n)) ≡ n ∷ cond (eqb n 0) count 0 ∷ []
       go zero = refl
       go (suc n) = rw (eqb·suc-zero n)
 

@@ -1,4 +1,5 @@
 -- What building line tables replies and writes.
+use mathlib.Core.Path.{_≡_}
 use mathlib.Core.Bool.{_&&_}
 use mathlib.Core.List.{List, [], _∷_}
 use Prim.Native.Nat.{ℕ}
@@ -6,7 +7,7 @@ use lib.Dec.{leb}
 use lib.ListN.{length}
 use Rattle.questions.specs.Question.{ask, firstNo}
 use Rattle.replies.specs.declared.Reply.{Reply}
-use Rattle.replies.specs.Replies.{replyOf, wordsAfter}
+use Rattle.replies.specs.Replies.{replyOf, valuesOf, valuesFor, wordsAfter, reply-values}
 use Rattle.timetable.specs.Timetable.{Timetable}
 use Rattle.timetable.specs.Words.{timetableOf, isTimetable}
 use Rattle.lines.specs.Lines.{lines}
@@ -31,6 +32,14 @@ lineCount t = length (lines (t .trips))
 
 unfoldable pub buildReply : List ℕ → (m n : ℕ) → Reply
 buildReply w m n = replyOf (buildNumber w m n) (lineCount (timetableOf w))
+
+-- its number and count
+unfoldable pub buildValues : List ℕ → (m n : ℕ) → List ℕ
+buildValues w m n = valuesFor (buildNumber w m n) (lineCount (timetableOf w))
+
+pub build-values : (w : List ℕ) (m n : ℕ) (r : Reply) → r ≡ buildReply w m n → valuesOf r ≡ buildValues w m n
+unfolding buildReply buildValues
+build-values w m n r e = reply-values (buildNumber w m n) (lineCount (timetableOf w)) r e
 
 -- the line tables of a timetable
 abbrev pub tablesOf : Timetable → List ℕ

@@ -5,7 +5,7 @@ use Rattle.direct.proofs.write_lead.Statement.{statement}
 use Rattle.direct.proofs.write_lead.Tie as tie
 
 write-row-requires : tie.Need-write-row-requires
-write-row-requires c κs = (search needs, search needs, search needs, search lead-room)
+write-row-requires c κs = (search needs, search needs, search lead-room)
 
 returns : tie.Need-returns
 returns c = (search lead-written, (search needs, search lead-end))
