@@ -26,8 +26,11 @@
  *           with them; lent alone, those of no accepted timetable       0
  *   11      a station or the line is not there, or from and to are one  0
  *   12      the minute is above 2,879                                   0
- *   14      there is no feasible connection                             0
- *   15      the answer slice is too short for the result                0
+ *   13      the store is not well made                                  0
+ *   14      there is no feasible connection, or none whose pattern the
+ *           store holds                                                 0
+ *   15      the answer or store slice is too short for the result, or
+ *           a store would have more than 16,383 nodes or arcs           0
  */
 #ifndef DAIRYEPOCH_H
 #define DAIRYEPOCH_H
@@ -45,6 +48,9 @@ extern "C" {
 /* The least length of a slice of line tables, in 16-bit words, and of working space, in 32-bit words. */
 #define DAIRYEPOCH_LINES_WORDS 16384
 #define DAIRYEPOCH_WORK_WORDS 16384
+
+/* The words of the largest store: 16,383 prefix nodes and as many arcs. A slice that long is long enough for any. */
+#define DAIRYEPOCH_STORE_WORDS_MOST 65534
 
 /* The words of an answer's row that has one ride, as all rows of a direct query have. */
 #define DAIRYEPOCH_DIRECT_ROW_WORDS 6
@@ -129,6 +135,48 @@ uint64_t dairyepoch_line_trips(const uint16_t *lines, size_t lines_len, uint32_t
 uint64_t dairyepoch_direct(const uint16_t *timetable, size_t timetable_len, const uint16_t *lines, size_t lines_len,
                            uint32_t *work, size_t work_len, uint32_t from, uint32_t to, uint32_t minute,
                            uint32_t *answer, size_t answer_len);
+
+/*
+ * Makes the store of a source: the patterns of all optimal connections from there, at any minute from 0 to 2,879 and
+ * to any other station. Writes it to the start of the store slice:
+ *
+ *   n, the number of prefix nodes; m, the number of arcs;
+ *   for each prefix node: station, parent; for each arc: target station, predecessor
+ *
+ * Parent and predecessor are 0 for the root, which is the source, or a prefix node's number, counted from 1. A pattern
+ * is read from an arc back through the parents to the root. Shorter nodes come first, then those of the smaller
+ * sequence of stations; arcs rise by target, then by predecessor. Words past the store keep their values, and after a
+ * refusal all words of the slice do. The store slice may have any length; the others as for building. The count is the
+ * number of words, 2 + 2n + 2m.
+ *
+ * Reply: 0 and the number of words; or a refusal: 8, then 9, then 10, then 11, then 15, which is given exactly if n or
+ * m is above 16,383 or the slice has fewer words than the store.
+ */
+uint64_t dairyepoch_make_store(const uint16_t *timetable, size_t timetable_len, const uint16_t *lines,
+                               size_t lines_len, uint32_t *work, size_t work_len, uint32_t source, uint16_t *store,
+                               size_t store_len);
+
+/*
+ * The connections from one station to another at a minute, or later, whose pattern can be read from the store, with
+ * from as its root. Writes a row for each cost that no cost of these dominates, in rising duration, to the start of
+ * the answer slice:
+ *
+ *   duration in minutes, penalty in points, number of rides; then for each ride trip, boarding stop, alighting stop
+ *
+ * The duration counts from the minute. Of the connections of one cost the one shown departs latest; of those it has
+ * the fewest rides; of those its rides come first, compared number by number. From a store that dairyepoch_make_store
+ * wrote, with number 0, for source from and this timetable, these are the rows among all connections.
+ *
+ * A store is well made if all its words are present, n and m are at most 16,383, its stations are listed, each parent
+ * is below its node's own number, each predecessor is at most n, the arcs strictly rise, and no pattern has more than
+ * 64 stations. The words past the store are not judged. Words past the rows keep their values, and after a refusal all
+ * words of the answer do. The store and answer slices may have any length; the others as for building.
+ *
+ * Reply: 0 and the number of rows; or a refusal: 8, then 9, then 10, then 11, then 12, then 13, then 14, then 15.
+ */
+uint64_t dairyepoch_query(const uint16_t *timetable, size_t timetable_len, const uint16_t *lines, size_t lines_len,
+                          const uint16_t *store, size_t store_len, uint32_t *work, size_t work_len, uint32_t from,
+                          uint32_t to, uint32_t minute, uint32_t *answer, size_t answer_len);
 
 #ifdef __cplusplus
 }

@@ -1,10 +1,14 @@
 //! What each call must reply and write: document 01's questions, in its order, put to what the other modules hold of
 //! the lent words.
 
+use crate::connections::{self, Connection};
 use crate::direct::{self, Query, Ride};
-use crate::ffi::Reply;
+use crate::ffi::{Reply, Tables};
+use crate::following::Guide;
 use crate::lines::{self, LINE_WORDS, WORK_WORDS};
 use crate::reference;
+use crate::search::{self, Network};
+use crate::store::{self, Store};
 use crate::tables;
 use crate::timetable::{Stop, Timetable, LAST_MINUTE};
 use crate::words::{text_of, to_words, TIMETABLE_WORDS};
@@ -61,9 +65,7 @@ pub fn line_trips(lines: &[u16], work_length: usize, line: u32) -> Reply {
 pub fn direct(timetable: &[u16], lines: &[u16], work_length: usize, query: Query, length: usize) -> Expected<u32> {
     let answer = || {
         let parsed = lent_both(timetable, lines, work_length)?;
-        let listed = |station: u32| (1..=parsed.stations.len() as u32).contains(&station);
-        ask(listed(query.from) && listed(query.to) && query.from != query.to, 11)?;
-        ask(query.minute <= LAST_MINUTE.into(), 12)?;
+        asked(&parsed, query)?;
         let rows = direct_rows(&parsed, timetable, query);
         ask(!rows.is_empty(), 14)?;
         let words = direct::to_words(&rows);
@@ -71,6 +73,13 @@ pub fn direct(timetable: &[u16], lines: &[u16], work_length: usize, query: Query
         Ok((rows.len() as u32, words))
     };
     expected(answer())
+}
+
+/// Questions 11 and 12 to a query.
+fn asked(timetable: &Timetable, query: Query) -> Result<(), u32> {
+    let listed = |station: u32| (1..=timetable.stations.len() as u32).contains(&station);
+    ask(listed(query.from) && listed(query.to) && query.from != query.to, 11)?;
+    ask(query.minute <= LAST_MINUTE.into(), 12)
 }
 
 /// By listing all rides, where they are not too many to be held against each other.
@@ -83,6 +92,62 @@ fn direct_rows(timetable: &Timetable, words: &[u16], query: Query) -> Vec<Ride> 
     let mut rows = Vec::new();
     direct::scan(words, query, &mut rows);
     rows
+}
+
+/// The connections of one station that are listed, where there are not too many.
+pub const LISTED_MOST: usize = 2_000;
+
+/// Making the store of a source, in a slice of `length` words.
+pub fn make_store(timetable: &[u16], lines: &[u16], work_length: usize, source: u32, length: usize) -> Expected<u16> {
+    let answer = || {
+        let timetable = lent_both(timetable, lines, work_length)?;
+        ask((1..=timetable.stations.len() as u32).contains(&source), 11)?;
+        let words = store_words(&timetable, source).ok_or(15u32)?;
+        ask(length >= words.len(), 15)?;
+        Ok((words.len() as u32, words))
+    };
+    expected(answer())
+}
+
+/// The words of a source's store; none if it has too many nodes or arcs. By listing all connections, where there are
+/// not too many.
+pub fn store_words(timetable: &Timetable, source: u32) -> Option<Vec<u16>> {
+    match connections::list(timetable, source, LISTED_MOST) {
+        Some(list) => store::to_words(&store::by_list(&list, source)),
+        None => search::patterns(&Network::new(timetable), source).map(|patterns| patterns.to_words()),
+    }
+}
+
+/// A query from a store, with an answer slice of `length` words.
+pub fn query(tables: Tables, work_length: usize, query: Query, length: usize) -> Expected<u32> {
+    let answer = || {
+        let timetable = lent_both(tables.timetable, tables.lines, work_length)?;
+        asked(&timetable, query)?;
+        let store = store::well_made(tables.store, timetable.stations.len()).ok_or(13u32)?;
+        shown(&query_rows(&timetable, &store, query), query, length)
+    };
+    expected(answer())
+}
+
+/// The answer of a query that has these rows, where all questions before 14 had their yes.
+pub fn answer_of(rows: &[Connection], query: Query, length: usize) -> Expected<u32> {
+    expected(shown(rows, query, length))
+}
+
+fn shown(rows: &[Connection], query: Query, length: usize) -> Answer<u32> {
+    ask(!rows.is_empty(), 14)?;
+    let words = connections::to_words(rows, query.minute);
+    ask(length >= words.len(), 15)?;
+    Ok((rows.len() as u32, words))
+}
+
+/// The rows of a query from a well-made store. By listing all connections, where there are not too many.
+pub fn query_rows(timetable: &Timetable, store: &Store, query: Query) -> Vec<Connection> {
+    let sequences = store.sequences();
+    match connections::list(timetable, query.from, LISTED_MOST) {
+        Some(list) => connections::rows(store::kept(&list, &sequences, query), query.minute),
+        None => Guide::new(&sequences).rows(&Network::new(timetable), query),
+    }
 }
 
 /// Questions 8 and 9 to a timetable that is lent with line tables of this length.

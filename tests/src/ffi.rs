@@ -51,6 +51,32 @@ mod exported {
             answer: *mut u32,
             answer_len: usize,
         ) -> u64;
+        pub fn dairyepoch_make_store(
+            timetable: *const u16,
+            timetable_len: usize,
+            lines: *const u16,
+            lines_len: usize,
+            work: *mut u32,
+            work_len: usize,
+            source: u32,
+            store: *mut u16,
+            store_len: usize,
+        ) -> u64;
+        pub fn dairyepoch_query(
+            timetable: *const u16,
+            timetable_len: usize,
+            lines: *const u16,
+            lines_len: usize,
+            store: *const u16,
+            store_len: usize,
+            work: *mut u32,
+            work_len: usize,
+            from: u32,
+            to: u32,
+            minute: u32,
+            answer: *mut u32,
+            answer_len: usize,
+        ) -> u64;
     }
 }
 
@@ -201,4 +227,121 @@ pub fn direct_of_nothing(Query { from, to, minute }: Query) -> Reply {
     let bits =
         unsafe { exported::dairyepoch_direct(null(), 0, null(), 0, null_mut(), 0, from, to, minute, null_mut(), 0) };
     Reply::from_bits(bits)
+}
+
+pub fn make_store(timetable: &[u16], lines: &[u16], work: &mut [u32], source: u32, store: &mut [u16]) -> Reply {
+    // SAFETY: the store's pointer and length are those of a slice, which overlaps no other.
+    unsafe { make_store_in(timetable, lines, work, source, store.as_mut_ptr(), store.len()) }
+}
+
+/// A store call without a store slice: a null pointer and length 0.
+pub fn make_store_of_no_words(timetable: &[u16], lines: &[u16], work: &mut [u32], source: u32) -> Reply {
+    // SAFETY: the store has no word, so that nothing is written of it.
+    unsafe { make_store_in(timetable, lines, work, source, null_mut(), 0) }
+}
+
+/// # Safety
+///
+/// The store's pointer must lead to as many words as its length says, which are in none of the slices.
+unsafe fn make_store_in(
+    timetable: &[u16],
+    lines: &[u16],
+    work: &mut [u32],
+    source: u32,
+    store: *mut u16,
+    store_len: usize,
+) -> Reply {
+    let bits = exported::dairyepoch_make_store(
+        timetable.as_ptr(),
+        timetable.len(),
+        lines.as_ptr(),
+        lines.len(),
+        work.as_mut_ptr(),
+        work.len(),
+        source,
+        store,
+        store_len,
+    );
+    Reply::from_bits(bits)
+}
+
+/// A store call with nothing lent at all: null pointers and lengths 0.
+pub fn make_store_of_nothing(source: u32) -> Reply {
+    // SAFETY: no slice has a word, so that nothing is read or written.
+    let bits = unsafe { exported::dairyepoch_make_store(null(), 0, null(), 0, null_mut(), 0, source, null_mut(), 0) };
+    Reply::from_bits(bits)
+}
+
+/// What a query is lent for reading.
+#[derive(Clone, Copy)]
+pub struct Tables<'a> {
+    pub timetable: &'a [u16],
+    pub lines: &'a [u16],
+    pub store: &'a [u16],
+}
+
+pub fn query(tables: Tables, work: &mut [u32], query: Query, answer: &mut [u32]) -> Reply {
+    // SAFETY: the answer's pointer and length are those of a slice, which overlaps no other.
+    unsafe { query_to(tables, work, query, answer.as_mut_ptr(), answer.len()) }
+}
+
+/// A query without an answer slice: a null pointer and length 0.
+pub fn query_to_nothing(tables: Tables, work: &mut [u32], query: Query) -> Reply {
+    // SAFETY: the answer has no word, so that nothing is written of it.
+    unsafe { query_to(tables, work, query, null_mut(), 0) }
+}
+
+/// # Safety
+///
+/// The answer's pointer must lead to as many words as its length says, which are in none of the slices.
+unsafe fn query_to(
+    Tables { timetable, lines, store }: Tables,
+    work: &mut [u32],
+    Query { from, to, minute }: Query,
+    answer: *mut u32,
+    answer_len: usize,
+) -> Reply {
+    let bits = exported::dairyepoch_query(
+        timetable.as_ptr(),
+        timetable.len(),
+        lines.as_ptr(),
+        lines.len(),
+        store.as_ptr(),
+        store.len(),
+        work.as_mut_ptr(),
+        work.len(),
+        from,
+        to,
+        minute,
+        answer,
+        answer_len,
+    );
+    Reply::from_bits(bits)
+}
+
+/// A query with no store, or with nothing lent at all: null pointers and lengths 0.
+pub fn query_of_no_store(timetable: &[u16], lines: &[u16], work: &mut [u32], query: Query) -> [Reply; 2] {
+    let Query { from, to, minute } = query;
+    // SAFETY: the slices that have no word are neither read nor written.
+    let bits = unsafe {
+        [
+            exported::dairyepoch_query(
+                timetable.as_ptr(),
+                timetable.len(),
+                lines.as_ptr(),
+                lines.len(),
+                null(),
+                0,
+                work.as_mut_ptr(),
+                work.len(),
+                from,
+                to,
+                minute,
+                null_mut(),
+                0,
+            ),
+            exported::dairyepoch_query(null(), 0, null(), 0, null(), 0, null_mut(), 0, from, to, minute, null_mut(), 0),
+        ]
+    };
+    bits.map(Reply::from_bits)
 }

@@ -19,6 +19,10 @@ pub const SMALL: Size = Size { stations: 1..=4, trips: 0..=3, stops_of_a_trip: 2
 pub const MIDDLING: Size = Size { stations: 1..=20, trips: 0..=20, stops_of_a_trip: 2..=12 };
 /// For `crowded`.
 pub const CROWDED: Size = Size { stations: 2..=4, trips: 0..=7, stops_of_a_trip: 2..=6 };
+/// For `changing`.
+pub const CHANGING: Size = Size { stations: 2..=6, trips: 3..=12, stops_of_a_trip: 2..=5 };
+/// For `changing`, at the limits.
+pub const BUSY: Size = Size { stations: 64..=64, trips: 256..=256, stops_of_a_trip: 8..=8 };
 pub const LARGE: Size = Size { stations: 40..=64, trips: 100..=256, stops_of_a_trip: 2..=16 };
 
 pub fn timetable(random: &mut Random, size: &Size) -> Timetable {
@@ -143,6 +147,108 @@ pub fn crowded(random: &mut Random, size: &Size) -> Timetable {
         trips.push(trip_on(way, &rides_at(&moments)));
     }
     Timetable { stations: (0..stations).map(|_| station(random)).collect(), trips }
+}
+
+/// A timetable in which changing often pays: its trips run within a few minutes, by ways of their own and small
+/// penalties, and changes take little and cost little.
+pub fn changing(random: &mut Random, size: &Size) -> Timetable {
+    let stations = random.within(size.stations.clone()).max(2);
+    let width = random.pick(&[2, 6, 12, 24, 40]);
+    let latest = usize::from(spare(size.stops_of_a_trip.end() - 1)) + 1 - width;
+    let begin = random.pick(&[0, 1, 480, latest]);
+    let mut trips = Vec::new();
+    for _ in 0..random.within(size.trips.clone()) {
+        let way = way(random, stations, size);
+        let mut moments: Vec<u16> = (0..2 * (way.len() - 1)).map(|_| (begin + random.below(width)) as u16).collect();
+        moments.sort_unstable();
+        trips.push(trip_on(&way, &rides_at(&moments)));
+    }
+    let quick =
+        |_| Station { change_minutes: random.pick(&[0, 0, 0, 1, 2]), change_penalty: random.pick(&[1, 1, 2, 3]) };
+    Timetable { stations: (0..stations).map(quick).collect(), trips }
+}
+
+/// 64 stations and 16 routes of 8 stops between four towns and the villages, each with so many trips out and back in a
+/// day, at most 8. With 8 the timetable is at its limits.
+pub fn rural(random: &mut Random, rounds: usize) -> Timetable {
+    let mut trips = Vec::new();
+    for _ in 0..16 {
+        let towns = [0, 1].map(|_| random.within(1..=4));
+        let mut way: Way = vec![(towns[0], 0)];
+        for _ in 0..6 {
+            let last = way[way.len() - 1].0;
+            let next = random.within(5..=STATIONS_MOST);
+            way.push((if next == last { next % 60 + 5 } else { next }, 0));
+        }
+        way.push((towns[1], 0));
+        way.iter_mut().for_each(|stop| stop.1 = random.below(6) as u16);
+        let minutes: Vec<u16> = (0..7).map(|_| random.within(3..=12) as u16).collect();
+        let back: Way = way.iter().rev().copied().collect();
+        let every = 960 / rounds;
+        for round in 0..rounds {
+            let begin = 300 + round * every + random.below(every);
+            for (way, begin) in [(&way, begin), (&back, begin + random.within(60..=120))] {
+                let mut now = begin as u16;
+                let rides: Vec<(u16, u16)> = (minutes.iter())
+                    .map(|&ride| {
+                        let depart = now + u16::from(random.one_in(3));
+                        now = depart + ride;
+                        (depart, now)
+                    })
+                    .collect();
+                trips.push(trip_on(way, &rides));
+            }
+        }
+    }
+    let mut station =
+        |_| Station { change_minutes: random.within(2..=6) as u16, change_penalty: random.within(5..=20) as u16 };
+    Timetable { stations: (0..STATIONS_MOST).map(&mut station).collect(), trips }
+}
+
+/// A chain of diamonds from station 1: from each junction two ways lead to the next, with a change in between, and both
+/// are as good. So the patterns to each junction are twice as many as those to the one before.
+#[derive(Clone, Copy, Default)]
+pub struct Diamonds {
+    /// At most 20.
+    pub count: usize,
+    /// Whether one of the two ways arrives a minute later, and takes a bus of its own from there. Then its patterns
+    /// count for what lies beyond, and not for the next stations themselves.
+    pub late: bool,
+    /// Whether there is one more station behind the last junction.
+    pub beyond: bool,
+    /// Stations on a way of their own from station 1, with a change at each.
+    pub chain: u16,
+}
+
+impl Diamonds {
+    pub fn timetable(&self) -> Timetable {
+        let mut trips = Vec::new();
+        let mut hop = |from: u16, to: u16, depart: u16, arrive: u16| {
+            trips.push(trip_on(&[(from.into(), 0), (to.into(), 0)], &[(depart, arrive)]));
+        };
+        let late = u16::from(self.late);
+        let step = 2 + late;
+        for diamond in 0..self.count as u16 {
+            let (junction, now) = (1 + 3 * diamond, step * diamond);
+            for way in [junction + 1, junction + 2] {
+                for wait in 0..=late {
+                    hop(junction, way, now + wait, now + wait + 1);
+                }
+            }
+            hop(junction + 1, junction + 3, now + 1 + late, now + step);
+            hop(junction + 2, junction + 3, now + 1 + late, now + step + late);
+        }
+        let (mut last, end) = (1 + 3 * self.count as u16, step * self.count as u16 + late);
+        if self.beyond {
+            hop(last, last + 1, end, end + 1);
+            last += 1;
+        }
+        for link in 0..self.chain {
+            hop(if link == 0 { 1 } else { last + link }, last + link + 1, link, link + 1);
+        }
+        let stations = vec![Station { change_minutes: 0, change_penalty: 1 }; usize::from(last + self.chain)];
+        Timetable { stations, trips }
+    }
 }
 
 /// Every trip of so many stops over so many stations, with times from 0 to `last` and penalties 0 and 1.
@@ -323,6 +429,24 @@ mod tests {
                 let timetable = crowded(&mut random, &CROWDED);
                 assert_eq!(read(&timetable.to_text()), Ok(timetable));
             }
+        }
+    }
+
+    #[test]
+    fn timetables_with_changes_read_back_from_their_texts() {
+        let mut random = Random::new(3);
+        for _ in 0..200 {
+            let timetable = changing(&mut random, &CHANGING);
+            assert_eq!(read(&timetable.to_text()), Ok(timetable));
+        }
+        for timetable in [rural(&mut random, 8), changing(&mut random, &BUSY)] {
+            assert_eq!((timetable.trips.len(), timetable.trips.concat().len()), (TRIPS_MOST, STOPS_MOST));
+            assert_eq!(read(&timetable.to_text()), Ok(timetable));
+        }
+        for (count, late) in [(1, false), (12, true), (20, true)] {
+            let timetable = Diamonds { count, late, beyond: true, chain: 2 }.timetable();
+            assert_eq!(timetable.stations.len(), 3 * count + 4);
+            assert_eq!(read(&timetable.to_text()), Ok(timetable));
         }
     }
 

@@ -5,9 +5,10 @@ use std::ops::Not;
 
 use crate::direct::{Query, ROW_WORDS};
 use crate::expected::{self, Expected};
-use crate::ffi::{self, Reply};
+use crate::ffi::{self, Reply, Tables};
 use crate::lines::WORK_WORDS;
 use crate::random::Random;
+use crate::store::STORE_WORDS_MOST;
 use crate::words::{text_of, TIMETABLE_WORDS};
 
 /// Words on either side of a lent slice, which no call may touch.
@@ -15,11 +16,17 @@ const FENCE: usize = 32;
 /// The words that are lent for an answer, where a test does not ask for less: those of more rows than there ever are.
 pub const ANSWER_WORDS: usize = 512 * ROW_WORDS;
 
+/// The same for the answer of a query from a store.
+pub const QUERY_WORDS: usize = 16_384;
+/// The words that are lent for a store, where a test does not ask for less: more than any store has.
+pub const STORE_WORDS: usize = STORE_WORDS_MOST + 2;
+
 /// Every call is made twice, over words that differ in every bit: whatever a call writes then shows at least once.
 pub struct Host {
     loans: [Loan<u16>; 2],
     works: [Loan<u32>; 2],
     answers: [Loan<u32>; 2],
+    stores: [Loan<u16>; 2],
 }
 
 struct Loan<W> {
@@ -33,8 +40,9 @@ impl Host {
         let mut random = Random::new(seed);
         let loans = Loan::pair(length, || random.word());
         let works = Loan::pair(work_length, || random.bits() as u32);
-        let answers = Loan::pair(ANSWER_WORDS, || random.bits() as u32);
-        Host { loans, works, answers }
+        let answers = Loan::pair(ANSWER_WORDS.max(QUERY_WORDS), || random.bits() as u32);
+        let stores = Loan::pair(STORE_WORDS, || random.word());
+        Host { loans, works, answers, stores }
     }
 
     /// A host that lends `length` words for a result.
@@ -151,6 +159,52 @@ impl Host {
         let call =
             |answer: &mut [u32], work: &mut [u32]| ffi::direct(timetable, lines, work, query, &mut answer[..length]);
         compare(&mut self.answers, &mut self.works, &[timetable, lines], &(query, length), expected, call)
+    }
+
+    /// Has the store of a source made, and fails unless the reply and every word are the reference's. Returns the
+    /// reply.
+    pub fn make_store(&mut self, timetable: &[u16], lines: &[u16], source: u32) -> Reply {
+        self.make_store_in(timetable, lines, source, STORE_WORDS)
+    }
+
+    /// As `make_store`, with so many words lent for the store, at most `STORE_WORDS`.
+    pub fn make_store_in(&mut self, timetable: &[u16], lines: &[u16], source: u32, length: usize) -> Reply {
+        let expected = expected::make_store(timetable, lines, self.works[0].length(), source, length);
+        self.make_store_as(timetable, lines, source, length, expected)
+    }
+
+    /// As `make_store_in`, where what it must reply and write is known.
+    pub fn make_store_as(
+        &mut self,
+        timetable: &[u16],
+        lines: &[u16],
+        source: u32,
+        length: usize,
+        expected: Expected<u16>,
+    ) -> Reply {
+        let call =
+            |store: &mut [u16], work: &mut [u32]| ffi::make_store(timetable, lines, work, source, &mut store[..length]);
+        let asked = ("the store of", source, length);
+        compare(&mut self.stores, &mut self.works, &[timetable, lines], &asked, expected, call)
+    }
+
+    /// Makes a query from a store, and fails unless the reply and every word of the answer are the reference's. Returns
+    /// the reply.
+    pub fn query(&mut self, tables: Tables, query: Query) -> Reply {
+        self.query_to(tables, query, QUERY_WORDS)
+    }
+
+    /// As `query`, with so many words lent for the answer, at most `QUERY_WORDS`.
+    pub fn query_to(&mut self, tables: Tables, query: Query, length: usize) -> Reply {
+        let expected = expected::query(tables, self.works[0].length(), query, length);
+        self.query_as(tables, query, length, expected)
+    }
+
+    /// As `query_to`, where what it must reply and write is known.
+    pub fn query_as(&mut self, tables: Tables, query: Query, length: usize, expected: Expected<u32>) -> Reply {
+        let call = |answer: &mut [u32], work: &mut [u32]| ffi::query(tables, work, query, &mut answer[..length]);
+        let lent = [tables.timetable, tables.lines, tables.store];
+        compare(&mut self.answers, &mut self.works, &lent, &(query, length), expected, call)
     }
 }
 

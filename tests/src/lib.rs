@@ -4,16 +4,20 @@
 //! A further call needs three things: its declaration and a safe wrapper in [`ffi`], what it must answer in a module
 //! like [`reference`], put together in [`expected`], and a method of [`host::Host`] that compares the two.
 
+pub mod connections;
 pub mod damage;
 pub mod direct;
 pub mod examples;
 pub mod expected;
 pub mod ffi;
+pub mod following;
 pub mod generate;
 pub mod host;
 pub mod lines;
 pub mod random;
 pub mod reference;
+pub mod search;
+pub mod store;
 pub mod tables;
 pub mod timetable;
 pub mod words;

@@ -5,11 +5,19 @@
 use std::hint::black_box;
 use std::time::{Duration, Instant};
 
+use dairyepoch_tests::connections;
 use dairyepoch_tests::direct::{self, Query, ROW_WORDS};
-use dairyepoch_tests::ffi::{self, build_lines, check_lines, check_lines_alone, check_timetable, read, Reply};
-use dairyepoch_tests::generate::{long_lines, most_rows, overtaking, DIRECT_ROWS_MOST};
+use dairyepoch_tests::ffi::{
+    self, build_lines, check_lines, check_lines_alone, check_timetable, make_store, read, Reply, Tables,
+};
+use dairyepoch_tests::generate::{
+    largest, long_lines, most_rows, overtaking, rural, with_trips, Diamonds, DIRECT_ROWS_MOST,
+};
 use dairyepoch_tests::lines::{self, LINE_WORDS, WORK_WORDS};
+use dairyepoch_tests::random::Random;
 use dairyepoch_tests::reference;
+use dairyepoch_tests::search::{self, Network};
+use dairyepoch_tests::store::{Store, STORE_WORDS_MOST};
 use dairyepoch_tests::tables;
 use dairyepoch_tests::timetable::Timetable;
 use dairyepoch_tests::words::{text_of, to_words, TIMETABLE_WORDS};
@@ -51,6 +59,145 @@ fn main() {
     querying("direct rides on one line of 256 trips", &long_lines(), Query { from: 60, to: 61, minute: 0 }, 1);
     querying("direct rides on 256 lines of one trip", &overtaking(), Query { from: 1, to: 64, minute: 0 }, 1);
     querying("direct rides in 507 rows", &most_rows(), Query { from: 1, to: 2, minute: 0 }, DIRECT_ROWS_MOST);
+    for seed in 1..=3 {
+        storing(&format!("stores of rural timetable {seed}"), &rural(&mut Random::new(seed), 8));
+    }
+    for rounds in [1, 2, 4] {
+        storing(&format!("stores of a rural timetable of {} trips", 32 * rounds), &rural(&mut Random::new(1), rounds));
+    }
+    let mut random = Random::new(4);
+    storing("stores of random trips", &largest(&mut random));
+    storing("stores of one line of 256 trips", &long_lines());
+    storing("stores of 256 lines of one trip", &overtaking());
+    storing("stores of one trip of 2,044 stops", &most_rows());
+    storing("stores of one trip of 2,048 stops at 2 stations", &with_trips(&mut random, 2, &[2_048]));
+    storing("stores of 12 diamonds", &Diamonds { count: 12, late: false, beyond: false, chain: 3 }.timetable());
+    storing("stores of 12 late diamonds", &Diamonds { count: 12, late: true, beyond: true, chain: 4 }.timetable());
+    storing("stores of 20 diamonds", &Diamonds { count: 20, ..Diamonds::default() }.timetable());
+    for rounds in [1, 2, 4, 8] {
+        let what = format!("queries of a rural timetable of {} trips", 32 * rounds);
+        asking_stores(&what, &rural(&mut Random::new(1), rounds), &mut random);
+    }
+    asking_stores("queries of random trips", &largest(&mut Random::new(4)), &mut random);
+    asking_stores("queries of 256 lines of one trip", &overtaking(), &mut random);
+    asking_stores("queries of one trip of 2,044 stops", &most_rows(), &mut random);
+    let diamonds = Diamonds { count: 12, late: false, beyond: false, chain: 3 }.timetable();
+    asking_stores("queries of 12 diamonds", &diamonds, &mut random);
+}
+
+/// A query with its store, and with the same store without the arcs to the query's target.
+struct Asked {
+    query: Query,
+    store: Vec<u16>,
+    struck: Vec<u16>,
+}
+
+/// Times queries from made stores, against a search of the whole timetable for each. A query that has no arc to its
+/// target is answered after question 13: what it takes is not the part of following patterns.
+fn asking_stores(what: &str, timetable: &Timetable, random: &mut Random) {
+    let [table, lines] = lent(timetable);
+    let network = Network::new(timetable);
+    let mut queries = Vec::new();
+    for _ in 0..1_000 {
+        let [from, to] = [0, 1].map(|_| random.within(1..=timetable.stations.len()) as u32);
+        let query = Query { from, to, minute: random.below(1_200) as u32 };
+        let Some(patterns) = (from != to).then(|| search::patterns(&network, from)).flatten() else { continue };
+        if search::whole(&network, query).is_empty() {
+            continue;
+        }
+        let store = patterns.to_words();
+        let mut struck = Store::from_words(&store).expect("all its words");
+        struck.arcs.retain(|&(target, _)| u32::from(target) != to);
+        queries.push(Asked { query, store, struck: struck.to_words() });
+        if queries.len() == 32 {
+            break;
+        }
+    }
+    let (mut work, mut struck_work, mut asked_work) = (vec![0; WORK_WORDS], vec![0; WORK_WORDS], vec![0; WORK_WORDS]);
+    let (mut answer, mut struck_answer) = (vec![0; 65_536], vec![0; 65_536]);
+    let mut worst = (Duration::ZERO, Duration::ZERO);
+    for Asked { query, store, struck } in &queries {
+        let began = Instant::now();
+        let tables = Tables { timetable: &table, lines: &lines, store };
+        let reply = ffi::query(tables, &mut work, *query, &mut answer);
+        let library = began.elapsed();
+        let began = Instant::now();
+        let words = connections::to_words(&search::whole(&network, *query), query.minute);
+        worst = worst.max((library, began.elapsed()));
+        assert_eq!((reply.number, &answer[..words.len()]), (0, &words[..]), "{query:?}");
+        let reply = ffi::query(Tables { store: struck, ..tables }, &mut work, *query, &mut answer);
+        assert_eq!(reply.number, 14, "{query:?} of a struck store");
+    }
+    let [library, until_13, until_10, reference] = medians([
+        &mut || {
+            for Asked { query, store, .. } in &queries {
+                let tables = Tables { timetable: black_box(&table), lines: &lines, store };
+                black_box(ffi::query(tables, &mut work, *query, &mut answer));
+            }
+        },
+        &mut || {
+            for Asked { query, struck, .. } in &queries {
+                let tables = Tables { timetable: black_box(&table), lines: &lines, store: struck };
+                black_box(ffi::query(tables, &mut struck_work, *query, &mut struck_answer));
+            }
+        },
+        &mut || {
+            for _ in &queries {
+                black_box(check_lines(black_box(&table), &lines, &mut asked_work));
+            }
+        },
+        &mut || {
+            for Asked { query, .. } in &queries {
+                black_box(search::whole(black_box(&network), *query));
+            }
+        },
+    ])
+    .map(|time| time / queries.len().max(1) as u32);
+    let words = queries.iter().map(|asked| asked.store.len()).max().unwrap_or(0);
+    println!("{what}: {} queries, from stores of up to {words} words", queries.len());
+    report("  mean, against a search of the whole timetable", library, reference);
+    println!("  of these questions 9 and 10 {until_10:.1?}, all questions to 13 {until_13:.1?}");
+    report("  the rest, against the search", library.saturating_sub(until_13), reference);
+    report("  the worst whole query", worst.0, worst.1);
+}
+
+/// Times the stores of all sources, each against the search of the reference, which asks no question.
+fn storing(what: &str, timetable: &Timetable) {
+    let [table, lines] = lent(timetable);
+    let network = Network::new(timetable);
+    let (mut store, mut work) = (vec![0; STORE_WORDS_MOST], vec![0; WORK_WORDS]);
+    let (mut largest, mut refused) = (0, 0);
+    let mut times = Vec::new();
+    let stations = timetable.stations.len() as u32;
+    for source in 1..=stations {
+        let reply = make_store(&table, &lines, &mut work, source, &mut store);
+        let words = search::patterns(&network, source).map(|patterns| patterns.to_words());
+        assert_eq!(reply.number, if words.is_some() { 0 } else { 15 });
+        assert!(words.is_none_or(|words| words == store[..reply.beside as usize]), "the store of {source}");
+        refused += u32::from(reply.number == 15);
+        largest = largest.max(reply.beside);
+        let [library, reference] = medians_within(
+            [
+                &mut || {
+                    black_box(make_store(black_box(&table), &lines, &mut work, source, &mut store));
+                },
+                &mut || {
+                    black_box(search::patterns(black_box(&network), source).map(|patterns| patterns.to_words()));
+                },
+            ],
+            ENOUGH / stations / 2,
+        );
+        times.push((library, reference, source));
+    }
+    let count = times.len() as u32;
+    let [library, reference] = [|time: &(_, _, _)| time.0, |time: &(_, _, _)| time.1]
+        .map(|part| times.iter().map(part).sum::<Duration>() / count);
+    println!("{what}: {count} sources, {refused} refused, the largest has {largest} words");
+    report("  mean", library, reference);
+    let worst = times.iter().max().expect("a station is listed");
+    report(&format!("  worst of the library, source {}", worst.2), worst.0, worst.1);
+    let worst = times.iter().max_by_key(|time| time.1).expect("a station is listed");
+    report(&format!("  worst of the reference, source {}", worst.2), worst.0, worst.1);
 }
 
 /// Times building, with question 9 on both sides and then without it on the reference's.
@@ -145,11 +292,16 @@ fn querying(what: &str, timetable: &Timetable, query: Query, rows: u32) {
 }
 
 /// Runs the works in turn, so that what else the machine does falls on all of them, and takes each one's median.
-fn medians<const N: usize>(mut works: [&mut dyn FnMut(); N]) -> [Duration; N] {
+fn medians<const N: usize>(works: [&mut dyn FnMut(); N]) -> [Duration; N] {
+    medians_within(works, ENOUGH)
+}
+
+/// As `medians`, with no further rounds after this time.
+fn medians_within<const N: usize>(mut works: [&mut dyn FnMut(); N], enough: Duration) -> [Duration; N] {
     let mut times = [const { Vec::new() }; N];
     let began = Instant::now();
     for round in 0..ROUNDS_MOST {
-        if round >= ROUNDS_LEAST && began.elapsed() > ENOUGH {
+        if round >= ROUNDS_LEAST && began.elapsed() > enough {
             break;
         }
         for (work, times) in works.iter_mut().zip(&mut times) {

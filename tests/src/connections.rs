@@ -1,0 +1,150 @@
+//! Connections, written from document 01's "Connections and cost" and "The planner's list": every feasible connection
+//! is listed, and the list is looked through. No table but the timetable enters into it.
+
+use std::cmp::Reverse;
+use std::collections::BTreeMap;
+
+use crate::timetable::{Stop, Timetable};
+
+/// One or more rides from a station, with the changes between them.
+#[derive(Clone, Debug, PartialEq, Eq)]
+pub struct Connection {
+    pub depart: u32,
+    pub arrive: u32,
+    pub penalty: u32,
+    /// Trip, boarding stop, alighting stop of each, counted from 1.
+    pub rides: Vec<[u32; 3]>,
+    /// The stations of the changes, in order.
+    pub changes: Vec<u16>,
+    pub to: u16,
+}
+
+impl Connection {
+    /// "Duration is last arrival minus t."
+    pub fn cost(&self, minute: u32) -> (u32, u32) {
+        (self.arrive - minute, self.penalty)
+    }
+
+    /// Of connections of equal cost the first by this is shown: it "departs latest. Then it has fewest rides. Then its
+    /// rides (trip, boarding stop, alighting stop) come first, compared number by number".
+    pub fn rank(&self) -> impl Ord + '_ {
+        (Reverse(self.depart), self.rides.len(), &self.rides)
+    }
+}
+
+/// "Neither part is larger and one is smaller."
+pub fn dominates(one: (u32, u32), other: (u32, u32)) -> bool {
+    let larger = one.0 > other.0 || one.1 > other.1;
+    let smaller = one.0 < other.0 || one.1 < other.1;
+    !larger && smaller
+}
+
+/// A trip, a stop to board at and a later stop to alight at.
+struct Ride {
+    numbers: [u32; 3],
+    from: u16,
+    to: u16,
+    depart: u32,
+    arrive: u32,
+    penalty: u32,
+}
+
+fn rides(timetable: &Timetable) -> Vec<Ride> {
+    let mut rides = Vec::new();
+    for (trip, stops) in (1..).zip(&timetable.trips) {
+        for board in 0..stops.len() - 1 {
+            for alight in board + 1..stops.len() {
+                let onward = |stop: &Stop| stop.onward.expect("a stop ridden from is not its trip's last");
+                let penalty = stops[board..alight].iter().map(|stop| u32::from(onward(stop).penalty)).sum();
+                rides.push(Ride {
+                    numbers: [trip, board as u32 + 1, alight as u32 + 1],
+                    from: stops[board].station,
+                    to: stops[alight].station,
+                    depart: onward(&stops[board]).depart.into(),
+                    arrive: stops[alight].arrive.expect("a stop to alight at is not its trip's first").into(),
+                    penalty,
+                });
+            }
+        }
+    }
+    rides
+}
+
+/// Every connection from a station to any, unless they are more than `most`, or the timetable has more rides than that.
+/// Those that are feasible at a minute are those that depart then or later.
+pub fn list(timetable: &Timetable, from: u32, most: usize) -> Option<Vec<Connection>> {
+    if timetable.trips.iter().map(|stops| stops.len() * (stops.len() - 1) / 2).sum::<usize>() > most {
+        return None;
+    }
+    let rides = rides(timetable);
+    let alone = |ride: &Ride| Connection {
+        depart: ride.depart,
+        arrive: ride.arrive,
+        penalty: ride.penalty,
+        rides: vec![ride.numbers],
+        changes: Vec::new(),
+        to: ride.to,
+    };
+    let mut list: Vec<Connection> = rides.iter().filter(|ride| u32::from(ride.from) == from).map(alone).collect();
+    let mut at = 0;
+    while let Some(connection) = list.get(at).cloned() {
+        if list.len() > most {
+            return None;
+        }
+        let station = timetable.stations[usize::from(connection.to) - 1];
+        let ready = connection.arrive + u32::from(station.change_minutes);
+        for ride in rides.iter().filter(|ride| ride.from == connection.to && ride.depart >= ready) {
+            list.push(Connection {
+                arrive: ride.arrive,
+                penalty: connection.penalty + u32::from(station.change_penalty) + ride.penalty,
+                rides: [&connection.rides[..], &[ride.numbers]].concat(),
+                changes: [&connection.changes[..], &[connection.to]].concat(),
+                to: ride.to,
+                ..connection
+            });
+        }
+        at += 1;
+    }
+    Some(list)
+}
+
+/// The costs that no cost of these connections dominates, in rising duration, with the connections that have them.
+fn undominated<'a>(
+    list: impl Iterator<Item = &'a Connection>,
+    minute: u32,
+) -> BTreeMap<(u32, u32), Vec<&'a Connection>> {
+    let mut costs: BTreeMap<(u32, u32), Vec<&Connection>> = BTreeMap::new();
+    for connection in list {
+        costs.entry(connection.cost(minute)).or_default().push(connection);
+    }
+    let all: Vec<(u32, u32)> = costs.keys().copied().collect();
+    costs.retain(|&cost, _| !all.iter().any(|&other| dominates(other, cost)));
+    costs
+}
+
+/// "Optimal: no feasible connection for the query dominates it." The list is that of all feasible ones.
+pub fn optimal<'a>(list: impl Iterator<Item = &'a Connection>, minute: u32) -> Vec<&'a Connection> {
+    undominated(list, minute).into_values().flatten().collect()
+}
+
+/// The result of a list: each undominated cost, in rising duration, with the connection shown.
+pub fn rows<'a>(list: impl Iterator<Item = &'a Connection>, minute: u32) -> Vec<Connection> {
+    let shown = |tied: Vec<&Connection>| {
+        tied.into_iter()
+            .min_by(|one, other| one.rank().cmp(&other.rank()))
+            .expect("a cost is some connection's")
+            .clone()
+    };
+    undominated(list, minute).into_values().map(shown).collect()
+}
+
+/// The words of rows: "duration, penalty, number of rides, then trip, boarding stop, alighting stop per ride".
+pub fn to_words(rows: &[Connection], minute: u32) -> Vec<u32> {
+    let mut words = Vec::new();
+    for row in rows {
+        let (duration, penalty) = row.cost(minute);
+        words.extend([duration, penalty, row.rides.len() as u32]);
+        words.extend(row.rides.concat());
+    }
+    words
+}
