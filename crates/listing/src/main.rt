@@ -74,30 +74,17 @@ fn make(
     if last.source == source {
         return last;
     }
-    Made { source, number: 0 }
+    match storing::make_store(timetable, lines, work, source, store) {
+        Reply::Done { .. } => {
+            return Made { source, number: 0 };
+        }
+        Reply::Refused { number } => {
+            return Made { source, number };
+        }
+    }
 }
 
-// Asks a query of the store of its source.
-fn ask(
-    timetable: &[u16],
-    lines: &[u16],
-    store: &[u16],
-    work: &mut [u32],
-    query: Query,
-    answer: &mut [u32],
-) -> Reply {
-    direct::direct(
-        timetable,
-        lines,
-        work,
-        query.from,
-        query.to,
-        query.minute,
-        answer,
-    )
-}
-
-// Prints the rows of a query, or its 14 or 15.
+// Prints the rows of a query from the store of its source, or its 14 or 15.
 fn show(
     timetable: &[u16],
     lines: &[u16],
@@ -106,7 +93,16 @@ fn show(
     query: Query,
     answer: &mut [u32],
 ) {
-    match ask(timetable, lines, store, work, query, answer) {
+    match asking::query(
+        timetable,
+        lines,
+        store,
+        work,
+        query.from,
+        query.to,
+        query.minute,
+        answer,
+    ) {
         Reply::Done { count } => {
             output::query_answered(query, count, answer);
         }
