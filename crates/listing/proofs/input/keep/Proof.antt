@@ -1,0 +1,12 @@
+-- A byte that is kept changes no length.
+use native.Mathlib.Omega.{arith}
+use lib.ListN.{length-set}
+use borrow.Author.Needs.{needs}
+use Rattle.listing.proofs.input.keep.Statement.{statement}
+use Rattle.listing.proofs.input.keep.Tie as tie
+
+returns : tie.Need-returns
+returns c = simp length-set (omega arith)
+
+pub keep-spec : {M : Type 1} → statement M
+keep-spec = tie.close (tie.spec (λ c. search needs) (λ c. search needs) (λ c. search needs) returns (λ c. search needs))
