@@ -15,13 +15,6 @@
 #define STORE_WORDS 32768
 #define ANSWER_WORDS 16384
 
-uint64_t dairyepoch_make_store(const uint16_t *timetable, size_t timetable_len, const uint16_t *lines,
-                               size_t lines_len, uint32_t *work, size_t work_len, uint32_t source, uint16_t *store,
-                               size_t store_len);
-
-uint64_t dairyepoch_query(const uint16_t *timetable, size_t timetable_len, const uint16_t *lines, size_t lines_len,
-                          const uint16_t *store, size_t store_len, uint32_t *work, size_t work_len, uint32_t from,
-                          uint32_t to, uint32_t minute, uint32_t *answer, size_t answer_len);
 
 /* All that the library works with is lent to it by the host, here as memory that is set aside once. */
 static uint8_t text[TEXT_BYTES];

@@ -1,7 +1,7 @@
 -- "Whatever accepted timetable is loaded": from the text that reading accepts to demands 2 and 3, with no premise in
 -- between. "That 9, 10 and 13 have their yes for what reading, building and a store call wrote for this timetable, with
--- number 0, is part of the claim and no premise": 9 stands here, 13 in DemandThree, and 10 joins them when building
--- lands.
+-- number 0, is part of the claim and no premise": 9 stands here, 13 in DemandThree; the crate promises has all three,
+-- for the calls as they are.
 use mathlib.Core.Path.{_≡_, sym, subst}
 use mathlib.Core.Bool.{true}
 use mathlib.Core.List.{List}

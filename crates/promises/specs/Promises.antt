@@ -1,6 +1,6 @@
 -- Demand 3, whole, for the calls as they are. A text is read, line tables are built and a store is made, each with
--- number 0, into slices of any length that held any words. Then questions 9, 10 and 13 have their yes, and a rider who is
--- answered by the query and a planner who lists every feasible connection of the text's timetable share one result.
+-- number 0, into slices of any length that held any words. Then questions 9, 10 and 13 have their yes, and a rider who
+-- is answered by the query and a planner who lists every feasible connection of the text's timetable share one result.
 -- Nothing lies between these statements and the contracts of the calls: they name the same definitions.
 use mathlib.Core.Path.{_≡_, refl, sym, ap, subst, _∙_}
 use mathlib.Core.Bool.{Bool, true, not, _&&_}
@@ -101,8 +101,10 @@ module _ (w v : List ℕ) (n a b u : ℕ) (tables : firstNo (tablesQuestions w v
   unfolding named listed
   named-yes =
       let inside = q .target in
-      let first = and-both (leb 1 a) (leb a (length (t .stations))) (le-leb 1 a (q .source-first)) (le-leb a _ (q .source-last)) in
-      let second = and-both (leb 1 b) (leb b (length (t .stations))) (le-leb 1 b (inside .first)) (le-leb b _ (inside .last)) in
+      let first =
+      and-both (leb 1 a) (leb a (length (t .stations))) (le-leb 1 a (q .source-first)) (le-leb a _ (q .source-last)) in
+      let second =
+      and-both (leb 1 b) (leb b (length (t .stations))) (le-leb 1 b (inside .first)) (le-leb b _ (inside .last)) in
       and-both (listed t a && listed t b) (not (eqb a b)) (and-both (listed t a) (listed t b) first second)
       (differ (λ e. inside .other (sym e)))
     where
@@ -111,7 +113,8 @@ module _ (w v : List ℕ) (n a b u : ℕ) (tables : firstNo (tablesQuestions w v
 
   query-yes : firstNo (queryQuestions w v n a b u) ≡ 0
   query-yes =
-      asked-on (tablesQuestions w v n) (ask 11 (named t a b) ∷ ask 12 (leb u lastMinute) ∷ []) (tables-asked w v n) tables
+      asked-on (tablesQuestions w v n) (ask 11 (named t a b) ∷ ask 12 (leb u lastMinute) ∷ [])
+      (tables-asked w v n) tables
       ∙ rw (named-yes, le-leb u lastMinute (q .minute))
 
   -- 13 has its yes
@@ -174,7 +177,8 @@ module _ (text into lent : List ℕ) (n : ℕ)
         lines = r .lines;
         accepted =
             r .accepted
-            ∙ ap (λ t. Accepted t (r .lines)) (sym (read-spells text (r .timetable) (r .lines) (r .accepted) into (r .long)));
+            ∙ ap (λ t. Accepted t (r .lines))
+            (sym (read-spells text (r .timetable) (r .lines) (r .accepted) into (r .long)));
       }
 
   build-yes : firstNo (tablesQuestions timetableWords lineWords n) ≡ 0
@@ -233,7 +237,8 @@ module _ (text into lent : List ℕ) (n : ℕ)
     unfolding storeAfter
     is-stored =
         sym
-        (words-done (storeNumber timetableWords lineWords space a (length slice)) (storeOf timetableWords a) slice no-refusal)
+        (words-done (storeNumber timetableWords lineWords space a (length slice)) (storeOf timetableWords a) slice
+        no-refusal)
         ∙ put-front (storeOf timetableWords a) slice
 
     last-yes : firstNo
@@ -289,7 +294,9 @@ module _ (text into lent : List ℕ) (n : ℕ)
           yes-10 = built-has-yes timetableWords lent n built;
           yes-13 = well;
           rows-are = same-rows;
-          answers = λ b u q. subst (Answers (measure u) (planned b u)) (sym (here b u)) (loaded .three .made-answers a u b post q);
+          answers =
+              λ b u q.
+              subst (Answers (measure u) (planned b u)) (sym (here b u)) (loaded .three .made-answers a u b post q);
           none = same-none;
           number = number;
         }

@@ -1,6 +1,6 @@
 // Costs, domination, and the result of a list of candidates: what a planner reads off a list, whatever the list is of.
 
-// A number of minutes. Minutes and points are of different kinds, so that no code can add or compare the two.
+// A number of minutes. Minutes and points are of different kinds, so that no code adds or compares the two by mistake.
 pub struct Minutes(pub u32);
 
 // A number of penalty points.

@@ -5,7 +5,8 @@ use mathlib.Core.Logic.{_≢_}
 use mathlib.Core.List.{List, [], _∷_}
 use Prim.Native.Nat.{ℕ, suc, _+_, _≤_, _<_}
 use lib.ListN.{getD}
-use Rattle.stopwise.specs.Stopwise.{station, arrive, depart, changePoints, unreached, Goes, Ridden, ridden, Catches}
+use Rattle.stopwise.specs.Stopwise.{station, arrive, depart, changePoints, unreached, Goes}
+use Rattle.stopwise.specs.Stopwise.{Ridden, ridden, Catches}
 
 module _ (w : List ℕ) (a d : ℕ) where
   -- aboard on arrival at stop j, having paid p, from a boarding as told below
