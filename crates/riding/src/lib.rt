@@ -95,7 +95,8 @@ fn seek_place(v: &[u16], l: Line, to: usize, from: usize, points: u32) -> Place
     }
 }
 
-// The first ride from the calls of station from that stand at index call or behind it.
+// The first ride from the calls of station from that stand at index call or behind it. Few calls lead to the station
+// sought, so a trip is looked for only where there is a place to alight at.
 fn seek_call(v: &[u16], from: usize, to: usize, minute: usize, call: usize) -> Cursor
     requires { ⌜ (1 ≤ from) × (from ≤ 64) × (callsPlace (now v) from ≤ length (now v)) × (call ≤ 65536) ⌝ }
     ensures { λ r. ⌜ (left (now (v .entry)) from to minute r ≡ callsFrom (now (v .entry)) from to minute call)
@@ -107,12 +108,12 @@ fn seek_call(v: &[u16], from: usize, to: usize, minute: usize, call: usize) -> C
         let l = call_line(v, k);
         let x = call_place(v, k);
         k += 2;
-        let first = lookup::first_trip(v, l, x, minute);
-        if l.trips <= first {
+        let s = seek_place(v, l, to, x, 0);
+        if !s.found {
             continue 'calls;
         }
-        let s = seek_place(v, l, to, x, 0);
-        if s.found {
+        let first = lookup::first_trip(v, l, x, minute);
+        if first < l.trips {
             return Cursor {
                 more: true,
                 call: k,
