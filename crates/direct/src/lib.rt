@@ -4,10 +4,10 @@ ghost use mathlib.Core.Bool.{cond};
 ghost use mathlib.Core.List.{map};
 ghost use Prim.Native.Nat.{_+_, _-_, _*_, _≤_, _<_, min};
 ghost use lib.Dec.{ltb};
-ghost use lib.ListN.{length, getD};
+ghost use lib.ListN.{length};
 ghost use Rattle.words.specs.Put.{put};
 ghost use Rattle.lists.specs.Lists.{concatMap};
-ghost use Rattle.lookup.specs.Lookup.{lineAt, callsPlace};
+ghost use Rattle.lookup.specs.Lookup.{callsPlace};
 ghost use Rattle.direct.specs.Candidates.{rideOn, reach, firstRead, allRead};
 ghost use Rattle.direct.specs.Choosing.{noPoints, blank, noteAll, leads, goesBefore, rowFor};
 ghost use Rattle.direct.specs.Keeping.{keptAt, rideWords, Unkept, keptWith, keptOn, keepAll, Keeps, rowsKept};
@@ -168,32 +168,6 @@ fn note_reach(v: &[u16], l: Line, x: usize, j: usize, to: usize, best: &mut [u32
     }
 }
 
-// A number from 1 as a place from 0. A word that is 0 where none should be counts as 1.
-fn less_one(n: usize) -> usize
-    ensures { λ r. ⌜ r ≡ n - 1 ⌝ }
-{
-    if n == 0 {
-        return 0;
-    }
-    n - 1
-}
-
-// The line of the call at index k.
-fn call_line(v: &[u16], k: usize) -> Line
-    ensures { λ r. ⌜ r ≡ lineAt (now (v .entry)) (getD (now (v .entry)) k 0 - 1) ⌝ }
-    ensures { λ r. ⌜ (r .at < 65536) × (r .positions < 65536) × (r .trips < 65536) ⌝ }
-{
-    lookup::line_at(v, less_one(lookup::peek(v, k)))
-}
-
-// The place on its line of the call at index k.
-fn call_place(v: &[u16], k: usize) -> usize
-    requires { ⌜ k < 65536 ⌝ }
-    ensures { λ r. ⌜ (r ≡ getD (now (v .entry)) (k + 1) 0 - 1) × (r < 65536) ⌝ }
-{
-    less_one(lookup::peek(v, k + 1))
-}
-
 // Notes, at each call of station from, the rides to station to on the first trip that leaves at the minute or later.
 fn note_first(v: &[u16], from: usize, to: usize, minute: usize, best: &mut [u32])
     requires { ⌜ (1 ≤ from) × (from ≤ 64) × (callsPlace (now v) from ≤ length (now v)) ⌝ }
@@ -203,8 +177,8 @@ fn note_first(v: &[u16], from: usize, to: usize, minute: usize, best: &mut [u32]
     let end = lookup::calls_place(v, from);
     let mut k = lookup::calls_place(v, from - 1);
     'calls: while k + 1 < end {
-        let l = call_line(v, k);
-        let x = call_place(v, k);
+        let l = lookup::call_line(v, k);
+        let x = lookup::call_place(v, k);
         k += 2;
         let first = lookup::first_trip(v, l, x, minute);
         if l.trips <= first {
@@ -415,8 +389,8 @@ fn keep_all(v: &[u16], from: usize, to: usize, minute: usize, best: &[u32], kept
     let end = lookup::calls_place(v, from);
     let mut k = lookup::calls_place(v, from - 1);
     while k + 1 < end {
-        let l = call_line(v, k);
-        let x = call_place(v, k);
+        let l = lookup::call_line(v, k);
+        let x = lookup::call_place(v, k);
         let first = lookup::first_trip(v, l, x, minute);
         keep_reach(v, l, x, first, to, best, kept);
         k += 2;
