@@ -135,20 +135,14 @@ pub fn count_rows(best: &[u32]) -> usize
 
 // Notes the ride on the trip at place j of a line to place p, if the station there is the one asked for; points is the
 // penalty of that ride.
-fn note_at(v: &[u16], l: Line, p: usize, j: usize, to: usize, points: u32, best: &mut [u32])
+fn note_at(v: &[u16], l: Line, p: usize, j: usize, to: usize, points: Points, best: &mut [u32])
     requires { ⌜ (l .at < 65536) × (l .positions < 65536) × (l .trips < 65536) × (p < 65536) × (j < 65536) ⌝ }
-    ensures { λ _. ⌜ now (best .exit) ≡ notedAt (now (v .entry)) l p j to points (now (best .entry)) ⌝ }
+    ensures { λ _. ⌜ now (best .exit) ≡ notedAt (now (v .entry)) l p j to (points .0) (now (best .entry)) ⌝ }
     ensures { λ _. ⌜ length (now (best .exit)) ≡ length (now (best .entry)) ⌝ }
 {
     if lookup::station_at(v, l, p) == to {
         let minutes = Minutes(lookup::arrive_at(v, l, p, j) as u32);
-        note(
-            best,
-            Cost {
-                minutes,
-                points: Points(points),
-            },
-        );
+        note(best, Cost { minutes, points });
     }
 }
 
@@ -164,7 +158,7 @@ fn note_reach(v: &[u16], l: Line, x: usize, j: usize, to: usize, best: &mut [u32
     while p + 1 < l.positions {
         points += lookup::points_at(v, l, p) as u32;
         p += 1;
-        note_at(v, l, p, j, to, points, best);
+        note_at(v, l, p, j, to, Points(points), best);
     }
 }
 
@@ -254,7 +248,7 @@ fn keep_trip(
     x: usize,
     p: usize,
     j: usize,
-    points: u32,
+    points: Points,
     best: &[u32],
     kept: &mut [u32],
 )
@@ -268,14 +262,14 @@ fn keep_trip(
         × (length (now kept) ≡ 11520) ⌝ }
     ensures { λ _. ⌜ now (kept .exit)
         ≡ keptOn (now (best .entry)) (now (kept .entry))
-        (rideOn (now (v .entry)) l x j (record { place = p; points = points })) ⌝ }
+        (rideOn (now (v .entry)) l x j (record { place = p; points = points .0 })) ⌝ }
     ensures { λ _. ⌜ length (now (kept .exit)) ≡ length (now (kept .entry)) ⌝ }
 {
     let minute = lookup::arrive_at(v, l, p, j);
     if MINUTES <= minute {
         return;
     }
-    if points != best[minute] {
+    if points.0 != best[minute] {
         return;
     }
     let depart = lookup::depart_at(v, l, x, j) as u32;
@@ -299,7 +293,7 @@ fn keep_trips(
     x: usize,
     p: usize,
     first: usize,
-    points: u32,
+    points: Points,
     best: &[u32],
     kept: &mut [u32],
 )
@@ -313,7 +307,7 @@ fn keep_trips(
         × (length (now kept) ≡ 11520) ⌝ }
     ensures { λ _. ⌜ now (kept .exit)
         ≡ keepAll (now (best .entry)) (now (kept .entry))
-        (tripsFrom (now (v .entry)) l x first (record { place = p; points = points })) ⌝ }
+        (tripsFrom (now (v .entry)) l x first (record { place = p; points = points .0 })) ⌝ }
     ensures { λ _. ⌜ length (now (kept .exit)) ≡ length (now (kept .entry)) ⌝ }
 {
     let mut j = first;
@@ -331,7 +325,7 @@ fn keep_at(
     p: usize,
     first: usize,
     to: usize,
-    points: u32,
+    points: Points,
     best: &[u32],
     kept: &mut [u32],
 )
@@ -344,7 +338,7 @@ fn keep_at(
         × (length (now best) ≡ 2880)
         × (length (now kept) ≡ 11520) ⌝ }
     ensures { λ _. ⌜ now (kept .exit)
-        ≡ keptTo (now (v .entry)) l x p first to points (now (best .entry)) (now (kept .entry)) ⌝ }
+        ≡ keptTo (now (v .entry)) l x p first to (points .0) (now (best .entry)) (now (kept .entry)) ⌝ }
     ensures { λ _. ⌜ length (now (kept .exit)) ≡ length (now (kept .entry)) ⌝ }
 {
     if lookup::station_at(v, l, p) == to {
@@ -371,7 +365,7 @@ fn keep_reach(v: &[u16], l: Line, x: usize, first: usize, to: usize, best: &[u32
     while p + 1 < l.positions {
         points += lookup::points_at(v, l, p) as u32;
         p += 1;
-        keep_at(v, l, x, p, first, to, points, best, kept);
+        keep_at(v, l, x, p, first, to, Points(points), best, kept);
     }
 }
 
@@ -398,13 +392,13 @@ fn keep_all(v: &[u16], from: usize, to: usize, minute: usize, best: &[u32], kept
 }
 
 // The minutes from one minute to a later one; none if it is not later.
-fn minutes_between(minute: usize, arrive: u32) -> u32
-    ensures { λ r. ⌜ r ≡ arrive - minute ⌝ }
+fn minutes_between(minute: usize, arrive: Minutes) -> Minutes
+    ensures { λ r. ⌜ r .0 ≡ arrive .0 - minute ⌝ }
 {
-    if arrive as usize <= minute {
-        return 0;
+    if arrive.0 as usize <= minute {
+        return Minutes(0);
     }
-    arrive - minute as u32
+    Minutes(arrive.0 - minute as u32)
 }
 
 // The row for a cost, its minutes being those of the arrival, from index at on.
@@ -417,8 +411,8 @@ fn write_row(kept: &[u32], minute: usize, cost: Cost, answer: &mut [u32], at: us
     ensures { λ _. ⌜ length (now (answer .exit)) ≡ length (now (answer .entry)) ⌝ }
 {
     let ride = kept_at(kept, cost.minutes.0 as usize);
-    let duration = minutes_between(minute, cost.minutes.0);
-    words::put_pair(answer, at, duration, cost.points.0);
+    let duration = minutes_between(minute, cost.minutes);
+    words::put_pair(answer, at, duration.0, cost.points.0);
     words::put_pair(answer, at + 2, 1, ride.trip);
     words::put_pair(answer, at + 4, ride.board, ride.alight);
 }
@@ -428,19 +422,19 @@ fn write_lead(
     kept: &[u32],
     minute: usize,
     cost: Cost,
-    least: u32,
+    least: Points,
     answer: &mut [u32],
     at: usize,
 ) -> usize
     requires { ⌜ (length (now kept) ≡ 11520)
         × (cost .minutes .0 < 2880)
-        × (at + length (leadWords minute (now kept) (costOf cost) least) ≤ length (now answer)) ⌝ }
+        × (at + length (leadWords minute (now kept) (costOf cost) (least .0)) ≤ length (now answer)) ⌝ }
     ensures { λ _. ⌜ now (answer .exit)
-        ≡ put at (leadWords minute (now (kept .entry)) (costOf cost) least) (now (answer .entry)) ⌝ }
+        ≡ put at (leadWords minute (now (kept .entry)) (costOf cost) (least .0)) (now (answer .entry)) ⌝ }
     ensures { λ _. ⌜ length (now (answer .exit)) ≡ length (now (answer .entry)) ⌝ }
-    ensures { λ r. ⌜ r ≡ at + length (leadWords minute (now (kept .entry)) (costOf cost) least) ⌝ }
+    ensures { λ r. ⌜ r ≡ at + length (leadWords minute (now (kept .entry)) (costOf cost) (least .0)) ⌝ }
 {
-    if cost.points.0 < least {
+    if cost.points.0 < least.0 {
         write_row(kept, minute, cost, answer, at);
         return at + ROW_WORDS;
     }
@@ -467,7 +461,7 @@ fn write_rows(best: &[u32], kept: &[u32], minute: usize, answer: &mut [u32])
             minutes: Minutes(a as u32),
             points: Points(best[a]),
         };
-        here = write_lead(kept, minute, cost, least, answer, here);
+        here = write_lead(kept, minute, cost, Points(least), answer, here);
         least = lesser(least, best[a]);
         a += 1;
     }

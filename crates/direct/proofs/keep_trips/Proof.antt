@@ -13,8 +13,8 @@ abbrev Inv-loop : tie.InvT-loop
 Inv-loop v l x p first points best kept₀ j₀ kept j =
     (j ≤ l .trips)
     × (length kept ≡ 11520)
-    × (keepAll best kept₀ (tripsFrom v l x first (record { place = p; points = points }))
-    ≡ keepAll best kept (tripsFrom v l x j (record { place = p; points = points })))
+    × (keepAll best kept₀ (tripsFrom v l x first (record { place = p; points = points .0 }))
+    ≡ keepAll best kept (tripsFrom v l x j (record { place = p; points = points .0 })))
 
 abbrev μ-loop : tie.MeasureT-loop
 μ-loop v l x p first points best kept₀ j₀ kept j = l .trips - j
