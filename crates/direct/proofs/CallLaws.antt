@@ -16,10 +16,6 @@ use Rattle.direct.specs.Choosing.{noteAll}
 use Rattle.direct.specs.Turns.{firstCalls}
 use Rattle.direct.proofs.NoteLaws.{noteAll-append}
 
-pub line-is : (v : List ℕ) (k n i : ℕ) (l : Line) → n ≡ getD v k 0 → i ≡ n - 1 → l ≡ lineAt v i
-    → l ≡ lineAt v (getD v k 0 - 1)
-line-is v k n i l e f g = g ∙ ap (lineAt v) (f ∙ ap (λ m. m - 1) e)
-
 -- the call of the words at indices k and k + 1
 abbrev callAt : List ℕ → (k : ℕ) → Call
 callAt v k = record { line = getD v k 0 - 1; place = getD v (k + 1) 0 - 1 }

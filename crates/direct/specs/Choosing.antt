@@ -9,7 +9,7 @@ use lib.ListN.{length, getD, set, replicate}
 use Rattle.lists.specs.Lists.{filter, before}
 use Rattle.results.specs.Results.{Cost}
 use Rattle.connections.specs.Rides.{Ride}
-use Rattle.direct.specs.declared.Found.{Found as FoundStruct}
+use Rattle.direct.specs.declared.rides.Found.{Found as FoundStruct}
 
 -- where no ride arrives
 abbrev pub noPoints : ℕ

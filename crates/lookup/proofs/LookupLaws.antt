@@ -1,7 +1,7 @@
 -- A word that was looked up is the one that Lookup names.
 use mathlib.Core.Path.{_≡_, sym, ap, _∙_}
 use mathlib.Core.List.{List}
-use Prim.Native.Nat.{ℕ, _+_, _*_, _≤_, _<_}
+use Prim.Native.Nat.{ℕ, _+_, _-_, _*_, _≤_, _<_}
 use native.Mathlib.Nat.{mul-le-mul}
 use native.Mathlib.Omega.{arith}
 use lib.ListN.{length, getD, List·getD-eq-default}
@@ -34,3 +34,7 @@ line-is v i a p n e f g =
     let h = f ∙ ap (λ k. getD v k 0) e in
     let k = g ∙ ap (λ k. getD v (k + 1) 0) e in
     λ z. record { at = e z; positions = h z; trips = k z }
+
+pub call-line-is : (v : List ℕ) (k n i : ℕ) (l : Line) → n ≡ getD v k 0 → i ≡ n - 1 → l ≡ lineAt v i
+    → l ≡ lineAt v (getD v k 0 - 1)
+call-line-is v k n i l e f g = g ∙ ap (lineAt v) (f ∙ ap (λ m. m - 1) e)

@@ -1,7 +1,7 @@
 // Line tables by their words: the lines, their courses, trips and times, and the lists of stations.
 ghost use mathlib.Core.Path.{_≡_};
-ghost use Prim.Native.Nat.{_+_, _*_, _≤_, _<_};
-ghost use lib.ListN.{length, getD};
+ghost use Prim.Native.Nat.{_+_, _-_, _≤_, _<_};
+ghost use lib.ListN.{getD};
 ghost use Rattle.lookup.specs.First.{firstTrip};
 ghost use Rattle.lookup.specs.Lookup.{
   lineAt,
@@ -101,6 +101,32 @@ pub fn calls_place(v: &[u16], s: usize) -> usize
     ensures { λ r. ⌜ (r ≡ callsPlace (now (v .entry)) s) × (r < 65536) ⌝ }
 {
     peek(v, peek(v, 3) + s)
+}
+
+// A number from 1 as a place from 0. A word that is 0 where none should be counts as 1.
+fn less_one(n: usize) -> usize
+    ensures { λ r. ⌜ r ≡ n - 1 ⌝ }
+{
+    if n == 0 {
+        return 0;
+    }
+    n - 1
+}
+
+// The line of the call at index k.
+pub fn call_line(v: &[u16], k: usize) -> Line
+    ensures { λ r. ⌜ r ≡ lineAt (now (v .entry)) (getD (now (v .entry)) k 0 - 1) ⌝ }
+    ensures { λ r. ⌜ (r .at < 65536) × (r .positions < 65536) × (r .trips < 65536) ⌝ }
+{
+    line_at(v, less_one(peek(v, k)))
+}
+
+// The place on its line of the call at index k.
+pub fn call_place(v: &[u16], k: usize) -> usize
+    requires { ⌜ k < 65536 ⌝ }
+    ensures { λ r. ⌜ (r ≡ getD (now (v .entry)) (k + 1) 0 - 1) × (r < 65536) ⌝ }
+{
+    less_one(peek(v, k + 1))
 }
 
 // The first trip of a line that leaves place x at the minute or later; the number of its trips if none does.

@@ -1,9 +1,10 @@
 -- What is left of the rides from call to call, and behind the ride at which a cursor stands.
 use mathlib.Core.Path.{_≡_, refl, sym, ap, subst, _∙_}
-use mathlib.Core.Bool.{true, false}
+use mathlib.Core.Bool.{true, false, not}
 use mathlib.Core.List.{List, [], _∷_, _++_, append-assoc, map}
 use Prim.Native.Nat.{ℕ, _+_, _-_, _*_, _≤_, _<_}
 use native.Mathlib.Omega.{arith}
+use borrow.Author.Tests.{not-true, not-false}
 use lib.ListN.{length, getD}
 use Rattle.lists.specs.Lists.{concatMap}
 use Rattle.connections.specs.Rides.{Ride}
@@ -56,43 +57,54 @@ module _ (v : List ℕ) (a b u k end : ℕ) (whole : List Ride) (so-far : whole 
       (inside : callsPlace v a ≤ length v)
       (more : k + 1 < end)
       (l : Line)
-      (x first : ℕ)
+      (x : ℕ)
       (is-l : l ≡ lineAt v (getD v k 0 - 1))
       (is-x : x ≡ getD v (k + 1) 0 - 1)
-      (is-first : first ≡ firstTrip v l x u)
     where
-      step : whole ≡ concatMap (tripsFrom v l x first) (rest v l b x 0) ++ callsFrom v a b u (k + 2)
+      step : (first : ℕ) → first ≡ firstTrip v l x u
+          → whole ≡ concatMap (tripsFrom v l x first) (rest v l b x 0) ++ callsFrom v a b u (k + 2)
       unfolding callsFrom allCalls rest
-      step =
+      step first is-first =
           so-far
           ∙ ap (allCalls v u b) (pairs-more v k (callsPlace v a) (omega arith) inside)
           ∙ rw (is-first, ← is-l, ← is-x)
 
-      pub call-late : l .trips ≤ first → whole ≡ callsFrom v a b u (k + 2)
-      call-late h = step ∙ ap (λ m. m ++ callsFrom v a b u (k + 2)) (no-trips v l x first (rest v l b x 0) h)
-
       module _ (s : Place) (is-s : rest v l b x 0 ≡ restAt v l b s) where
-        placed : whole ≡ concatMap (tripsFrom v l x first) (restAt v l b s) ++ callsFrom v a b u (k + 2)
-        placed = step ∙ ap (λ m. concatMap (tripsFrom v l x first) m ++ callsFrom v a b u (k + 2)) is-s
+        placed : (first : ℕ) → first ≡ firstTrip v l x u
+            → whole ≡ concatMap (tripsFrom v l x first) (restAt v l b s) ++ callsFrom v a b u (k + 2)
+        placed first is-first =
+            step first is-first
+            ∙ ap (λ m. concatMap (tripsFrom v l x first) m ++ callsFrom v a b u (k + 2)) is-s
 
-        pub call-past : s .found ≡ false → whole ≡ callsFrom v a b u (k + 2)
-        call-past e = placed ∙ at-none v l b x first s (callsFrom v a b u (k + 2)) e
+        pub call-past : not (s .found) ≡ true → whole ≡ callsFrom v a b u (k + 2)
+        call-past e =
+            placed (firstTrip v l x u) refl
+            ∙ at-none v l b x (firstTrip v l x u) s (callsFrom v a b u (k + 2)) (not-true (s .found) e)
 
-        pub call-found : s .found ≡ true
-            → left v a b u
-            (record {
-              more = true;
-              call = k + 2;
-              line = l;
-              x = x;
-              first = first;
-              p = s .place;
-              points = s .points;
-              j = first;
-            })
-            ≡ whole
-        unfolding left
-        call-found e = sym (placed ∙ at-place v l b x first s (callsFrom v a b u (k + 2)) e)
+        module _ (first : ℕ) (is-first : first ≡ firstTrip v l x u) where
+          pub call-late : l .trips ≤ first → whole ≡ callsFrom v a b u (k + 2)
+          call-late h =
+              placed first is-first
+              ∙ ap (λ m. m ++ callsFrom v a b u (k + 2)) (no-trips v l x first (restAt v l b s) h)
+
+          pub call-found : not (s .found) ≡ false
+              → left v a b u
+              (record {
+                more = true;
+                call = k + 2;
+                line = l;
+                x = x;
+                first = first;
+                p = s .place;
+                points = s .points;
+                j = first;
+              })
+              ≡ whole
+          unfolding left
+          call-found e =
+              sym
+              (placed first is-first
+              ∙ at-place v l b x first s (callsFrom v a b u (k + 2)) (not-false (s .found) e))
 
 pub calls-first : (v : List ℕ) (a b u k : ℕ) (whole : List Ride) → whole ≡ callsFrom v a b u k
     → k ≡ callsPlace v (a - 1) → 1 ≤ a → whole ≡ allRead v a u b

@@ -2,9 +2,9 @@
 ghost use mathlib.Core.Path.{_≡_};
 ghost use mathlib.Core.Bool.{true};
 ghost use mathlib.Core.List.{_∷_};
-ghost use Prim.Native.Nat.{_+_, _-_, _*_, _≤_, _<_};
-ghost use lib.ListN.{length, getD};
-ghost use Rattle.lookup.specs.Lookup.{lineAt, callsPlace};
+ghost use Prim.Native.Nat.{_*_, _≤_, _<_};
+ghost use lib.ListN.{length};
+ghost use Rattle.lookup.specs.Lookup.{callsPlace};
 ghost use Rattle.direct.specs.Candidates.{allRead};
 ghost use Rattle.riding.specs.Riding.{Good, Tells, left, rideOf, callsFrom, rest, restAt};
 use lookup::Line;
@@ -39,32 +39,6 @@ pub struct Cursor {
     pub j: usize,
 }
 
-// A number from 1 as a place from 0. A word that is 0 where none should be counts as 1.
-fn less_one(n: usize) -> usize
-    ensures { λ r. ⌜ r ≡ n - 1 ⌝ }
-{
-    if n == 0 {
-        return 0;
-    }
-    n - 1
-}
-
-// The line of the call at index k.
-fn call_line(v: &[u16], k: usize) -> Line
-    ensures { λ r. ⌜ r ≡ lineAt (now (v .entry)) (getD (now (v .entry)) k 0 - 1) ⌝ }
-    ensures { λ r. ⌜ (r .at < 65536) × (r .positions < 65536) × (r .trips < 65536) ⌝ }
-{
-    lookup::line_at(v, less_one(lookup::peek(v, k)))
-}
-
-// The place on its line of the call at index k.
-fn call_place(v: &[u16], k: usize) -> usize
-    requires { ⌜ k < 65536 ⌝ }
-    ensures { λ r. ⌜ (r ≡ getD (now (v .entry)) (k + 1) 0 - 1) × (r < 65536) ⌝ }
-{
-    less_one(lookup::peek(v, k + 1))
-}
-
 // The next place of the station behind place from of a line; points is the penalty of the ride to place from.
 fn seek_place(v: &[u16], l: Line, to: usize, from: usize, points: u32) -> Place
     requires { ⌜ (l .at < 65536)
@@ -95,7 +69,8 @@ fn seek_place(v: &[u16], l: Line, to: usize, from: usize, points: u32) -> Place
     }
 }
 
-// The first ride from the calls of station from that stand at index call or behind it.
+// The first ride from the calls of station from that stand at index call or behind it. Few calls lead to the station
+// sought, so a trip is looked for only where there is a place to alight at.
 fn seek_call(v: &[u16], from: usize, to: usize, minute: usize, call: usize) -> Cursor
     requires { ⌜ (1 ≤ from) × (from ≤ 64) × (callsPlace (now v) from ≤ length (now v)) × (call ≤ 65536) ⌝ }
     ensures { λ r. ⌜ (left (now (v .entry)) from to minute r ≡ callsFrom (now (v .entry)) from to minute call)
@@ -104,15 +79,15 @@ fn seek_call(v: &[u16], from: usize, to: usize, minute: usize, call: usize) -> C
     let end = lookup::calls_place(v, from);
     let mut k = call;
     'calls: while k + 1 < end {
-        let l = call_line(v, k);
-        let x = call_place(v, k);
+        let l = lookup::call_line(v, k);
+        let x = lookup::call_place(v, k);
         k += 2;
-        let first = lookup::first_trip(v, l, x, minute);
-        if l.trips <= first {
+        let s = seek_place(v, l, to, x, 0);
+        if !s.found {
             continue 'calls;
         }
-        let s = seek_place(v, l, to, x, 0);
-        if s.found {
+        let first = lookup::first_trip(v, l, x, minute);
+        if first < l.trips {
             return Cursor {
                 more: true,
                 call: k,

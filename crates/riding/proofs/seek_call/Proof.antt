@@ -1,9 +1,10 @@
--- The rides from the calls left are all rides sought: a call with no trip in time or no place of the station has none.
+-- The rides from the calls left are all rides sought: a call with no place of the station behind it, or with no
+-- trip in time, has none.
 use mathlib.Core.Path.{_≡_, refl}
 use Prim.Native.Nat.{_≤_, _-_}
 use borrow.Author.Needs.{needs}
 use Rattle.riding.specs.Riding.{callsFrom}
-use Rattle.riding.proofs.CursorLaws.{calls-none, call-late, call-past, call-found}
+use Rattle.riding.proofs.CursorLaws.{calls-none, call-past, call-late, call-found}
 use Rattle.riding.proofs.seek_call.Statement.{statement}
 use Rattle.riding.proofs.seek_call.Tie as tie
 
@@ -18,13 +19,13 @@ calls-holds : tie.Need-calls-holds Inv-calls μ-calls
 calls-holds c = (search needs, refl)
 
 calls-again : tie.Need-calls-again Inv-calls μ-calls
-calls-again c = (search needs, search call-late)
+calls-again c = (search needs, search call-past)
 
 returns : tie.Need-returns Inv-calls μ-calls
 returns c = (search call-found, search needs)
 
 calls-again-2 : tie.Need-calls-again-2 Inv-calls μ-calls
-calls-again-2 c = (search needs, search call-past)
+calls-again-2 c = (search needs, search call-late)
 
 returns-2 : tie.Need-returns-2 Inv-calls μ-calls
 returns-2 c = (search calls-none, search needs)
