@@ -2,9 +2,9 @@
 use mathlib.Core.Path.{_≡_, refl, sym, ap, subst, _∙_}
 use mathlib.Core.Bool.{true, false}
 use mathlib.Core.List.{List, [], _∷_, List·Memᴰ·tail as there}
-use Prim.Native.Nat.{ℕ, _+_}
+use Prim.Native.Nat.{ℕ, _+_, _≤_, min}
 use native.Mathlib.Omega.{arith}
-use lib.ListN.{getD}
+use lib.ListN.{length, getD}
 use Rattle.lists.specs.Lists.{_∈_}
 use Rattle.connections.specs.Rides.{Ride}
 use Rattle.direct.specs.Candidates.{allRead}
@@ -14,6 +14,8 @@ use Rattle.riding.specs.declared.Ride.{Ride as RideStruct}
 use Rattle.riding.specs.declared.Cursor.{Cursor}
 use Rattle.riding.specs.Riding.{Good, Tells, left, rideOf, left-none}
 use Rattle.riding.specs.Ridden.{ride-left}
+use Rattle.layers.specs.declared.Span.{Span}
+use Rattle.layers.specs.Spans.{Within, widened, widened-low, within-none, within-more}
 use Rattle.layers.specs.Layering.{takenAll}
 use Rattle.layers.specs.Fitting.{Fits, Fitting}
 
@@ -85,3 +87,29 @@ module _ (v : List ℕ) (a b u : ℕ) (p : List ℕ) (c : Cursor) where
         (h
         ∙ ap (takenAll p minutes points best) (left-none v a b u c e)
         ∙ taken-none p minutes points best)
+
+-- ---- the span of the minutes noted
+module _ (s : Span) (none : s .to ≡ 0) where
+  pub span-first : (best : List ℕ) → Within s best best
+  span-first best = within-none s (omega (arith, none)) best best refl
+
+  pub span-none : (old best : List ℕ) → best ≡ old → Within s old best
+  span-none old best = within-none s (omega (arith, none)) old best
+
+module _ (s : Span) (minutes : ℕ) (r : RideStruct) (wider : Span) (is : wider ≡ widened s (r .arrive + minutes)) where
+  pub span-low : s .from ≤ 2880 → wider .from ≤ 2880
+  span-low h = subst (λ s. s .from ≤ 2880) (sym is) (widened-low s (r .arrive + minutes) h)
+
+  pub span-more : (old best : List ℕ) → Within s old best → length best ≡ length old → length old ≡ 2880
+      → (p : List ℕ) (points : ℕ) (after : List ℕ)
+      → after ≡ lowered best (r .arrive + minutes) (getD p (r .depart) 0 + r .points + points)
+      → Within wider old after
+  span-more old best so-far same long p points after e =
+      let x = min (getD best (r .arrive + minutes) 0) (getD p (r .depart) 0 + r .points + points) in
+      subst
+      (λ s. Within s old after)
+      (sym is)
+      (subst
+      (Within (widened s (r .arrive + minutes)) old)
+      (sym e)
+      (within-more s old best (same ∙ long) so-far (r .arrive + minutes) x))

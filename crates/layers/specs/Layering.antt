@@ -1,7 +1,8 @@
 -- How the code comes from the least penalties before a ride to those behind it. No reader of the promise needs this
 -- file: Readies shows what these words say.
+use mathlib.Core.Path.{_≡_}
 use mathlib.Core.List.{List, map}
-use Prim.Native.Nat.{ℕ, _+_}
+use Prim.Native.Nat.{ℕ, _+_, _<_}
 use lib.Dec.{ltb}
 use lib.ListN.{getD, set}
 use Rattle.connections.specs.Rides.{Ride}
@@ -39,3 +40,7 @@ stepOf p minutes points l = lowest noPoints (takenAll p minutes points blank l)
 -- the first minute with a penalty, or the one behind all
 unfoldable pub firstValue : List ℕ → ℕ
 firstValue p = firstFrom (λ m. ltb (getD p m 0) noPoints) 0 2880
+
+-- no one is ready before minute e
+pub record NoneBefore (e : ℕ) (p : List ℕ) : Type 0 where
+  pub none : (m : ℕ) → m < e → getD p m noPoints ≡ noPoints

@@ -1,5 +1,7 @@
 pub mod Lowered
 pub mod Lowest
+pub mod Spans
+pub mod Filling
 pub mod Layering
 pub mod Fitting
 pub mod Taken

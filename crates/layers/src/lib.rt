@@ -2,17 +2,19 @@
 // board at the present station by then.
 ghost use mathlib.Core.Path.{_≡_};
 ghost use mathlib.Core.Bool.{true, not};
-ghost use Prim.Native.Nat.{_+_, _-_, _≤_, _<_};
+ghost use Prim.Native.Nat.{_+_, _-_, _≤_, _<_, min, max};
 ghost use lib.ListN.{length, getD};
 ghost use Rattle.timetable.specs.Words.{timetableOf, isTimetable};
 ghost use Rattle.connections.specs.Connections.{net};
 ghost use Rattle.lookup.specs.Lookup.{callsPlace};
 ghost use Rattle.checking.specs.Question10.{areTables};
 ghost use Rattle.direct.specs.Candidates.{allRead};
-ghost use Rattle.direct.specs.Choosing.{noPoints};
+ghost use Rattle.direct.specs.Choosing.{noPoints, blank};
 ghost use Rattle.direct.specs.Turns.{lowered};
 ghost use Rattle.layers.specs.Lowest.{lowest};
-ghost use Rattle.layers.specs.Layering.{takenAll, startOf, firstValue};
+ghost use Rattle.layers.specs.Spans.{Within, widened};
+ghost use Rattle.layers.specs.Filling.{filled};
+ghost use Rattle.layers.specs.Layering.{takenAll, startOf, firstValue, NoneBefore};
 ghost use Rattle.layers.specs.Fitting.{Fits, Fitting};
 ghost use Rattle.layers.specs.Turning.{held};
 ghost use Rattle.layers.specs.Onward.{Listed, Stations, changeWords};
@@ -30,27 +32,91 @@ const MINUTES: usize = 2880;
 // The penalty of a minute by which no one is ready; all others are less.
 const NO_POINTS: u32 = u32::MAX;
 
-// Who is ready at a minute is ready at each later one: each penalty is lowered to the least so far.
-fn lowest_so_far(p: &mut [u32])
-    requires { ⌜ length (now p) ≡ 2880 ⌝ }
-    ensures { λ _. ⌜ now (p .exit) ≡ lowest noPoints (now (p .entry)) ⌝ }
+// The minutes from one up to another.
+pub struct Span {
+    pub from: usize,
+    pub to: usize,
+}
+
+// The span of no minutes.
+fn nothing() -> Span
+    ensures { λ r. ⌜ (r .from ≡ 2880) × (r .to ≡ 0) ⌝ }
+{
+    Span {
+        from: MINUTES,
+        to: 0,
+    }
+}
+
+// The earlier of two minutes.
+fn earlier(a: usize, b: usize) -> usize
+    ensures { λ r. ⌜ r ≡ min a b ⌝ }
+{
+    if b < a {
+        return b;
+    }
+    a
+}
+
+// The later of two minutes.
+fn later(a: usize, b: usize) -> usize
+    ensures { λ r. ⌜ r ≡ max a b ⌝ }
+{
+    if a < b {
+        return b;
+    }
+    a
+}
+
+// The span with a minute more. A minute behind the two days is left out: nothing is noted for it.
+fn widen(s: Span, m: usize) -> Span
+    ensures { λ r. ⌜ r ≡ widened s m ⌝ }
+{
+    if MINUTES <= m {
+        return s;
+    }
+    Span {
+        from: earlier(s.from, m),
+        to: later(s.to, m + 1),
+    }
+}
+
+// The same penalty for all minutes from one up to another.
+fn fill(p: &mut [u32], from: usize, to: usize, points: u32)
+    requires { ⌜ (from ≤ to) × (to ≤ 2880) × (length (now p) ≡ 2880) ⌝ }
+    ensures { λ _. ⌜ now (p .exit) ≡ filled (now (p .entry)) from to points ⌝ }
     ensures { λ _. ⌜ length (now (p .exit)) ≡ length (now (p .entry)) ⌝ }
 {
-    let mut least = NO_POINTS;
-    let mut m = 0;
-    while m < MINUTES {
-        least = direct::lesser(least, p[m]);
-        p[m] = least;
+    let mut m = from;
+    while m < to {
+        p[m] = points;
         m += 1;
     }
 }
 
-// The first minute by which one is ready; 2,880 if no one ever is.
-fn first_value(p: &[u32]) -> usize
-    requires { ⌜ length (now p) ≡ 2880 ⌝ }
+// Who is ready at a minute is ready at each later one: each penalty is lowered to the least so far. Outside the span
+// there is none, so before it none changes, and behind it all are the least of the span.
+fn lowest_so_far(p: &mut [u32], s: Span)
+    requires { ⌜ (length (now p) ≡ 2880) × (s .from ≤ 2880) × Within s blank (now p) ⌝ }
+    ensures { λ _. ⌜ now (p .exit) ≡ lowest noPoints (now (p .entry)) ⌝ }
+    ensures { λ _. ⌜ length (now (p .exit)) ≡ length (now (p .entry)) ⌝ }
+{
+    let mut least = NO_POINTS;
+    let mut m = s.from;
+    while m < s.to {
+        least = direct::lesser(least, p[m]);
+        p[m] = least;
+        m += 1;
+    }
+    fill(p, m, MINUTES, least);
+}
+
+// The first minute by which one is ready, where no one is before minute from; 2,880 if no one ever is.
+fn first_value(p: &[u32], from: usize) -> usize
+    requires { ⌜ (length (now p) ≡ 2880) × (from ≤ 2880) × NoneBefore from (now p) ⌝ }
     ensures { λ r. ⌜ (r ≡ firstValue (now (p .entry))) × (r ≤ 2880) ⌝ }
 {
-    let mut m = 0;
+    let mut m = from;
     let first = loop {
         if MINUTES <= m {
             break m;
@@ -69,14 +135,13 @@ fn start(minute: usize, p: &mut [u32])
     ensures { λ _. ⌜ now (p .exit) ≡ startOf minute ⌝ }
     ensures { λ _. ⌜ length (now (p .exit)) ≡ length (now (p .entry)) ⌝ }
 {
-    direct::fill_blank(p);
-    p[minute] = 0;
-    lowest_so_far(p);
+    fill(p, 0, minute, NO_POINTS);
+    fill(p, minute, MINUTES, 0);
 }
 
 // Notes a ride for one who has paid what p holds for its departure: when he can leave again, behind a change that takes
-// and costs so much, and what he has paid by then.
-fn note_ride(p: &[u32], ride: Ride, change: Station, best: &mut [u32])
+// and costs so much, and what he has paid by then. Answers the span noted so far with that minute.
+fn note_ride(p: &[u32], ride: Ride, change: Station, best: &mut [u32], noted: Span) -> Span
     requires { ⌜ (length (now p) ≡ 2880)
         × Fits (now p) ride
         × (change .minutes ≤ 240)
@@ -87,6 +152,7 @@ fn note_ride(p: &[u32], ride: Ride, change: Station, best: &mut [u32])
         (ride .arrive + change .minutes)
         (getD (now (p .entry)) (ride .depart) 0 + ride .points + change .points) ⌝ }
     ensures { λ _. ⌜ length (now (best .exit)) ≡ length (now (best .entry)) ⌝ }
+    ensures { λ r. ⌜ r ≡ widened noted (ride .arrive + change .minutes) ⌝ }
 {
     let depart = ride.depart;
     let paid = p[depart] + ride.points + change.points;
@@ -98,9 +164,10 @@ fn note_ride(p: &[u32], ride: Ride, change: Station, best: &mut [u32])
             points: Points(paid),
         },
     );
+    widen(noted, minute as usize)
 }
 
-// Notes all rides from one station to another that leave at a minute or later.
+// Notes all rides from one station to another that leave at a minute or later. Answers the span of the minutes noted.
 fn note_rides(
     lines: &[u16],
     from: usize,
@@ -109,9 +176,10 @@ fn note_rides(
     p: &[u32],
     change: Station,
     best: &mut [u32],
-)
+) -> Span
     requires { ⌜ (1 ≤ from) × (from ≤ 64) × (callsPlace (now lines) from ≤ length (now lines)) ⌝ }
     requires { ⌜ (length (now p) ≡ 2880)
+        × (length (now best) ≡ 2880)
         × Fitting (now p) (allRead (now lines) from earliest to)
         × (change .minutes ≤ 240)
         × (change .points ≤ 1000) ⌝ }
@@ -123,12 +191,15 @@ fn note_rides(
         (now (best .entry))
         (allRead (now (lines .entry)) from earliest to) ⌝ }
     ensures { λ _. ⌜ length (now (best .exit)) ≡ length (now (best .entry)) ⌝ }
+    ensures { λ r. ⌜ Within r (now (best .entry)) (now (best .exit)) × (r .from ≤ 2880) ⌝ }
 {
+    let mut noted = nothing();
     let mut c = riding::begin(lines, from, to, earliest);
     while c.more {
-        note_ride(p, riding::tell(lines, c), change, best);
+        noted = note_ride(p, riding::tell(lines, c), change, best, noted);
         c = riding::next(lines, from, to, earliest, c);
     }
+    noted
 }
 
 // One ride and the change at its end: from the least penalties at station from to those at station to. Answers the
@@ -154,24 +225,34 @@ fn step(
 {
     let change = timetable::station_at(words, to - 1);
     direct::fill_blank(q);
-    note_rides(lines, from, to, earliest, p, change, q);
-    lowest_so_far(q);
-    first_value(q)
+    let noted = note_rides(lines, from, to, earliest, p, change, q);
+    lowest_so_far(q, noted);
+    first_value(q, noted.from)
 }
 
-// The last ride: notes for each minute of arrival the least penalty.
-fn finish(lines: &[u16], from: usize, to: usize, earliest: usize, p: &[u32], best: &mut [u32])
+// The last ride: notes for each minute of arrival the least penalty. Answers the span of the minutes noted.
+fn finish(
+    lines: &[u16],
+    from: usize,
+    to: usize,
+    earliest: usize,
+    p: &[u32],
+    best: &mut [u32],
+) -> Span
     requires { ⌜ (1 ≤ from) × (from ≤ 64) × (callsPlace (now lines) from ≤ length (now lines)) ⌝ }
-    requires { ⌜ (length (now p) ≡ 2880) × Fitting (now p) (allRead (now lines) from earliest to) ⌝ }
+    requires { ⌜ (length (now p) ≡ 2880)
+        × (length (now best) ≡ 2880)
+        × Fitting (now p) (allRead (now lines) from earliest to) ⌝ }
     ensures { λ _. ⌜ now (best .exit)
         ≡ takenAll (now (p .entry)) 0 0 (now (best .entry)) (allRead (now (lines .entry)) from earliest to) ⌝ }
     ensures { λ _. ⌜ length (now (best .exit)) ≡ length (now (best .entry)) ⌝ }
+    ensures { λ r. ⌜ Within r (now (best .entry)) (now (best .exit)) ⌝ }
 {
     let none = Station {
         minutes: 0,
         points: 0,
     };
-    note_rides(lines, from, to, earliest, p, none, best);
+    note_rides(lines, from, to, earliest, p, none, best)
 }
 
 // A step from the array that holds the present penalties, q if they have changed places, to the other.
@@ -215,10 +296,11 @@ fn finish_turned(
     p: &[u32],
     q: &[u32],
     best: &mut [u32],
-)
+) -> Span
     requires { ⌜ (1 ≤ from) × (from ≤ 64) × (callsPlace (now lines) from ≤ length (now lines)) ⌝ }
     requires { ⌜ (length (now p) ≡ 2880)
         × (length (now q) ≡ 2880)
+        × (length (now best) ≡ 2880)
         × Fitting (held turned (now p) (now q)) (allRead (now lines) from earliest to) ⌝ }
     ensures { λ _. ⌜ now (best .exit)
         ≡ takenAll
@@ -228,16 +310,17 @@ fn finish_turned(
         (now (best .entry))
         (allRead (now (lines .entry)) from earliest to) ⌝ }
     ensures { λ _. ⌜ length (now (best .exit)) ≡ length (now (best .entry)) ⌝ }
+    ensures { λ r. ⌜ Within r (now (best .entry)) (now (best .exit)) ⌝ }
 {
     if turned {
-        finish(lines, from, to, earliest, q, best);
-    } else {
-        finish(lines, from, to, earliest, p, best);
+        return finish(lines, from, to, earliest, q, best);
     }
+    finish(lines, from, to, earliest, p, best)
 }
 
 // Lowers the penalties of the arrival minutes to those of the connections of one pattern: from the source at the minute
-// or later, with changes at the first r - 1 stations of the path, to the station behind them.
+// or later, with changes at the first r - 1 stations of the path, to the station behind them. Answers the span of the
+// minutes noted: outside it no penalty changes.
 pub fn note_pattern(
     words: &[u16],
     lines: &[u16],
@@ -246,7 +329,7 @@ pub fn note_pattern(
     path: &[u16],
     r: usize,
     best: &mut [u32],
-)
+) -> Span
     requires { ⌜ (16384 ≤ length (now words))
         × (isTimetable (now words) ≡ true)
         × (areTables (now words) (now lines) ≡ true) ⌝ }
@@ -262,6 +345,7 @@ pub fn note_pattern(
         (now (best .entry))
         (now (best .exit)) ⌝ }
     ensures { λ _. ⌜ length (now (best .exit)) ≡ length (now (best .entry)) ⌝ }
+    ensures { λ s. ⌜ Within s (now (best .entry)) (now (best .exit)) ⌝ }
 {
     let mut p = [NO_POINTS; MINUTES];
     let mut q = [NO_POINTS; MINUTES];
@@ -270,18 +354,18 @@ pub fn note_pattern(
     let mut from = source;
     let mut earliest = minute;
     let mut j = 0;
-    'pattern: loop {
+    let noted = 'pattern: loop {
         let to = words::word(path, j) as usize;
         if j + 1 == r {
-            finish_turned(lines, from, to, earliest, turned, &p, &q, best);
-            break 'pattern;
+            break 'pattern finish_turned(lines, from, to, earliest, turned, &p, &q, best);
         }
         earliest = step_turned(words, lines, from, to, earliest, turned, &mut p, &mut q);
         if MINUTES <= earliest {
-            break 'pattern;
+            break 'pattern nothing();
         }
         turned = !turned;
         from = to;
         j += 1;
-    }
+    };
+    noted
 }

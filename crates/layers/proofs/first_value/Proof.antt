@@ -7,18 +7,18 @@ use borrow.Author.Needs.{needs}
 use Rattle.lookup.specs.First.{firstFrom}
 use Rattle.direct.specs.Choosing.{noPoints}
 use Rattle.layers.specs.Layering.{firstValue}
-use Rattle.layers.proofs.LowestLaws.{looks, none-left, found, goes-on}
+use Rattle.layers.proofs.LowestLaws.{looks-on, none-left, found, goes-on}
 use Rattle.layers.proofs.first_value.Statement.{statement}
 use Rattle.layers.proofs.first_value.Tie as tie
 
 abbrev Inv-loop : tie.InvT-loop
-Inv-loop p m₀ m = (m ≤ 2880) × (firstValue p ≡ firstFrom (λ k. ltb (getD p k 0) noPoints) m (2880 - m))
+Inv-loop p from m₀ m = (m ≤ 2880) × (firstValue p ≡ firstFrom (λ k. ltb (getD p k 0) noPoints) m (2880 - m))
 
 abbrev μ-loop : tie.MeasureT-loop
-μ-loop p m₀ m = 2880 - m
+μ-loop p from m₀ m = 2880 - m
 
 loop-holds : tie.Need-loop-holds Inv-loop μ-loop
-loop-holds c = (search needs, search looks)
+loop-holds c = (search needs, search looks-on)
 
 loop-again : tie.Need-loop-again Inv-loop μ-loop
 loop-again c = (search needs, search goes-on)

@@ -6,10 +6,12 @@ use lib.ListN.{length}
 use borrow.Author.Needs.{needs}
 use Rattle.timetable.specs.Words.{timetableOf}
 use Rattle.connections.specs.Connections.{net}
+use Rattle.layers.specs.Spans.{within-from}
 use Rattle.layers.specs.Turning.{held}
 use Rattle.layers.specs.Readies.{Ready}
 use Rattle.layers.specs.Patterns.{changesTo}
 use Rattle.layers.specs.Onward.{Listed, source-few, calls-within, fitting}
+use Rattle.layers.proofs.RideLaws.{span-none}
 use Rattle.layers.proofs.PatternLaws.{listed-here, ready-first, ready-next, ended, stopped}
 use Rattle.layers.proofs.note_pattern.Statement.{statement}
 use Rattle.layers.proofs.note_pattern.Tie as tie
@@ -34,7 +36,7 @@ pattern-holds c =
 
 finish-turned-requires : tie.Need-finish-turned-requires Inv-pattern μ-pattern
 finish-turned-requires c κs =
-    ((search needs, search source-few, search calls-within), (search needs, search needs, search fitting))
+    ((search needs, search source-few, search calls-within), (search needs, search needs, search needs, search fitting))
 
 step-turned-requires : tie.Need-step-turned-requires Inv-pattern μ-pattern
 step-turned-requires c κs = (
@@ -47,10 +49,10 @@ pattern-again c =
     (search needs, search needs, search needs, search needs, search needs, search listed-here, search ready-next)
 
 returns : tie.Need-returns Inv-pattern μ-pattern
-returns c = (search ended, search needs)
+returns c = (search ended, (search needs, search within-from))
 
 returns-2 : tie.Need-returns-2 Inv-pattern μ-pattern
-returns-2 c = (search stopped, search needs)
+returns-2 c = (search stopped, (search needs, search span-none))
 
 pub note-pattern-spec : {M : Type 1} → statement M
 note-pattern-spec =
@@ -70,6 +72,7 @@ note-pattern-spec =
     (λ c. search needs)
     (λ c. search needs)
     step-turned-requires
+    (λ c. search needs)
     (λ c. search needs)
     (λ c. search needs)
     pattern-again

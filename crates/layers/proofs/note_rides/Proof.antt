@@ -1,30 +1,51 @@
 -- The rides noted so far, and then those that are left, make the same penalties as all of them. A ride that is left
--- fits its words, so that no sum overflows.
+-- fits its words, so that no sum overflows. Each minute noted is in the span.
 use mathlib.Core.Path.{_≡_}
+use Prim.Native.Nat.{_≤_}
 use lib.ListN.{length}
 use borrow.Author.Needs.{needs}
+use Rattle.lookup.specs.Lookup.{callsPlace}
 use Rattle.direct.specs.Candidates.{allRead}
 use Rattle.riding.specs.Riding.{Good, left, left-falls}
+use Rattle.layers.specs.Spans.{Within}
 use Rattle.layers.specs.Layering.{takenAll}
 use Rattle.layers.specs.Fitting.{Fitting}
 use Rattle.layers.proofs.RideLaws.{fitting-first, fitting-next, fits-here}
 use Rattle.layers.proofs.RideLaws.{noting-first, noting-more, noting-done}
+use Rattle.layers.proofs.RideLaws.{span-first, span-more, span-low}
 use Rattle.layers.proofs.note_rides.Statement.{statement}
 use Rattle.layers.proofs.note_rides.Tie as tie
 
 abbrev Inv-loop : tie.InvT-loop
-Inv-loop lines from to earliest p change best₀ c₀ best c =
-    Good c
+Inv-loop lines from to earliest p change best₀ noted₀ c₀ best noted c =
+    (1 ≤ from)
+    × (from ≤ 64)
+    × (callsPlace lines from ≤ length lines)
+    × Good c
     × Fitting p (left lines from to earliest c)
+    × (length best₀ ≡ 2880)
     × (length best ≡ length best₀)
+    × Within noted best₀ best
+    × (noted .from ≤ 2880)
     × (takenAll p (change .minutes) (change .points) best₀ (allRead lines from earliest to)
     ≡ takenAll p (change .minutes) (change .points) best (left lines from to earliest c))
 
 abbrev μ-loop : tie.MeasureT-loop
-μ-loop lines from to earliest p change best₀ c₀ best c = length (left lines from to earliest c)
+μ-loop lines from to earliest p change best₀ noted₀ c₀ best noted c = length (left lines from to earliest c)
 
 loop-holds : tie.Need-loop-holds Inv-loop μ-loop
-loop-holds c = (search needs, search fitting-first, search needs, search noting-first)
+loop-holds c = (
+  search needs,
+  search needs,
+  search needs,
+  search needs,
+  search fitting-first,
+  search needs,
+  search needs,
+  search span-first,
+  search needs,
+  search noting-first,
+)
 
 note-ride-requires : tie.Need-note-ride-requires Inv-loop μ-loop
 note-ride-requires c κs = (search needs, search fits-here, search needs, search needs)
@@ -33,10 +54,21 @@ loop-less : tie.Need-loop-less Inv-loop μ-loop
 loop-less c = search left-falls
 
 loop-again : tie.Need-loop-again Inv-loop μ-loop
-loop-again c = (search needs, search fitting-next, search needs, search noting-more)
+loop-again c = (
+  search needs,
+  search needs,
+  search needs,
+  search needs,
+  search fitting-next,
+  search needs,
+  search needs,
+  search span-more,
+  search span-low,
+  search noting-more,
+)
 
 returns : tie.Need-returns Inv-loop μ-loop
-returns c = (search noting-done, search needs)
+returns c = (search noting-done, (search needs, (search needs, search needs)))
 
 pub note-rides-spec : {M : Type 1} → statement M
 note-rides-spec =
@@ -44,6 +76,7 @@ note-rides-spec =
     (tie.spec
     Inv-loop
     μ-loop
+    (λ c. search needs)
     (λ c. search needs)
     loop-holds
     (λ c. search needs)

@@ -1,5 +1,7 @@
 -- Blank words, the rides noted in them, and the least so far. What the change takes and costs is bounded by question 9.
 use borrow.Author.Needs.{needs}
+use Rattle.layers.specs.Spans.{within-from}
+use Rattle.layers.proofs.LowestLaws.{none-before}
 use Rattle.layers.proofs.StepLaws.{place-few, change-minutes, change-points, step-is}
 use Rattle.layers.proofs.step.Statement.{statement}
 use Rattle.layers.proofs.step.Tie as tie
@@ -8,7 +10,14 @@ station-at-requires : tie.Need-station-at-requires
 station-at-requires c κs = (search needs, search place-few)
 
 note-rides-requires : tie.Need-note-rides-requires
-note-rides-requires c κs = (search needs, (search needs, search needs, search change-minutes, search change-points))
+note-rides-requires c κs =
+    (search needs, (search needs, search needs, search needs, search change-minutes, search change-points))
+
+lowest-so-far-requires : tie.Need-lowest-so-far-requires
+lowest-so-far-requires c κs = (search needs, search needs, search within-from)
+
+first-value-requires : tie.Need-first-value-requires
+first-value-requires c κs = (search needs, search needs, search none-before)
 
 returns : tie.Need-returns
 returns c = (search step-is, (search needs, search needs))
@@ -21,7 +30,7 @@ step-spec =
     station-at-requires
     (λ c. search needs)
     note-rides-requires
-    (λ c. search needs)
-    (λ c. search needs)
+    lowest-so-far-requires
+    first-value-requires
     (λ c. search needs)
     returns)
