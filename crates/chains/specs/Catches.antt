@@ -4,13 +4,9 @@ use mathlib.Core.List.{List}
 use Prim.Native.Nat.{ℕ, suc, _<_}
 use lib.Dec.{leb}
 use lib.ListN.{getD}
-use Rattle.lists.specs.Lists.{_∈_, firstOf}
+use Rattle.lists.specs.Lists.{firstOf}
 use Rattle.stopwise.specs.Stopwise.{depart, nowhere, Goes}
 use Rattle.chains.specs.Order.{firstOr, catch}
-
--- the list has stops
-pub record Stops (l : List ℕ) : Type 0 where
-  pub within : (x : ℕ) → x ∈ l → x < 2048
 
 -- the first of the list that is left at the minute or later
 unfoldable pub firstReady : (w : List ℕ) (minute : ℕ) → List ℕ → ℕ
