@@ -1,15 +1,17 @@
 -- Document 01: "Cases a to k stand together under one theorem about the definitions." Here they are, on timetable M, a
 -- part for each; M is the timetable that its text is read to.
 use mathlib.Core.Path.{_≡_, _∙_}
+use mathlib.Core.Bool.{true}
 use mathlib.Core.List.{List, [], _∷_, _++_}
 use Prim.Native.Nat.{ℕ, _≤_}
 use native.Mathlib.Omega.{arith}
+use borrow.Author.Tests.{le-leb}
 use lib.ListN.{length}
 use Rattle.connections.specs.Connections.{net}
 use Rattle.connections.specs.Planner.{plannerList}
 use Rattle.timetable.specs.Worked.{variant, M}
 use Rattle.connections.specs.Worked.{M-valid, planned, oneRide, twoRides, case-a, case-a-none, case-g, case-h}
-use Rattle.stores.specs.Words.{storeWords, keptList, answer}
+use Rattle.stores.specs.Words.{storeWords, readable, wellMade, keptList, answer}
 use Rattle.stores.specs.Worked.{case-b, case-c, case-d, case-i, case-j}
 use Rattle.reading.specs.Reading.{Accepted, Refused, reading}
 use Rattle.accepted.specs.Cases.{textM, M-accepted, case-k}
@@ -43,8 +45,10 @@ pub record Cases : Type 0 where
   pub h-stored : (post : List ℕ) → answer (net M) (storeWords (net M) 2 ++ post) 2 503 3 ≡ oneRide 17 0 2 1 2 ∷ []
   -- "(i) Station 2 with 4 change minutes: store of 1 is 0,2,2,0,3,0."
   pub i : storeWords (net (variant 4 520)) 1 ≡ 0 ∷ 2 ∷ 2 ∷ 0 ∷ 3 ∷ 0 ∷ []
-  -- "(j) The store 0,1,3,0 given for source 1: query at 470 shows only 90,0."
-  pub j : answer (net M) (0 ∷ 1 ∷ 3 ∷ 0 ∷ []) 1 470 3 ≡ oneRide 90 0 1 1 3 ∷ []
+  -- "(j) The store 0,1,3,0 given for source 1: query at 470 shows only 90,0.", whatever words stand behind it; question
+  -- 13 has its yes
+  pub j : (post : List ℕ) → answer (net M) (0 ∷ 1 ∷ 3 ∷ 0 ∷ post) 1 470 3 ≡ oneRide 90 0 1 1 3 ∷ []
+  pub j-well-made : (post : List ℕ) → wellMade (length (M .stations)) (0 ∷ 1 ∷ 3 ∷ 0 ∷ post) ≡ true
   -- "(k) Empty text: 7, line 1."
   pub k : reading [] ≡ Refused 7 1
 
@@ -62,11 +66,20 @@ to-3 a m h g i =
 three : DemandThree M
 three = demand-three M M-valid
 
-from-1 : (m : ℕ) → m ≤ lastMinute → Query (net M) 1 m 3
+pub from-1 : (m : ℕ) → m ≤ lastMinute → Query (net M) 1 m 3
 from-1 m i = to-3 1 m (omega arith) (omega arith) i
 
-from-2 : (m : ℕ) → m ≤ lastMinute → Query (net M) 2 m 3
+pub from-2 : (m : ℕ) → m ≤ lastMinute → Query (net M) 2 m 3
 from-2 m i = to-3 2 m (omega arith) (omega arith) i
+
+-- The store of case j holds one sequence, that of the ride to 3: no word behind it is read.
+rows-j : (post : List ℕ) → answer (net M) (0 ∷ 1 ∷ 3 ∷ 0 ∷ post) 1 470 3 ≡ oneRide 90 0 1 1 3 ∷ []
+unfolding answer keptList readable
+rows-j post = case-j
+
+well-j : (post : List ℕ) → wellMade (length (M .stations)) (0 ∷ 1 ∷ 3 ∷ 0 ∷ post) ≡ true
+unfolding wellMade readable M variant
+well-j post = rw (le-leb 4 (length (0 ∷ 1 ∷ 3 ∷ 0 ∷ post)) (omega arith))
 
 pub cases : Cases
 cases =
@@ -86,6 +99,7 @@ cases =
       h = case-h;
       h-stored = λ post. three .made 2 503 3 post (from-2 503 (omega arith)) ∙ case-h;
       i = case-i;
-      j = case-j;
+      j = rows-j;
+      j-well-made = well-j;
       k = case-k;
     }

@@ -1,1 +1,5 @@
 pub mod Promises
+pub mod Calls
+pub mod Cases
+pub mod Replied
+pub mod CaseProofs

@@ -6,15 +6,14 @@ use mathlib.Core.Path.{_≡_, refl, sym, ap, subst, _∙_}
 use mathlib.Core.Bool.{Bool, true, not, _&&_}
 use mathlib.Core.Logic.{_↔_}
 use mathlib.Core.List.{List, [], _∷_, _++_}
-use Prim.Native.Nat.{ℕ, zero, suc, _+_, _≤_}
+use Prim.Native.Nat.{ℕ, _≤_}
 use native.Mathlib.Nat.{zero-add}
 use native.Mathlib.Omega.{arith}
 use borrow.Author.Tests.{leb-true, le-leb, ne-eqb}
-use lib.Dec.{T, leb, eqb}
-use lib.ListN.{length, take, drop}
+use lib.Dec.{leb, eqb}
+use lib.ListN.{length, drop}
 use Rattle.lists.specs.Tests.{T-true}
 use Rattle.questions.specs.Question.{
-  Question,
   ask,
   firstNo,
   yes-here,
@@ -22,7 +21,6 @@ use Rattle.questions.specs.Question.{
   and-left,
   and-right,
   and-both,
-  same-tests,
 }
 use Rattle.words.specs.Put.{put}
 use Rattle.replies.specs.Replies.{numberOf, reply-number, words-done}
@@ -35,19 +33,18 @@ use Rattle.accepted.specs.Question9.{number-zero, read-spells, zero-has-yes}
 use Rattle.results.specs.Results.{Answers}
 use Rattle.connections.specs.Connections.{net, Connection}
 use Rattle.connections.specs.Planner.{plannerList, measure, rowsOf}
-use Rattle.stores.specs.Stored.{stored, Target}
-use Rattle.stores.specs.Words.{nodes, arcs, entriesMost, storeWords, wellMade, keptList, answer}
-use Rattle.tables.specs.Building.{buildReply, buildWords, tablesOf}
+use Rattle.stores.specs.Words.{nodes, arcs, entriesMost, storeWords, wellMade, answer}
+use Rattle.tables.specs.Building.{buildReply, buildWords}
 use Rattle.checking.specs.Question10.{areTables, tablesQuestions, tablesNumber}
-use Rattle.checking.specs.Asked.{listed, named, queryQuestions, queryNumber}
+use Rattle.checking.specs.Asked.{listed, named, queryQuestions}
 use Rattle.checking.specs.Yes.{long, long-all, tables-asked, query-asked}
 use Rattle.checking.specs.Built.{built-has-yes, built-asked}
-use Rattle.demands.specs.Demands.{Query, DemandTwo, DemandThree}
+use Rattle.demands.specs.Demands.{Query}
 use Rattle.demands.specs.Accepted.{Loaded, read-loaded}
 use Rattle.lines.specs.DirectRides.{directs, directRows}
 use Rattle.direct.specs.Direct.{directNumber, lastQuestions as directQuestions}
 use Rattle.storing.specs.Storing.{sequences, storeOf, fits, storeNumber, storeReply, storeAfter}
-use Rattle.asking.specs.Asking.{kept, rows, rowWords, lastQuestions, askNumber, askReply, askWords}
+use Rattle.asking.specs.Asking.{kept, rows, rowWords, lastQuestions, askNumber}
 
 -- What holds of timetable words w, line tables v and a store s, with working space of n words, for queries from a.
 pub record Shared (w v s : List ℕ) (n a : ℕ) : Type 0 where
@@ -145,7 +142,7 @@ some-length (x ∷ l) [] e = absurd (no-cons (e .1 refl))
 some-length (x ∷ l) (y ∷ k) e =
     le-leb 1 (length (x ∷ l)) (omega arith) ∙ sym (le-leb 1 (length (y ∷ k)) (omega arith))
 
-put-front : (ws old : List ℕ) → put 0 ws old ≡ ws ++ drop (length ws) old
+pub put-front : (ws old : List ℕ) → put 0 ws old ≡ ws ++ drop (length ws) old
 unfolding put
 put-front ws old = rw zero-add
 

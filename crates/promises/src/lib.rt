@@ -1,2 +1,2 @@
-// The customer's demand 3, for the calls as they are: what reading, building, the store call and the query answer and
-// write. Definitions only.
+// The customer's demand 3 and cases a to k, for the calls as they are: what reading, building, the store call and the
+// query answer and write. Definitions only.
