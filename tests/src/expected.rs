@@ -188,7 +188,7 @@ fn expected<W>(answer: Answer<W>) -> Expected<W> {
 fn reply(answer: Result<u32, u32>) -> Reply {
     match answer {
         Ok(beside) => Reply { number: 0, beside },
-        Err(number) => Reply { number, beside: 0 },
+        Err(number) => Reply::refused(number),
     }
 }
 

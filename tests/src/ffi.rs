@@ -6,76 +6,37 @@ use std::ptr::{null, null_mut};
 use crate::direct::Query;
 
 mod exported {
+    // each pointer stands beside its length
+    #[rustfmt::skip]
     extern "C" {
         pub fn dairyepoch_read(text: *const u8, text_len: usize, timetable: *mut u16, timetable_len: usize) -> u64;
         pub fn dairyepoch_check_timetable(timetable: *const u16, timetable_len: usize) -> u64;
         pub fn dairyepoch_build_lines(
-            timetable: *const u16,
-            timetable_len: usize,
-            lines: *mut u16,
-            lines_len: usize,
-            work: *mut u32,
-            work_len: usize,
+            timetable: *const u16, timetable_len: usize, lines: *mut u16, lines_len: usize,
+            work: *mut u32, work_len: usize,
         ) -> u64;
         pub fn dairyepoch_check_lines(
-            timetable: *const u16,
-            timetable_len: usize,
-            lines: *const u16,
-            lines_len: usize,
-            work: *mut u32,
-            work_len: usize,
+            timetable: *const u16, timetable_len: usize, lines: *const u16, lines_len: usize,
+            work: *mut u32, work_len: usize,
         ) -> u64;
         pub fn dairyepoch_check_lines_alone(
-            lines: *const u16,
-            lines_len: usize,
-            work: *mut u32,
-            work_len: usize,
+            lines: *const u16, lines_len: usize, work: *mut u32, work_len: usize,
         ) -> u64;
         pub fn dairyepoch_line_trips(
-            lines: *const u16,
-            lines_len: usize,
-            work: *mut u32,
-            work_len: usize,
-            line: u32,
+            lines: *const u16, lines_len: usize, work: *mut u32, work_len: usize, line: u32,
         ) -> u64;
         pub fn dairyepoch_direct(
-            timetable: *const u16,
-            timetable_len: usize,
-            lines: *const u16,
-            lines_len: usize,
-            work: *mut u32,
-            work_len: usize,
-            from: u32,
-            to: u32,
-            minute: u32,
-            answer: *mut u32,
-            answer_len: usize,
+            timetable: *const u16, timetable_len: usize, lines: *const u16, lines_len: usize,
+            work: *mut u32, work_len: usize, from: u32, to: u32, minute: u32, answer: *mut u32, answer_len: usize,
         ) -> u64;
         pub fn dairyepoch_make_store(
-            timetable: *const u16,
-            timetable_len: usize,
-            lines: *const u16,
-            lines_len: usize,
-            work: *mut u32,
-            work_len: usize,
-            source: u32,
-            store: *mut u16,
-            store_len: usize,
+            timetable: *const u16, timetable_len: usize, lines: *const u16, lines_len: usize,
+            work: *mut u32, work_len: usize, source: u32, store: *mut u16, store_len: usize,
         ) -> u64;
         pub fn dairyepoch_query(
-            timetable: *const u16,
-            timetable_len: usize,
-            lines: *const u16,
-            lines_len: usize,
-            store: *const u16,
-            store_len: usize,
-            work: *mut u32,
-            work_len: usize,
-            from: u32,
-            to: u32,
-            minute: u32,
-            answer: *mut u32,
-            answer_len: usize,
+            timetable: *const u16, timetable_len: usize, lines: *const u16, lines_len: usize,
+            store: *const u16, store_len: usize, work: *mut u32, work_len: usize, from: u32, to: u32, minute: u32,
+            answer: *mut u32, answer_len: usize,
         ) -> u64;
     }
 }
@@ -93,6 +54,16 @@ impl Reply {
         Reply { number: (bits >> 32) as u32, beside: bits as u32 }
     }
 
+    /// A success with this count.
+    pub fn done(count: usize) -> Reply {
+        Reply { number: 0, beside: count as u32 }
+    }
+
+    /// The refusal of a call that has no line to tell of.
+    pub fn refused(number: u32) -> Reply {
+        Reply { number, beside: 0 }
+    }
+
     /// The piece of the line tables that `line_trips` tells of in the place of a count.
     pub fn piece(self) -> Range<usize> {
         let (start, count) = (self.beside as usize >> 16, self.beside as usize & 0xffff);
@@ -100,176 +71,144 @@ impl Reply {
     }
 }
 
-pub fn read(text: &[u8], timetable: &mut [u16]) -> Reply {
-    // SAFETY: the pointers and lengths are those of two slices, which cannot overlap.
-    let bits = unsafe { exported::dairyepoch_read(text.as_ptr(), text.len(), timetable.as_mut_ptr(), timetable.len()) };
-    Reply::from_bits(bits)
+/// What an exported call takes in the place of a slice: a pointer and a length, null and 0 where there is no slice.
+trait Parts {
+    type Pointer;
+    fn parts(self) -> (Self::Pointer, usize);
 }
 
-pub fn check_timetable(timetable: &[u16]) -> Reply {
-    // SAFETY: the pointer and the length are those of a slice.
-    let bits = unsafe { exported::dairyepoch_check_timetable(timetable.as_ptr(), timetable.len()) };
-    Reply::from_bits(bits)
+impl<W> Parts for Option<&[W]> {
+    type Pointer = *const W;
+    fn parts(self) -> (*const W, usize) {
+        self.map_or((null(), 0), |slice| (slice.as_ptr(), slice.len()))
+    }
+}
+
+impl<W> Parts for Option<&mut [W]> {
+    type Pointer = *mut W;
+    fn parts(self) -> (*mut W, usize) {
+        self.map_or((null_mut(), 0), |slice| (slice.as_mut_ptr(), slice.len()))
+    }
+}
+
+/// Makes an exported call: with slices, then with numbers, then with the slice of its result where that stands last.
+macro_rules! call {
+    ($call:ident, $($slice:ident),+; $($number:ident),*; $($result:ident)?) => {{
+        $(let $slice = $slice.parts();)+
+        $(let $result = $result.parts();)?
+        // SAFETY: each pointer and length are those of a slice, and one that is written overlaps no other; or there is
+        // no slice, so that nothing is read or written of it.
+        let bits = unsafe { exported::$call($($slice.0, $slice.1,)+ $($number,)* $($result.0, $result.1)?) };
+        Reply::from_bits(bits)
+    }};
+}
+
+pub fn read(text: &[u8], timetable: &mut [u16]) -> Reply {
+    read_of(Some(text), Some(timetable))
 }
 
 /// Reading with no text at all: a null pointer and length 0, as a host has it whose file did not open.
 pub fn read_nothing(timetable: &mut [u16]) -> Reply {
-    // SAFETY: the text has no byte, so that nothing is read of it; the other two are those of a slice.
-    let bits = unsafe { exported::dairyepoch_read(null(), 0, timetable.as_mut_ptr(), timetable.len()) };
-    Reply::from_bits(bits)
+    read_of(None, Some(timetable))
+}
+
+fn read_of(text: Option<&[u8]>, timetable: Option<&mut [u16]>) -> Reply {
+    call!(dairyepoch_read, text, timetable;;)
+}
+
+pub fn check_timetable(timetable: &[u16]) -> Reply {
+    let timetable = Some(timetable);
+    call!(dairyepoch_check_timetable, timetable;;)
 }
 
 pub fn build_lines(timetable: &[u16], lines: &mut [u16], work: &mut [u32]) -> Reply {
-    // SAFETY: the pointers and lengths are those of three slices, which cannot overlap.
-    let bits = unsafe {
-        exported::dairyepoch_build_lines(
-            timetable.as_ptr(),
-            timetable.len(),
-            lines.as_mut_ptr(),
-            lines.len(),
-            work.as_mut_ptr(),
-            work.len(),
-        )
-    };
-    Reply::from_bits(bits)
+    build_lines_of(Some(timetable), Some(lines), Some(work))
 }
 
 /// Building with nothing lent at all: null pointers and lengths 0.
 pub fn build_lines_of_nothing() -> Reply {
-    // SAFETY: no slice has a word, so that nothing is read or written.
-    let bits = unsafe { exported::dairyepoch_build_lines(null(), 0, null_mut(), 0, null_mut(), 0) };
-    Reply::from_bits(bits)
+    build_lines_of(None, None, None)
+}
+
+fn build_lines_of(timetable: Option<&[u16]>, lines: Option<&mut [u16]>, work: Option<&mut [u32]>) -> Reply {
+    call!(dairyepoch_build_lines, timetable, lines, work;;)
 }
 
 pub fn check_lines(timetable: &[u16], lines: &[u16], work: &mut [u32]) -> Reply {
-    // SAFETY: the pointers and lengths are those of three slices, and the one that is written overlaps no other.
-    let bits = unsafe {
-        exported::dairyepoch_check_lines(
-            timetable.as_ptr(),
-            timetable.len(),
-            lines.as_ptr(),
-            lines.len(),
-            work.as_mut_ptr(),
-            work.len(),
-        )
-    };
-    Reply::from_bits(bits)
+    check_lines_of(Some(timetable), Some(lines), Some(work))
+}
+
+fn check_lines_of(timetable: Option<&[u16]>, lines: Option<&[u16]>, work: Option<&mut [u32]>) -> Reply {
+    call!(dairyepoch_check_lines, timetable, lines, work;;)
 }
 
 pub fn check_lines_alone(lines: &[u16], work: &mut [u32]) -> Reply {
-    // SAFETY: the pointers and lengths are those of two slices, which cannot overlap.
-    let bits =
-        unsafe { exported::dairyepoch_check_lines_alone(lines.as_ptr(), lines.len(), work.as_mut_ptr(), work.len()) };
-    Reply::from_bits(bits)
+    check_lines_alone_of(Some(lines), Some(work))
+}
+
+fn check_lines_alone_of(lines: Option<&[u16]>, work: Option<&mut [u32]>) -> Reply {
+    call!(dairyepoch_check_lines_alone, lines, work;;)
 }
 
 pub fn line_trips(lines: &[u16], work: &mut [u32], line: u32) -> Reply {
-    // SAFETY: the pointers and lengths are those of two slices, which cannot overlap.
-    let bits =
-        unsafe { exported::dairyepoch_line_trips(lines.as_ptr(), lines.len(), work.as_mut_ptr(), work.len(), line) };
-    Reply::from_bits(bits)
+    line_trips_of(Some(lines), Some(work), line)
+}
+
+fn line_trips_of(lines: Option<&[u16]>, work: Option<&mut [u32]>, line: u32) -> Reply {
+    call!(dairyepoch_line_trips, lines, work; line;)
 }
 
 /// The three calls that ask about line tables, with nothing lent at all: null pointers and lengths 0.
 pub fn ask_lines_of_nothing() -> [Reply; 3] {
-    // SAFETY: no slice has a word, so that nothing is read or written.
-    let bits = unsafe {
-        [
-            exported::dairyepoch_check_lines(null(), 0, null(), 0, null_mut(), 0),
-            exported::dairyepoch_check_lines_alone(null(), 0, null_mut(), 0),
-            exported::dairyepoch_line_trips(null(), 0, null_mut(), 0, 1),
-        ]
-    };
-    bits.map(Reply::from_bits)
+    [check_lines_of(None, None, None), check_lines_alone_of(None, None), line_trips_of(None, None, 1)]
 }
 
 pub fn direct(timetable: &[u16], lines: &[u16], work: &mut [u32], query: Query, answer: &mut [u32]) -> Reply {
-    // SAFETY: the answer's pointer and length are those of a slice, which overlaps no other.
-    unsafe { direct_to(timetable, lines, work, query, answer.as_mut_ptr(), answer.len()) }
+    direct_of(Some(timetable), Some(lines), Some(work), query, Some(answer))
 }
 
 /// A direct query without an answer slice: a null pointer and length 0.
 pub fn direct_to_nothing(timetable: &[u16], lines: &[u16], work: &mut [u32], query: Query) -> Reply {
-    // SAFETY: the answer has no word, so that nothing is written of it.
-    unsafe { direct_to(timetable, lines, work, query, null_mut(), 0) }
-}
-
-/// # Safety
-///
-/// The answer's pointer must lead to as many words as its length says, which are in none of the slices.
-unsafe fn direct_to(
-    timetable: &[u16],
-    lines: &[u16],
-    work: &mut [u32],
-    Query { from, to, minute }: Query,
-    answer: *mut u32,
-    answer_len: usize,
-) -> Reply {
-    let bits = exported::dairyepoch_direct(
-        timetable.as_ptr(),
-        timetable.len(),
-        lines.as_ptr(),
-        lines.len(),
-        work.as_mut_ptr(),
-        work.len(),
-        from,
-        to,
-        minute,
-        answer,
-        answer_len,
-    );
-    Reply::from_bits(bits)
+    direct_of(Some(timetable), Some(lines), Some(work), query, None)
 }
 
 /// A direct query with nothing lent at all: null pointers and lengths 0.
-pub fn direct_of_nothing(Query { from, to, minute }: Query) -> Reply {
-    // SAFETY: no slice has a word, so that nothing is read or written.
-    let bits =
-        unsafe { exported::dairyepoch_direct(null(), 0, null(), 0, null_mut(), 0, from, to, minute, null_mut(), 0) };
-    Reply::from_bits(bits)
+pub fn direct_of_nothing(query: Query) -> Reply {
+    direct_of(None, None, None, query, None)
+}
+
+fn direct_of(
+    timetable: Option<&[u16]>,
+    lines: Option<&[u16]>,
+    work: Option<&mut [u32]>,
+    Query { from, to, minute }: Query,
+    answer: Option<&mut [u32]>,
+) -> Reply {
+    call!(dairyepoch_direct, timetable, lines, work; from, to, minute; answer)
 }
 
 pub fn make_store(timetable: &[u16], lines: &[u16], work: &mut [u32], source: u32, store: &mut [u16]) -> Reply {
-    // SAFETY: the store's pointer and length are those of a slice, which overlaps no other.
-    unsafe { make_store_in(timetable, lines, work, source, store.as_mut_ptr(), store.len()) }
+    make_store_of(Some(timetable), Some(lines), Some(work), source, Some(store))
 }
 
 /// A store call without a store slice: a null pointer and length 0.
 pub fn make_store_of_no_words(timetable: &[u16], lines: &[u16], work: &mut [u32], source: u32) -> Reply {
-    // SAFETY: the store has no word, so that nothing is written of it.
-    unsafe { make_store_in(timetable, lines, work, source, null_mut(), 0) }
-}
-
-/// # Safety
-///
-/// The store's pointer must lead to as many words as its length says, which are in none of the slices.
-unsafe fn make_store_in(
-    timetable: &[u16],
-    lines: &[u16],
-    work: &mut [u32],
-    source: u32,
-    store: *mut u16,
-    store_len: usize,
-) -> Reply {
-    let bits = exported::dairyepoch_make_store(
-        timetable.as_ptr(),
-        timetable.len(),
-        lines.as_ptr(),
-        lines.len(),
-        work.as_mut_ptr(),
-        work.len(),
-        source,
-        store,
-        store_len,
-    );
-    Reply::from_bits(bits)
+    make_store_of(Some(timetable), Some(lines), Some(work), source, None)
 }
 
 /// A store call with nothing lent at all: null pointers and lengths 0.
 pub fn make_store_of_nothing(source: u32) -> Reply {
-    // SAFETY: no slice has a word, so that nothing is read or written.
-    let bits = unsafe { exported::dairyepoch_make_store(null(), 0, null(), 0, null_mut(), 0, source, null_mut(), 0) };
-    Reply::from_bits(bits)
+    make_store_of(None, None, None, source, None)
+}
+
+fn make_store_of(
+    timetable: Option<&[u16]>,
+    lines: Option<&[u16]>,
+    work: Option<&mut [u32]>,
+    source: u32,
+    store: Option<&mut [u16]>,
+) -> Reply {
+    call!(dairyepoch_make_store, timetable, lines, work; source; store)
 }
 
 /// What a query is lent for reading.
@@ -280,68 +219,26 @@ pub struct Tables<'a> {
     pub store: &'a [u16],
 }
 
-pub fn query(tables: Tables, work: &mut [u32], query: Query, answer: &mut [u32]) -> Reply {
-    // SAFETY: the answer's pointer and length are those of a slice, which overlaps no other.
-    unsafe { query_to(tables, work, query, answer.as_mut_ptr(), answer.len()) }
+pub fn query(Tables { timetable, lines, store }: Tables, work: &mut [u32], query: Query, answer: &mut [u32]) -> Reply {
+    query_of([Some(timetable), Some(lines), Some(store)], Some(work), query, Some(answer))
 }
 
 /// A query without an answer slice: a null pointer and length 0.
-pub fn query_to_nothing(tables: Tables, work: &mut [u32], query: Query) -> Reply {
-    // SAFETY: the answer has no word, so that nothing is written of it.
-    unsafe { query_to(tables, work, query, null_mut(), 0) }
-}
-
-/// # Safety
-///
-/// The answer's pointer must lead to as many words as its length says, which are in none of the slices.
-unsafe fn query_to(
-    Tables { timetable, lines, store }: Tables,
-    work: &mut [u32],
-    Query { from, to, minute }: Query,
-    answer: *mut u32,
-    answer_len: usize,
-) -> Reply {
-    let bits = exported::dairyepoch_query(
-        timetable.as_ptr(),
-        timetable.len(),
-        lines.as_ptr(),
-        lines.len(),
-        store.as_ptr(),
-        store.len(),
-        work.as_mut_ptr(),
-        work.len(),
-        from,
-        to,
-        minute,
-        answer,
-        answer_len,
-    );
-    Reply::from_bits(bits)
+pub fn query_to_nothing(Tables { timetable, lines, store }: Tables, work: &mut [u32], query: Query) -> Reply {
+    query_of([Some(timetable), Some(lines), Some(store)], Some(work), query, None)
 }
 
 /// A query with no store, or with nothing lent at all: null pointers and lengths 0.
 pub fn query_of_no_store(timetable: &[u16], lines: &[u16], work: &mut [u32], query: Query) -> [Reply; 2] {
-    let Query { from, to, minute } = query;
-    // SAFETY: the slices that have no word are neither read nor written.
-    let bits = unsafe {
-        [
-            exported::dairyepoch_query(
-                timetable.as_ptr(),
-                timetable.len(),
-                lines.as_ptr(),
-                lines.len(),
-                null(),
-                0,
-                work.as_mut_ptr(),
-                work.len(),
-                from,
-                to,
-                minute,
-                null_mut(),
-                0,
-            ),
-            exported::dairyepoch_query(null(), 0, null(), 0, null(), 0, null_mut(), 0, from, to, minute, null_mut(), 0),
-        ]
-    };
-    bits.map(Reply::from_bits)
+    let without_store = query_of([Some(timetable), Some(lines), None], Some(work), query, None);
+    [without_store, query_of([None; 3], None, query, None)]
+}
+
+fn query_of(
+    [timetable, lines, store]: [Option<&[u16]>; 3],
+    work: Option<&mut [u32]>,
+    Query { from, to, minute }: Query,
+    answer: Option<&mut [u32]>,
+) -> Reply {
+    call!(dairyepoch_query, timetable, lines, store, work; from, to, minute; answer)
 }

@@ -275,6 +275,22 @@ pub fn every_trip(stations: u16, stops: usize, last: u16) -> Vec<Vec<Stop>> {
     trips
 }
 
+/// Every timetable of these stations and so many trips, each one of these.
+pub fn every_timetable<'a>(
+    stations: &'a [Station],
+    trips: &'a [Vec<Stop>],
+    count: usize,
+) -> impl Iterator<Item = Timetable> + 'a {
+    (0..trips.len().pow(count as u32)).map(move |mut choice| {
+        let mut chosen = Vec::new();
+        for _ in 0..count {
+            chosen.push(trips[choice % trips.len()].clone());
+            choice /= trips.len();
+        }
+        Timetable { stations: stations.to_vec(), trips: chosen }
+    })
+}
+
 /// Station and ride penalty of each stop; the last penalty is none of a ride's.
 type Way = Vec<(usize, u16)>;
 

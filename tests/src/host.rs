@@ -283,6 +283,13 @@ pub fn lent(mut table: Vec<u16>, random: &mut Random) -> Vec<u16> {
     table
 }
 
+/// The words in a slice of a greater length, with any words behind them.
+pub fn longer(words: &[u16], length: usize, random: &mut Random) -> Vec<u16> {
+    let mut longer = words.to_vec();
+    longer.resize_with(length, || random.word());
+    longer
+}
+
 /// How many words a table has, by its first three.
 fn table_length(words: &[u16]) -> usize {
     let [stations, trips, stops] = [0, 1, 2].map(|at| usize::from(words[at]));

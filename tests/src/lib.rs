@@ -2,7 +2,8 @@
 //! reader written from document 01 alone.
 //!
 //! A further call needs three things: its declaration and a safe wrapper in [`ffi`], what it must answer in a module
-//! like [`reference`], put together in [`expected`], and a method of [`host::Host`] that compares the two.
+//! like [`reference`], put together in [`expected`], and a method of [`host::Host`] that compares the two. What the
+//! tests of several calls have in common is in [`lent`] and [`handmade`].
 
 pub mod connections;
 pub mod damage;
@@ -12,7 +13,9 @@ pub mod expected;
 pub mod ffi;
 pub mod following;
 pub mod generate;
+pub mod handmade;
 pub mod host;
+pub mod lent;
 pub mod lines;
 pub mod random;
 pub mod reference;

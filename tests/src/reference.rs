@@ -29,6 +29,11 @@ pub fn read(text: &[u8]) -> Result<Timetable, Refusal> {
     }
 }
 
+/// The timetable of a text that is accepted.
+pub fn accepted(text: &str) -> Timetable {
+    read(text.as_bytes()).expect("a text that is accepted")
+}
+
 enum Line {
     Station { number: u16, station: Station },
     Stop { trip: u16, number: u16, stop: Stop },

@@ -99,7 +99,7 @@ mod tests {
 
     #[test]
     fn the_pieces_of_m() {
-        let m = reference::read(M.as_bytes()).expect("M is accepted");
+        let m = reference::accepted(M);
         assert_eq!([0, 1, 2, 3].map(|line| piece(&m, line)), [None, Some(8..9), Some(23..25), None]);
     }
 }

@@ -4,36 +4,17 @@ use dairyepoch_tests::direct::{self, Query, Ride, ROW_WORDS};
 use dairyepoch_tests::examples::M;
 use dairyepoch_tests::ffi::{self, Reply};
 use dairyepoch_tests::generate::{
-    crowded, every_trip, largest, long_lines, most_rows, overtaking, timetable, with_shared_ways, with_trips, Size,
-    CROWDED, DIRECT_ROWS_MOST, LARGE, MIDDLING, SMALL,
+    crowded, every_timetable, every_trip, largest, long_lines, most_rows, overtaking, timetable, with_shared_ways,
+    with_trips, Size, CROWDED, DIRECT_ROWS_MOST, LARGE, MIDDLING, SMALL,
 };
-use dairyepoch_tests::host::{lent, Host, ANSWER_WORDS};
-use dairyepoch_tests::lines::{self, lines, LINE_WORDS, WORK_WORDS};
+use dairyepoch_tests::handmade::{self, hop, text_of_hops, Hop, Numbers};
+use dairyepoch_tests::host::{Host, ANSWER_WORDS};
+use dairyepoch_tests::lent::{
+    lend_any_words, noes, queries_of_wrong_stations, replies_to_tampered, Lent, LONGER_LENGTHS,
+};
+use dairyepoch_tests::lines::{lines, WORK_WORDS};
 use dairyepoch_tests::random::Random;
-use dairyepoch_tests::reference;
-use dairyepoch_tests::timetable::{Onward, Station, Stop, Timetable, LAST_MINUTE};
-use dairyepoch_tests::words::{to_words, TIMETABLE_WORDS};
-
-/// A timetable's words and line tables as they are lent.
-struct Lent {
-    timetable: Vec<u16>,
-    lines: Vec<u16>,
-}
-
-impl Lent {
-    fn new(timetable: &Timetable, random: &mut Random) -> Lent {
-        Lent { timetable: lent(to_words(timetable), random), lines: lent(lines::to_words(timetable), random) }
-    }
-
-    fn text(text: &str) -> Lent {
-        let timetable = reference::read(text.as_bytes()).expect("a text that is accepted");
-        Lent::new(&timetable, &mut Random::new(0))
-    }
-
-    fn ask(&self, host: &mut Host, query: Query) -> Reply {
-        host.direct(&self.timetable, &self.lines, query)
-    }
-}
+use dairyepoch_tests::timetable::{Station, Stop, Timetable, LAST_MINUTE};
 
 /// The rows of a text's direct query, or the number of its refusal; they are also the reference's.
 fn rows(text: &str, from: u32, to: u32, minute: u32) -> Result<Vec<[u32; ROW_WORDS]>, u32> {
@@ -41,7 +22,7 @@ fn rows(text: &str, from: u32, to: u32, minute: u32) -> Result<Vec<[u32; ROW_WOR
     let query = Query { from, to, minute };
     let mut answer = vec![0xabcd_abcd; ANSWER_WORDS];
     let reply = ffi::direct(&lent.timetable, &lent.lines, &mut vec![0; WORK_WORDS], query, &mut answer);
-    assert_eq!(lent.ask(&mut Host::new(1), query), reply);
+    assert_eq!(lent.direct(&mut Host::new(1), query), reply);
     let (rows, rest) = answer.split_at(ROW_WORDS * reply.beside as usize);
     assert!(rest.iter().all(|&word| word == 0xabcd_abcd), "a word past the rows was written");
     if reply.number == 0 {
@@ -51,25 +32,15 @@ fn rows(text: &str, from: u32, to: u32, minute: u32) -> Result<Vec<[u32; ROW_WOR
     }
 }
 
-/// A text of so many stations, and of trips by station, arrival, departure and ride penalty of each stop.
-fn text(stations: usize, trips: &[&[(u16, u16, u16, u16)]]) -> String {
-    let stop = |stops: &[(u16, u16, u16, u16)], place: usize| {
-        let (station, arrive, depart, penalty) = stops[place];
-        Stop {
-            station,
-            arrive: (place > 0).then_some(arrive),
-            onward: (place + 1 < stops.len()).then_some(Onward { depart, penalty }),
-        }
-    };
-    let trips = trips.iter().map(|stops| (0..stops.len()).map(|place| stop(stops, place)).collect()).collect();
-    Timetable { stations: vec![Station { change_minutes: 0, change_penalty: 1 }; stations], trips }.to_string()
+/// A text of so many stations, whose changes do not matter to a direct ride, and of these trips.
+fn text(stations: usize, trips: &[&[Numbers]]) -> String {
+    handmade::text(&vec![(0, 1); stations], trips)
 }
 
 /// Trips from station 1 to 2, by departure, arrival and penalty.
 fn shuttles(trips: &[(u16, u16, u16)]) -> String {
-    let trips: Vec<_> =
-        trips.iter().map(|&(depart, arrive, penalty)| [(1, 0, depart, penalty), (2, arrive, 0, 0)]).collect();
-    text(2, &trips.iter().map(|trip| &trip[..]).collect::<Vec<_>>())
+    let hops: Vec<Hop> = trips.iter().map(|&(depart, arrive, penalty)| hop(1, 2, depart, arrive, penalty)).collect();
+    text_of_hops(&[(0, 1); 2], &hops)
 }
 
 #[test]
@@ -127,12 +98,11 @@ fn costs_are_compared_part_by_part() {
 
 #[test]
 fn penalties_of_every_stop_ridden_from_add_up() {
-    let way: Vec<(u16, u16, u16, u16)> =
-        (0..30).map(|place| (place % 3 + 1, 10 * place, 10 * place + 5, 100)).collect();
+    let way: Vec<Numbers> = (0..30).map(|place| (place % 3 + 1, 10 * place, 10 * place + 5, 100)).collect();
     let text = text(3, &[&way]);
     assert_eq!(rows(&text, 1, 2, 0), Ok(vec![[10, 100, 1, 1, 1, 2]]));
     assert_eq!(rows(&text, 1, 3, 36), Ok(vec![[80 - 36, 200, 1, 1, 7, 9]]));
-    let straight: Vec<(u16, u16, u16, u16)> = (0..64).map(|place| (place + 1, place, place, 100)).collect();
+    let straight: Vec<Numbers> = (0..64).map(|place| (place + 1, place, place, 100)).collect();
     let text = self::text(64, &[&straight]);
     assert_eq!(rows(&text, 1, 64, 0), Ok(vec![[63, 6_300, 1, 1, 1, 64]]));
     assert_eq!(rows(&text, 2, 63, 0), Ok(vec![[62, 6_100, 1, 1, 2, 63]]));
@@ -281,13 +251,13 @@ fn all_queries(host: &mut Host, timetable: &Timetable, met: &mut Met, random: &m
         for &minute in &minutes {
             let query = Query { from, to, minute };
             met.note(timetable, &lines, query);
-            let reply = lent.ask(host, query);
+            let reply = lent.direct(host, query);
             if reply.number == 0 && random.one_in(8) {
                 lengths_around(host, &lent, query, reply.beside);
             }
         }
         for minute in [2_880, 0x1_0000, 0x8000_0000, u32::MAX] {
-            assert_eq!(lent.ask(host, Query { from, to, minute }), Reply { number: 12, beside: 0 });
+            assert_eq!(lent.direct(host, Query { from, to, minute }), Reply::refused(12));
         }
     }
 }
@@ -344,7 +314,7 @@ fn some_queries(host: &mut Host, timetable: &Timetable, count: usize, random: &m
     for _ in 0..count {
         let [from, to] = [0, 1].map(|_| random.pick(&stops).station.into());
         let minute = if random.one_in(2) { random.pick(&minutes) } else { 0 };
-        rows += lent.ask(host, Query { from, to, minute }).beside as usize;
+        rows += lent.direct(host, Query { from, to, minute }).beside as usize;
     }
     rows
 }
@@ -375,10 +345,10 @@ fn queries_of_the_largest_timetables() {
     }
     let one_line = Lent::new(&long_lines(), &mut random);
     let query = Query { from: 61, to: 62, minute: 0 };
-    assert_eq!(one_line.ask(&mut host, query), Reply { number: 14, beside: 0 });
+    assert_eq!(one_line.direct(&mut host, query), Reply::refused(14));
     let lines_of_one_trip = Lent::new(&overtaking(), &mut random);
     let query = Query { from: 1, to: 64, minute: 0 };
-    assert_eq!(lines_of_one_trip.ask(&mut host, query), Reply { number: 0, beside: 1 });
+    assert_eq!(lines_of_one_trip.direct(&mut host, query), Reply::done(1));
 }
 
 #[test]
@@ -386,31 +356,26 @@ fn the_most_rows() {
     let mut host = Host::new(12);
     let lent = Lent::new(&most_rows(), &mut Random::new(13));
     let query = Query { from: 1, to: 2, minute: 0 };
-    assert_eq!(lent.ask(&mut host, query), Reply { number: 0, beside: DIRECT_ROWS_MOST });
+    assert_eq!(lent.direct(&mut host, query), Reply { number: 0, beside: DIRECT_ROWS_MOST });
     lengths_around(&mut host, &lent, query, DIRECT_ROWS_MOST);
     for minute in [1_800, 1_900, 2_000, 2_042, 2_043, 2_044] {
-        lent.ask(&mut host, Query { minute, ..query });
-        lent.ask(&mut host, Query { from: 2, to: 1, minute });
-        lent.ask(&mut host, Query { from: 3, to: 4, minute });
+        lent.direct(&mut host, Query { minute, ..query });
+        lent.direct(&mut host, Query { from: 2, to: 1, minute });
+        lent.direct(&mut host, Query { from: 3, to: 4, minute });
     }
 }
 
 /// Asks the pairs at minutes 0 to `last` of every timetable of so many trips, each one of these.
-fn every_timetable(stations: usize, trips: &[Vec<Stop>], count: usize, pairs: &[(u32, u32)], last: u32) {
+fn ask_every(stations: usize, trips: &[Vec<Stop>], count: usize, pairs: &[(u32, u32)], last: u32) {
     let mut host = Host::new(14);
     let mut random = Random::new(15);
     let mut rows = 0;
-    for mut choice in 0..trips.len().pow(count as u32) {
-        let mut chosen = Vec::new();
-        for _ in 0..count {
-            chosen.push(trips[choice % trips.len()].clone());
-            choice /= trips.len();
-        }
-        let station = Station { change_minutes: 0, change_penalty: 1 };
-        let lent = Lent::new(&Timetable { stations: vec![station; stations], trips: chosen }, &mut random);
+    let stations = vec![Station { change_minutes: 0, change_penalty: 1 }; stations];
+    for timetable in every_timetable(&stations, trips, count) {
+        let lent = Lent::new(&timetable, &mut random);
         for &(from, to) in pairs {
             for minute in 0..=last {
-                rows += lent.ask(&mut host, Query { from, to, minute }).beside;
+                rows += lent.direct(&mut host, Query { from, to, minute }).beside;
             }
         }
     }
@@ -421,27 +386,27 @@ fn every_timetable(stations: usize, trips: &[Vec<Stop>], count: usize, pairs: &[
 fn every_timetable_of_two_stations_and_two_trips() {
     let trips = [every_trip(2, 2, 3), every_trip(2, 3, 3)].concat();
     assert_eq!(trips.len(), 2 * 6 * 2 + 2 * 5 * 4);
-    every_timetable(2, &trips, 2, &[(1, 2), (2, 1)], 3);
+    ask_every(2, &trips, 2, &[(1, 2), (2, 1)], 3);
 }
 
 #[test]
 fn every_timetable_of_three_stations_and_two_trips() {
     let trips = [every_trip(3, 2, 2), every_trip(3, 3, 2)].concat();
     assert_eq!(trips.len(), 6 * 3 * 2 + 12 * 4);
-    every_timetable(3, &trips, 2, &[(1, 2), (3, 1)], 1);
+    ask_every(3, &trips, 2, &[(1, 2), (3, 1)], 1);
 }
 
 #[test]
 fn every_timetable_of_two_stations_and_three_trips() {
     let trips = every_trip(2, 2, 2);
     assert_eq!(trips.len(), 2 * 3 * 2);
-    every_timetable(2, &trips, 3, &[(1, 2)], 2);
+    ask_every(2, &trips, 3, &[(1, 2)], 2);
 }
 
 #[test]
 fn every_timetable_of_one_trip_with_a_loop() {
     let trips = [every_trip(2, 4, 4), every_trip(3, 4, 4), every_trip(2, 5, 4)].concat();
-    every_timetable(3, &trips, 1, &[(1, 2), (2, 3)], 2);
+    ask_every(3, &trips, 1, &[(1, 2), (2, 3)], 2);
 }
 
 #[test]
@@ -452,15 +417,8 @@ fn stations_that_are_not_there_or_equal_give_11() {
     timetables.extend((0..200).map(|_| crowded(&mut random, &CROWDED)));
     for timetable in timetables {
         let lent = Lent::new(&timetable, &mut random);
-        let stations = timetable.stations.len() as u32;
-        let wrong = [0, stations + 1, 0xffff, 0x1_0000, 0x1_0001, 0x8000_0000, u32::MAX];
-        let there = random.within(1..=stations as usize) as u32;
-        let twos =
-            wrong.iter().flat_map(|&wrong| [(wrong, there), (there, wrong), (wrong, wrong)]).chain([(there, there)]);
-        for (from, to) in twos {
-            for minute in [0, 2_879, 2_880, u32::MAX] {
-                assert_eq!(lent.ask(&mut host, Query { from, to, minute }), Reply { number: 11, beside: 0 });
-            }
+        for query in queries_of_wrong_stations(&mut random, timetable.stations.len()) {
+            assert_eq!(lent.direct(&mut host, query), Reply::refused(11));
         }
     }
 }
@@ -469,17 +427,9 @@ fn stations_that_are_not_there_or_equal_give_11() {
 fn the_first_no_ends_it() {
     let mut random = Random::new(18);
     let good = Lent::text(M);
-    let mut damaged = good.timetable.clone();
-    damaged[4] = 0; // change penalty 0
-    let mut tampered = good.lines.clone();
-    tampered[50] += 1;
-    for noes in 0..1 << 7 {
-        let [slice, timetable, lines, station, minute, none, room] =
-            [0, 1, 2, 3, 4, 5, 6].map(|no| noes >> no & 1 == 1);
-        let numbers = [(slice, 8), (timetable, 9), (lines, 10), (station, 11), (minute, 12), (none, 14), (room, 15)];
-        let number = numbers.iter().find(|(no, _)| *no).map_or(0, |&(_, number)| number);
-        let timetable = if timetable { &damaged } else { &good.timetable };
-        let lines = if lines { &tampered } else { &good.lines };
+    for ([slice, timetable, lines, station, minute, none, room], number) in noes([8, 9, 10, 11, 12, 14, 15]) {
+        let shorts = if slice { &[0, 1, 51, 16_383][..] } else { &[] };
+        let lent = good.with_noes(timetable, lines);
         let (from, to) = if none { (3, 1) } else { (2, 3) };
         let queries = match station {
             true => vec![(0, to), (from, 0), (4, to), (from, 4), (from, from), (u32::MAX, to), (from, u32::MAX)],
@@ -489,21 +439,12 @@ fn the_first_no_ends_it() {
         for (from, to) in queries {
             let minute = if minute { random.pick(&[2_880, 2_881, 65_536, u32::MAX]) } else { 501 };
             let query = Query { from, to, minute };
-            let ask = |host: &mut Host, timetable: &[u16], lines: &[u16]| {
+            lent.lend(shorts, 19, |host, timetable, lines| {
                 for &length in lengths {
                     let reply = host.direct_to(timetable, lines, query, length);
                     assert_eq!(reply, Reply { number, beside: u32::from(number == 0) }, "{query:?}");
                 }
-            };
-            if slice {
-                for short in [0, 1, 51, 16_383] {
-                    ask(&mut Host::new(19), &timetable[..short], lines);
-                    ask(&mut Host::new(20), timetable, &lines[..short]);
-                    ask(&mut Host::lending_both(0, short, 21), timetable, lines);
-                }
-            } else {
-                ask(&mut Host::new(22), timetable, lines);
-            }
+            });
         }
     }
 }
@@ -515,8 +456,8 @@ fn slices_that_are_not_there() {
     for (from, to, minute, number) in [(2, 3, 501, 15), (3, 1, 501, 14), (2, 3, 2_880, 12), (2, 2, 501, 11)] {
         let query = Query { from, to, minute };
         let reply = ffi::direct_to_nothing(&lent.timetable, &lent.lines, &mut work, query);
-        assert_eq!(reply, Reply { number, beside: 0 });
-        assert_eq!(ffi::direct_of_nothing(query), Reply { number: 8, beside: 0 });
+        assert_eq!(reply, Reply::refused(number));
+        assert_eq!(ffi::direct_of_nothing(query), Reply::refused(8));
     }
 }
 
@@ -525,17 +466,13 @@ fn slices_of_16384_words_or_more_are_long_enough() {
     let mut random = Random::new(23);
     let lent = Lent::new(&overtaking(), &mut random);
     let query = Query { from: 1, to: 64, minute: 0 };
-    for length in [16_385, 65_535, 65_536, 65_537, 2 * 65_536] {
-        let [words, tables] = [&lent.timetable, &lent.lines].map(|words| {
-            let mut longer = words.clone();
-            longer.resize_with(length, || random.word());
-            longer
-        });
+    for length in LONGER_LENGTHS {
+        let longer = lent.longer(length, &mut random);
         let mut host = Host::lending_both(0, length, 24);
-        assert_eq!(host.direct(&words, &tables, query).number, 0);
-        assert_eq!(Host::new(24).direct(&words, &lent.lines, query).number, 0);
-        assert_eq!(Host::new(24).direct(&lent.timetable, &tables, query).number, 0);
-        assert_eq!(host.direct(&lent.timetable, &lent.lines, query).number, 0);
+        assert_eq!(longer.direct(&mut host, query).number, 0);
+        assert_eq!(Host::new(24).direct(&longer.timetable, &lent.lines, query).number, 0);
+        assert_eq!(Host::new(24).direct(&lent.timetable, &longer.lines, query).number, 0);
+        assert_eq!(lent.direct(&mut host, query).number, 0);
     }
 }
 
@@ -554,49 +491,22 @@ fn tables_of_another_timetable_give_10() {
 
 #[test]
 fn words_of_either_table_tampered_with() {
-    let mut host = Host::new(27);
-    let mut random = Random::new(28);
-    let mut tally = [0; 16];
-    for _ in 0..4_000 {
-        let timetable = crowded(&mut random, &CROWDED);
-        let mut lent = Lent::new(&timetable, &mut random);
-        let (words, length) = match random.below(2) {
-            0 => (&mut lent.timetable, to_words(&timetable).len()),
-            _ => (&mut lent.lines, lines::to_words(&timetable).len()),
-        };
-        let at = random.below(length);
-        words[at] = match random.below(4) {
-            0 => random.word(),
-            1 => words[at].wrapping_add(1),
-            2 => words[at].wrapping_sub(1),
-            _ => u16::MAX,
-        };
-        let query = Query { from: 1, to: 2, minute: random.below(3) as u32 };
-        tally[lent.ask(&mut host, query).number as usize] += 1;
-    }
+    let timetable = |random: &mut Random| crowded(random, &CROWDED);
+    let tally = replies_to_tampered(27, 4_000, timetable, |host, lent, random| {
+        lent.direct(host, Query { from: 1, to: 2, minute: random.below(3) as u32 })
+    });
     assert!(tally[9] > 500 && tally[10] > 1_500, "by reply number: {tally:?}");
 }
 
 #[test]
 fn slices_of_any_words() {
-    let mut host = Host::new(29);
-    let mut random = Random::new(30);
-    let good = Lent::text(M);
-    for _ in 0..300 {
-        let [words, tables] = [0, 1].map(|_| lent(Vec::new(), &mut random));
-        let query = Query { from: random.word().into(), to: random.word().into(), minute: random.bits() as u32 };
-        assert_eq!(host.direct(&words, &tables, query).number, 9);
-        assert_eq!(host.direct(&words, &good.lines, query).number, 9);
-        assert_eq!(host.direct(&good.timetable, &tables, query).number, 10);
-        assert_eq!(host.direct(&good.timetable, &vec![tables[0]; LINE_WORDS], query).number, 10);
-        assert_eq!(host.direct(&vec![words[0]; TIMETABLE_WORDS], &good.lines, query).number, 9);
-        good.ask(&mut host, query);
-    }
-    let ones = vec![u16::MAX; TIMETABLE_WORDS];
-    let query = Query { from: u32::MAX, to: u32::MAX, minute: u32::MAX };
-    assert_eq!(host.direct(&ones, &ones, query).number, 9);
-    assert_eq!(host.direct(&good.timetable, &ones, query).number, 10);
-    assert_eq!(host.direct(&good.timetable, &good.lines, query).number, 11);
+    let anything = |random: &mut Random| Query {
+        from: random.word().into(),
+        to: random.word().into(),
+        minute: random.bits() as u32,
+    };
+    let not_there = Query { from: u32::MAX, to: u32::MAX, minute: u32::MAX };
+    lend_any_words(29, 300, anything, not_there, Host::direct);
 }
 
 #[test]
@@ -606,12 +516,10 @@ fn what_reading_and_building_wrote_is_taken() {
     for size in [SMALL, MIDDLING, LARGE] {
         for _ in 0..20 {
             let timetable = with_shared_ways(&mut random, &size);
-            let [mut words, mut tables] = [0, 1].map(|_| lent(Vec::new(), &mut random));
-            assert_eq!(ffi::read(&timetable.to_text(), &mut words).number, 0);
-            assert_eq!(ffi::build_lines(&words, &mut tables, &mut vec![0; WORK_WORDS]).number, 0);
+            let written = Lent::written(&timetable, &mut vec![0; WORK_WORDS], &mut random);
             let minutes = minutes(&timetable);
             for (from, to) in pairs(timetable.stations.len().min(3)) {
-                let reply = host.direct(&words, &tables, Query { from, to, minute: random.pick(&minutes) });
+                let reply = written.direct(&mut host, Query { from, to, minute: random.pick(&minutes) });
                 assert!([0, 14].contains(&reply.number), "{reply:?}");
             }
         }

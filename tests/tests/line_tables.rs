@@ -5,10 +5,11 @@ use dairyepoch_tests::ffi::{self, Reply};
 use dairyepoch_tests::generate::{
     largest, long_lines, overtaking, timetable, with_shared_ways, with_trips, Size, LARGE, MIDDLING, SMALL,
 };
-use dairyepoch_tests::host::Host;
+use dairyepoch_tests::host::{self, longer, Host};
+use dairyepoch_tests::lent::damaged;
 use dairyepoch_tests::lines::{lines, same_way, LINE_WORDS, LINE_WORDS_MOST, WORK_WORDS};
 use dairyepoch_tests::random::Random;
-use dairyepoch_tests::reference;
+use dairyepoch_tests::reference::accepted;
 use dairyepoch_tests::timetable::Timetable;
 use dairyepoch_tests::words::{to_words, TIMETABLE_WORDS};
 
@@ -26,13 +27,11 @@ const M_LINES: [u16; 51] = [
 
 /// The timetable's words in a slice of the least length, with any words behind them.
 fn lent(timetable: &Timetable, random: &mut Random) -> Vec<u16> {
-    let mut words = to_words(timetable);
-    words.resize_with(TIMETABLE_WORDS, || random.word());
-    words
+    host::lent(to_words(timetable), random)
 }
 
 fn lent_text(text: &str) -> Vec<u16> {
-    lent(&reference::read(text.as_bytes()).expect("a text that is accepted"), &mut Random::new(0))
+    lent(&accepted(text), &mut Random::new(0))
 }
 
 /// What is built of the words, as far as docs/LAYOUT.md says that it goes; it must be a success.
@@ -323,19 +322,11 @@ fn one_trip_of_all_stops() {
     }
 }
 
-/// The words of a timetable with one that no text leads to: station 1 has change penalty 0.
-fn damaged(mut words: Vec<u16>) -> Vec<u16> {
-    words[4] = 0;
-    words
-}
-
 #[test]
 fn a_slice_too_short_gives_8_before_9() {
     let mut random = Random::new(15);
-    let whole: Vec<Vec<u16>> = [reference::read(M.as_bytes()).expect("M is accepted"), overtaking(), long_lines()]
-        .iter()
-        .map(|timetable| lent(timetable, &mut random))
-        .collect();
+    let whole: Vec<Vec<u16>> =
+        [accepted(M), overtaking(), long_lines()].iter().map(|timetable| lent(timetable, &mut random)).collect();
     const ENOUGH: usize = 16_384;
     for words in &whole {
         for words in [words.clone(), damaged(words.clone())] {
@@ -348,7 +339,7 @@ fn a_slice_too_short_gives_8_before_9() {
         }
         Host::new(20).expect_lines(&damaged(words.clone()), 9, 0);
     }
-    assert_eq!(ffi::build_lines_of_nothing(), Reply { number: 8, beside: 0 });
+    assert_eq!(ffi::build_lines_of_nothing(), Reply::refused(8));
 }
 
 #[test]
@@ -356,8 +347,7 @@ fn slices_of_16384_words_or_more_are_long_enough() {
     let mut random = Random::new(21);
     let words = lent(&overtaking(), &mut random);
     for length in [16_384, 16_385, 20_000, 65_535, 65_536, 65_537, 2 * 65_536] {
-        let mut longer = words.clone();
-        longer.resize_with(length, || random.word());
+        let longer = longer(&words, length, &mut random);
         for (timetable, length, work_length) in
             [(&longer, 16_384, 16_384), (&words, length, 16_384), (&words, 16_384, length), (&longer, length, length)]
         {
@@ -372,7 +362,7 @@ fn slices_of_16384_words_or_more_are_long_enough() {
 fn words_past_the_timetable_do_not_count() {
     let mut host = Host::new(23);
     for behind in [0, 1, 2_880, 0xffff] {
-        let mut words = to_words(&reference::read(M.as_bytes()).expect("M is accepted"));
+        let mut words = to_words(&accepted(M));
         words.resize(TIMETABLE_WORDS, behind);
         host.expect_lines(&words, 0, 2);
         assert_eq!(built(&words), M_LINES);

@@ -8,16 +8,8 @@ use dairyepoch_tests::generate::{
 use dairyepoch_tests::host::{lent, Host};
 use dairyepoch_tests::lines::{self, lines};
 use dairyepoch_tests::random::Random;
-use dairyepoch_tests::reference;
+use dairyepoch_tests::reference::accepted;
 use dairyepoch_tests::timetable::Timetable;
-
-fn m() -> Timetable {
-    reference::read(M.as_bytes()).expect("M is accepted")
-}
-
-fn refused(number: u32) -> Reply {
-    Reply { number, beside: 0 }
-}
 
 /// Asks for each line of a timetable: its piece holds the numbers of its trips. Asks for lines that are not there.
 fn pieces(host: &mut Host, timetable: &Timetable, random: &mut Random) {
@@ -30,28 +22,28 @@ fn pieces(host: &mut Host, timetable: &Timetable, random: &mut Random) {
     }
     let next = lines.len() as u32 + 1;
     for number in [0, next, next + 1, 0x8000, 0x1_0000, 0x1_0001, 0x8000_0000, u32::MAX - 1, u32::MAX] {
-        assert_eq!(host.line_trips(&tables, number), refused(11), "line {number} of\n{timetable}");
+        assert_eq!(host.line_trips(&tables, number), Reply::refused(11), "line {number} of\n{timetable}");
     }
 }
 
 #[test]
 fn case_e_the_lines_of_m() {
-    let tables = lent(lines::to_words(&m()), &mut Random::new(1));
+    let tables = lent(lines::to_words(&accepted(M)), &mut Random::new(1));
     let mut host = Host::new(2);
     assert_eq!(host.line_trips(&tables, 1), Reply { number: 0, beside: 8 * 65_536 + 1 });
     assert_eq!(host.line_trips(&tables, 2), Reply { number: 0, beside: 23 * 65_536 + 2 });
     assert_eq!((tables[8], &tables[23..25]), (1, &[3, 2][..]));
-    assert_eq!([0, 3].map(|line| host.line_trips(&tables, line)), [refused(11); 2]);
+    assert_eq!([0, 3].map(|line| host.line_trips(&tables, line)), [Reply::refused(11); 2]);
 }
 
 #[test]
 fn case_f_three_lines() {
-    let overtaken = reference::read(M.replace("520", "514").as_bytes()).expect("a text that is accepted");
+    let overtaken = accepted(&M.replace("520", "514"));
     let tables = lent(lines::to_words(&overtaken), &mut Random::new(3));
     let mut host = Host::new(4);
     let trips = [1, 2, 3].map(|line| tables[host.line_trips(&tables, line).piece()].to_vec());
     assert_eq!(trips, [[1], [3], [2]]);
-    assert_eq!(host.line_trips(&tables, 4), refused(11));
+    assert_eq!(host.line_trips(&tables, 4), Reply::refused(11));
 }
 
 #[test]
@@ -129,25 +121,25 @@ fn random_words_give_10() {
     for _ in 0..200 {
         let tables = lent(Vec::new(), &mut random);
         for line in [0, 1, u32::from(tables[1]), u32::MAX] {
-            assert_eq!(host.line_trips(&tables, line), refused(10));
+            assert_eq!(host.line_trips(&tables, line), Reply::refused(10));
         }
-        assert_eq!(host.line_trips(&vec![tables[0]; 16_384], 1), refused(10));
+        assert_eq!(host.line_trips(&vec![tables[0]; 16_384], 1), Reply::refused(10));
     }
 }
 
 #[test]
 fn a_slice_too_short_gives_8_before_10_and_11() {
     let mut random = Random::new(15);
-    for timetable in [m(), overtaking()] {
+    for timetable in [accepted(M), overtaking()] {
         let tables = lent(lines::to_words(&timetable), &mut random);
         let mut wrong = tables.clone();
         wrong[1] += 1;
         for tables in [&tables, &wrong] {
             for line in [0, 1, 2, 257, u32::MAX] {
                 for short in [0, 1, 4, 51, 13_381, 16_383] {
-                    assert_eq!(Host::new(16).line_trips(&tables[..short], line), refused(8));
-                    assert_eq!(Host::lending_both(0, short, 17).line_trips(tables, line), refused(8));
-                    assert_eq!(Host::lending_both(0, short, 18).line_trips(&tables[..short], line), refused(8));
+                    assert_eq!(Host::new(16).line_trips(&tables[..short], line), Reply::refused(8));
+                    assert_eq!(Host::lending_both(0, short, 17).line_trips(tables, line), Reply::refused(8));
+                    assert_eq!(Host::lending_both(0, short, 18).line_trips(&tables[..short], line), Reply::refused(8));
                 }
             }
         }
@@ -166,7 +158,7 @@ fn slices_of_16384_words_or_more_are_long_enough() {
                 let reply = host.line_trips(&tables, line);
                 assert_eq!((reply.number, &tables[reply.piece()]), (0, &[line as u16][..]));
             }
-            assert_eq!(host.line_trips(&tables, 257), refused(11));
+            assert_eq!(host.line_trips(&tables, 257), Reply::refused(11));
         }
     }
 }

@@ -9,33 +9,38 @@ use dairyepoch_tests::expected;
 use dairyepoch_tests::ffi::{self, Reply, Tables};
 use dairyepoch_tests::following::Guide;
 use dairyepoch_tests::generate::{
-    changing, crowded, every_trip, largest, long_lines, most_rows, overtaking, rural, timetable, with_shared_ways,
-    Diamonds, Size, BUSY, CHANGING, CROWDED, DIRECT_ROWS_MOST, MIDDLING, SMALL,
+    changing, crowded, every_timetable, every_trip, largest, long_lines, most_rows, overtaking, rural, timetable,
+    with_shared_ways, Diamonds, Size, BUSY, CHANGING, CROWDED, DIRECT_ROWS_MOST, MIDDLING, SMALL,
 };
-use dairyepoch_tests::host::{lent, Host, QUERY_WORDS};
-use dairyepoch_tests::lines::{self, LINE_WORDS, WORK_WORDS};
+use dairyepoch_tests::handmade::{hop, text, text_of_hops};
+use dairyepoch_tests::host::{lent, longer, Host, QUERY_WORDS};
+use dairyepoch_tests::lent::{noes, queries_of_wrong_stations, replies_to_tampered, Lent, LONGER_LENGTHS};
+use dairyepoch_tests::lines::{LINE_WORDS, WORK_WORDS};
 use dairyepoch_tests::random::Random;
-use dairyepoch_tests::reference;
+use dairyepoch_tests::reference::accepted;
 use dairyepoch_tests::search::{self, Network};
 use dairyepoch_tests::store::{self, Sequence, Store, NODES_MOST};
-use dairyepoch_tests::timetable::{Onward, Station, Stop, Timetable};
-use dairyepoch_tests::words::{to_words, TIMETABLE_WORDS};
+use dairyepoch_tests::timetable::{Station, Stop, Timetable};
+use dairyepoch_tests::words::TIMETABLE_WORDS;
 
-/// The words of a timetable, its line tables and a store as they are lent.
-struct Lent {
-    timetable: Vec<u16>,
-    lines: Vec<u16>,
+/// What a query is lent for reading: a store beside the tables.
+struct WithStore {
+    lent: Lent,
     store: Vec<u16>,
 }
 
-impl Lent {
-    fn new(timetable: &Timetable, store: Vec<u16>, random: &mut Random) -> Lent {
-        let [timetable, lines] = [to_words(timetable), lines::to_words(timetable)].map(|words| lent(words, random));
-        Lent { timetable, lines, store }
+impl WithStore {
+    fn new(timetable: &Timetable, store: Vec<u16>, random: &mut Random) -> WithStore {
+        WithStore { lent: Lent::new(timetable, random), store }
+    }
+
+    /// The tables of M and the store of its source 1.
+    fn of_m(random: &mut Random) -> WithStore {
+        WithStore::new(&accepted(M), vec![1, 3, 2, 0, 2, 0, 3, 0, 3, 1], random)
     }
 
     fn tables(&self) -> Tables<'_> {
-        Tables { timetable: &self.timetable, lines: &self.lines, store: &self.store }
+        self.lent.with(&self.store)
     }
 
     fn ask(&self, host: &mut Host, query: Query) -> Reply {
@@ -48,20 +53,12 @@ impl Lent {
     }
 }
 
-fn parse(text: &str) -> Timetable {
-    reference::read(text.as_bytes()).expect("a text that is accepted")
-}
-
-fn refused(number: u32) -> Reply {
-    Reply { number, beside: 0 }
-}
-
 /// A row: duration and penalty, and trip, boarding stop and alighting stop of each ride.
 type Row = (u32, u32, Vec<[u32; 3]>);
 
 /// The rows of a text's query from a store, or the number of the refusal; they are also the reference's.
 fn rows_from(text: &str, store: &[u16], from: u32, to: u32, minute: u32) -> Result<Vec<Row>, u32> {
-    let lent = Lent::new(&parse(text), store.to_vec(), &mut Random::new(0));
+    let lent = WithStore::new(&accepted(text), store.to_vec(), &mut Random::new(0));
     let query = Query { from, to, minute };
     let mut answer = vec![0xabcd_abcd; QUERY_WORDS];
     let reply = ffi::query(lent.tables(), &mut vec![0; WORK_WORDS], query, &mut answer);
@@ -83,29 +80,8 @@ fn rows_from(text: &str, store: &[u16], from: u32, to: u32, minute: u32) -> Resu
 
 /// As `rows_from`, from the store that the store call makes of the query's source.
 fn rows(text: &str, from: u32, to: u32, minute: u32) -> Result<Vec<Row>, u32> {
-    let store = expected::store_words(&parse(text), from).expect("a store that is made");
+    let store = expected::store_words(&accepted(text), from).expect("a store that is made");
     rows_from(text, &store, from, to, minute)
-}
-
-/// A text of stations by change minutes and change penalty, and of trips by station, arrival, departure and ride
-/// penalty of each stop.
-fn text(stations: &[(u16, u16)], trips: &[&[(u16, u16, u16, u16)]]) -> String {
-    let station = |&(change_minutes, change_penalty): &(u16, u16)| Station { change_minutes, change_penalty };
-    let stop = |stops: &[(u16, u16, u16, u16)], place: usize| {
-        let (station, arrive, depart, penalty) = stops[place];
-        Stop {
-            station,
-            arrive: (place > 0).then_some(arrive),
-            onward: (place + 1 < stops.len()).then_some(Onward { depart, penalty }),
-        }
-    };
-    let trips = trips.iter().map(|stops| (0..stops.len()).map(|place| stop(stops, place)).collect()).collect();
-    Timetable { stations: stations.iter().map(station).collect(), trips }.to_string()
-}
-
-/// A trip of two stops.
-fn hop(from: u16, to: u16, depart: u16, arrive: u16, penalty: u16) -> [(u16, u16, u16, u16); 2] {
-    [(from, 0, depart, penalty), (to, arrive, 0, 0)]
 }
 
 #[test]
@@ -286,7 +262,7 @@ fn all_from(
 ) {
     let store = store::well_made(&words, timetable.stations.len()).expect("a well-made store");
     let sequences = store.sequences();
-    let lent = Lent::new(timetable, words, random);
+    let lent = WithStore::new(timetable, words, random);
     met.stores += 1;
     for to in others(timetable.stations.len(), from) {
         for &minute in &minutes(list) {
@@ -302,7 +278,7 @@ fn all_from(
 }
 
 /// Asks a query that has these rows with too little room for them, with just enough, and with a word more.
-fn lengths_around(host: &mut Host, lent: &Lent, query: Query, rows: &[Connection]) {
+fn lengths_around(host: &mut Host, lent: &WithStore, query: Query, rows: &[Connection]) {
     let needed = connections::to_words(rows, query.minute).len();
     for (length, number) in [(0, 15), (1, 15), (needed - 1, 15), (needed, 0), (needed + 1, 0)] {
         let expected = expected::answer_of(rows, query, length);
@@ -525,7 +501,7 @@ fn some_queries(timetable: &Timetable, sources: usize, count: usize, random: &mu
         let minutes: Vec<u32> = network.minutes(from).into_iter().chain([0]).collect();
         for (made, sequences) in [(true, &all), (false, &struck)] {
             let guide = Guide::new(sequences);
-            let lent = Lent::new(timetable, store::to_words(sequences).expect("not too many"), random);
+            let lent = WithStore::new(timetable, store::to_words(sequences).expect("not too many"), random);
             for _ in 0..count {
                 let to = random.pick(&others(stations, from).collect::<Vec<_>>());
                 let minute = random.pick(&minutes) + u32::from(random.one_in(4));
@@ -583,14 +559,14 @@ fn the_most_rows() {
     let mut host = Host::new(22);
     let timetable = most_rows();
     let network = Network::new(&timetable);
-    let lent = Lent::new(&timetable, vec![0, 1, 2, 0], &mut Random::new(23));
+    let lent = WithStore::new(&timetable, vec![0, 1, 2, 0], &mut Random::new(23));
     let query = Query { from: 1, to: 2, minute: 0 };
     let rows = Guide::new(&BTreeSet::from([(Vec::new(), 2)])).rows(&network, query);
     assert_eq!(rows.len(), DIRECT_ROWS_MOST as usize);
     lent.ask_for(&mut host, query, &rows);
     // with a change at 3 or 4 as well
     let store = vec![2, 3, 3, 0, 4, 0, 2, 0, 2, 1, 2, 2];
-    let lent = Lent::new(&timetable, store, &mut Random::new(24));
+    let lent = WithStore::new(&timetable, store, &mut Random::new(24));
     let sequences = BTreeSet::from([(Vec::new(), 2), (vec![3], 2), (vec![4], 2)]);
     let guide = Guide::new(&sequences);
     for minute in [1_950, 2_000, 2_040, 2_045] {
@@ -603,13 +579,14 @@ fn the_most_rows() {
 fn rides_without_end() {
     // 64 stations in a row with a change at each: one row of 63 rides
     let trips: Vec<_> = (1..64).map(|station| hop(station, station + 1, station, station + 1, 0)).collect();
-    let chain = text(&[(0, 1_000); 64], &trips.iter().map(|trip| &trip[..]).collect::<Vec<_>>());
+    let chain = text_of_hops(&[(0, 1_000); 64], &trips);
     let rides: Vec<[u32; 3]> = (1..64).map(|trip| [trip, 1, 2]).collect();
     assert_eq!(rows(&chain, 1, 64, 0), Ok(vec![(64, 62_000, rides.clone())]));
     assert_eq!(rows(&chain, 1, 64, 1), Ok(vec![(63, 62_000, rides)]));
     assert_eq!(rows(&chain, 1, 64, 2), Err(14));
     // the sequence without its first change is another
-    let mut store = Store::from_words(&expected::store_words(&parse(&chain), 1).expect("a store")).expect("its words");
+    let mut store =
+        Store::from_words(&expected::store_words(&accepted(&chain), 1).expect("a store")).expect("its words");
     store.nodes[0].0 = 3;
     assert_eq!(rows_from(&chain, &store.to_words(), 1, 64, 0), Err(14));
 }
@@ -631,7 +608,7 @@ fn queries_from_the_largest_stores() {
         let struck: BTreeSet<Sequence> =
             sequences.iter().filter(|(changes, _)| changes.first() != Some(&2)).cloned().collect();
         for sequences in [sequences, struck] {
-            let lent = Lent::new(&timetable, store::to_words(&sequences).expect("fewer"), &mut Random::new(26));
+            let lent = WithStore::new(&timetable, store::to_words(&sequences).expect("fewer"), &mut Random::new(26));
             let guide = Guide::new(&sequences);
             for &to in &targets {
                 let query = Query { from: 1, to, minute: 0 };
@@ -642,19 +619,13 @@ fn queries_from_the_largest_stores() {
 }
 
 /// Asks every timetable of so many trips, each one of these, from station 1 to 2, from made and from given stores.
-fn every_timetable(stations: &[Station], trips: &[Vec<Stop>], count: usize, stores: &[&[u16]], last: u32) {
+fn ask_every(stations: &[Station], trips: &[Vec<Stop>], count: usize, stores: &[&[u16]], last: u32) {
     let mut host = Host::new(27);
     let mut random = Random::new(28);
     let mut rows = 0;
-    for mut choice in 0..trips.len().pow(count as u32) {
-        let mut chosen = Vec::new();
-        for _ in 0..count {
-            chosen.push(trips[choice % trips.len()].clone());
-            choice /= trips.len();
-        }
-        let timetable = Timetable { stations: stations.to_vec(), trips: chosen };
+    for timetable in every_timetable(stations, trips, count) {
         let made = expected::store_words(&timetable, 1).expect("a store that is made");
-        let mut lent = Lent::new(&timetable, Vec::new(), &mut random);
+        let mut lent = WithStore::new(&timetable, Vec::new(), &mut random);
         for store in [&made[..]].iter().chain(stores) {
             lent.store = store.to_vec();
             for minute in 0..=last {
@@ -669,14 +640,14 @@ fn every_timetable(stations: &[Station], trips: &[Vec<Stop>], count: usize, stor
 fn every_timetable_of_three_stations_and_two_trips() {
     let trips = [every_trip(3, 2, 2), every_trip(3, 3, 2)].concat();
     let stores: [&[u16]; 1] = [&[1, 1, 3, 0, 2, 1]];
-    every_timetable(&[Station { change_minutes: 0, change_penalty: 1 }; 3], &trips, 2, &stores, 0);
+    ask_every(&[Station { change_minutes: 0, change_penalty: 1 }; 3], &trips, 2, &stores, 0);
 }
 
 #[test]
 fn every_timetable_of_one_trip_with_a_loop() {
     let trips = [every_trip(2, 4, 4), every_trip(3, 4, 3), every_trip(2, 5, 4)].concat();
     let stores: [&[u16]; 2] = [&[1, 1, 1, 0, 2, 1], &[2, 2, 1, 0, 2, 0, 2, 1, 2, 2]];
-    every_timetable(&[Station { change_minutes: 0, change_penalty: 1 }; 3], &trips, 1, &stores, 1);
+    ask_every(&[Station { change_minutes: 0, change_penalty: 1 }; 3], &trips, 1, &stores, 1);
 }
 
 /// A store that is a chain of so many nodes, alternating between 2 and 1, with an arc to 3 from its end.
@@ -686,12 +657,12 @@ fn chain(nodes: u16) -> Store {
 
 /// Asks M from a store; the reply's number.
 fn number_from(words: &[u16]) -> u32 {
-    let lent = Lent::new(&parse(M), words.to_vec(), &mut Random::new(29));
+    let lent = WithStore::new(&accepted(M), words.to_vec(), &mut Random::new(29));
     let reply = lent.ask(&mut Host::new(30), Query { from: 1, to: 3, minute: 470 });
     // an ill-made store is told of even where no arc has the target
     if reply.number == 13 {
-        assert_eq!(lent.ask(&mut Host::new(31), Query { from: 3, to: 1, minute: 0 }), refused(13));
-        assert_eq!(lent.ask(&mut Host::new(32), Query { from: 3, to: 2, minute: 2_879 }), refused(13));
+        assert_eq!(lent.ask(&mut Host::new(31), Query { from: 3, to: 1, minute: 0 }), Reply::refused(13));
+        assert_eq!(lent.ask(&mut Host::new(32), Query { from: 3, to: 2, minute: 2_879 }), Reply::refused(13));
     }
     reply.number
 }
@@ -802,11 +773,9 @@ fn patterns_above_64_stations_give_13() {
 #[test]
 fn long_patterns_are_followed() {
     // 62 changes to and fro between 1 and 2, then to 3
-    let trips: Vec<_> = (0..62).map(|at| hop(1 + at % 2, 2 - at % 2, at, at + 1, 0)).collect();
-    let mut trips: Vec<&[_]> = trips.iter().map(|trip| &trip[..]).collect();
-    let [last, other] = [hop(1, 3, 62, 63, 0), hop(2, 3, 62, 70, 0)];
-    trips.extend([&last[..], &other[..]]);
-    let to_and_fro = text(&[(0, 1); 3], &trips);
+    let mut trips: Vec<_> = (0..62).map(|at| hop(1 + at % 2, 2 - at % 2, at, at + 1, 0)).collect();
+    trips.extend([hop(1, 3, 62, 63, 0), hop(2, 3, 62, 70, 0)]);
+    let to_and_fro = text_of_hops(&[(0, 1); 3], &trips);
     let rides: Vec<[u32; 3]> = (1..=63).map(|trip| [trip, 1, 2]).collect();
     assert_eq!(rows_from(&to_and_fro, &chain(62).to_words(), 1, 3, 0), Ok(vec![(63, 62, rides)]));
     assert_eq!(rows_from(&to_and_fro, &chain(61).to_words(), 1, 3, 0).map(|rows| rows[0].2.len()), Ok(62));
@@ -823,7 +792,7 @@ fn words_of_a_store_tampered_with() {
         let timetable = changing(&mut random, &CHANGING);
         let from = random.within(1..=timetable.stations.len()) as u32;
         let made = expected::store_words(&timetable, from).expect("a store that is made");
-        let mut lent = Lent::new(&timetable, Vec::new(), &mut random);
+        let mut lent = WithStore::new(&timetable, Vec::new(), &mut random);
         for _ in 0..8 {
             lent.store = made.clone();
             for _ in 0..random.within(1..=2) {
@@ -849,20 +818,13 @@ fn stations_that_are_not_there_or_equal_give_11_and_minutes_12() {
     let mut random = Random::new(36);
     for _ in 0..60 {
         let timetable = changing(&mut random, &CHANGING);
-        let stations = timetable.stations.len() as u32;
         let store = if random.one_in(2) { vec![0, 0] } else { vec![1, 1, 1] };
-        let lent = Lent::new(&timetable, store, &mut random);
-        let there = random.within(1..=stations as usize) as u32;
-        let wrong = [0, stations + 1, 0xffff, 0x1_0000, 0x1_0001, 0x8000_0000, u32::MAX];
-        let twos =
-            wrong.iter().flat_map(|&wrong| [(wrong, there), (there, wrong), (wrong, wrong)]).chain([(there, there)]);
-        for (from, to) in twos {
-            for minute in [0, 2_879, 2_880, u32::MAX] {
-                assert_eq!(lent.ask(&mut host, Query { from, to, minute }), refused(11));
-            }
+        let lent = WithStore::new(&timetable, store, &mut random);
+        for query in queries_of_wrong_stations(&mut random, timetable.stations.len()) {
+            assert_eq!(lent.ask(&mut host, query), Reply::refused(11));
         }
         for minute in [2_880, 2_881, 0xffff, 0x1_0000, 0x8000_0000, u32::MAX] {
-            assert_eq!(lent.ask(&mut host, Query { from: 1, to: 2, minute }), refused(12));
+            assert_eq!(lent.ask(&mut host, Query { from: 1, to: 2, minute }), Reply::refused(12));
         }
     }
 }
@@ -870,18 +832,10 @@ fn stations_that_are_not_there_or_equal_give_11_and_minutes_12() {
 #[test]
 fn the_first_no_ends_it() {
     let mut random = Random::new(37);
-    let good = Lent::new(&parse(M), vec![1, 3, 2, 0, 2, 0, 3, 0, 3, 1], &mut random);
-    let mut damaged = good.timetable.clone();
-    damaged[4] = 0; // change penalty 0
-    let mut tampered = good.lines.clone();
-    tampered[50] += 1;
-    for noes in 0..1 << 8 {
-        let [slice, timetable, lines, station, minute, store, none, room] =
-            [0, 1, 2, 3, 4, 5, 6, 7].map(|no| noes >> no & 1 == 1);
-        let numbers = [(slice, 8), (timetable, 9), (lines, 10), (station, 11), (minute, 12), (store, 13), (none, 14)];
-        let number = numbers.iter().find(|(no, _)| *no).map_or(if room { 15 } else { 0 }, |&(_, number)| number);
-        let timetable = if timetable { &damaged } else { &good.timetable };
-        let lines = if lines { &tampered } else { &good.lines };
+    let good = WithStore::of_m(&mut random);
+    for (noes, number) in noes([8, 9, 10, 11, 12, 13, 14, 15]) {
+        let [slice, timetable, lines, station, minute, store, none, room] = noes;
+        let shorts = if slice { &[0, 51, 16_383][..] } else { &[] };
         let store = match (store, none) {
             (true, _) => random.pick(&[&[][..], &[0], &[0, 2, 3, 0, 3, 0], &[0, 16_384], &[1, 0, 2, 1]]),
             (false, true) => random.pick(&[&[0, 0][..], &[1, 1, 2, 0, 2, 0], &[1, 1, 3, 0, 3, 1]]),
@@ -894,53 +848,41 @@ fn the_first_no_ends_it() {
         let minute = if minute { random.pick(&[2_880, 2_881, 65_536, u32::MAX]) } else { 470 };
         let query = Query { from: query.0, to: query.1, minute };
         let lengths = if room { &[0, 14][..] } else { &[15] };
-        let ask = |host: &mut Host, timetable: &[u16], lines: &[u16]| {
+        good.lent.with_noes(timetable, lines).lend(shorts, 38, |host, timetable, lines| {
             for &length in lengths {
                 let reply = host.query_to(Tables { timetable, lines, store }, query, length);
                 assert_eq!(reply, Reply { number, beside: 2 * u32::from(number == 0) }, "{query:?} {store:?}");
             }
-        };
-        if slice {
-            for short in [0, 51, 16_383] {
-                ask(&mut Host::new(38), &timetable[..short], lines);
-                ask(&mut Host::new(39), timetable, &lines[..short]);
-                ask(&mut Host::lending_both(0, short, 40), timetable, lines);
-            }
-        } else {
-            ask(&mut Host::new(41), timetable, lines);
-        }
+        });
     }
 }
 
 #[test]
 fn slices_that_are_not_there() {
-    let lent = Lent::new(&parse(M), vec![1, 3, 2, 0, 2, 0, 3, 0, 3, 1], &mut Random::new(42));
+    let with_store = WithStore::of_m(&mut Random::new(42));
     let mut work = vec![7; WORK_WORDS];
     for (from, to, minute, number) in [(1, 3, 470, 15), (3, 1, 470, 14), (1, 3, 2_880, 12), (2, 2, 470, 11)] {
         let query = Query { from, to, minute };
-        assert_eq!(ffi::query_to_nothing(lent.tables(), &mut work, query), refused(number));
-        let without = ffi::query_of_no_store(&lent.timetable, &lent.lines, &mut work, query);
-        assert_eq!(without, [refused(number.min(13)), refused(8)]);
+        assert_eq!(ffi::query_to_nothing(with_store.tables(), &mut work, query), Reply::refused(number));
+        let Lent { timetable, lines } = &with_store.lent;
+        let without = ffi::query_of_no_store(timetable, lines, &mut work, query);
+        assert_eq!(without, [Reply::refused(number.min(13)), Reply::refused(8)]);
     }
 }
 
 #[test]
 fn longer_slices_are_long_enough() {
     let mut random = Random::new(43);
-    let lent = Lent::new(&parse(M), vec![1, 3, 2, 0, 2, 0, 3, 0, 3, 1], &mut random);
+    let WithStore { lent, store } = WithStore::of_m(&mut random);
     let query = Query { from: 1, to: 3, minute: 470 };
-    for length in [16_385, 65_535, 65_536, 65_537, 2 * 65_536] {
-        let [timetable, lines, store] = [&lent.timetable, &lent.lines, &lent.store].map(|words| {
-            let mut longer = words.clone();
-            longer.resize_with(length, || random.word());
-            longer
-        });
-        let mut host = Host::lending_both(0, length, 44);
-        let tables = Tables { timetable: &timetable, lines: &lines, store: &store };
-        assert_eq!(host.query(tables, query), Reply { number: 0, beside: 2 });
+    for length in LONGER_LENGTHS {
+        let longer_tables = lent.longer(length, &mut random);
+        let longer_store = longer(&store, length, &mut random);
+        let tables = longer_tables.with(&longer_store);
+        assert_eq!(Host::lending_both(0, length, 44).query(tables, query), Reply::done(2));
         let mut answer = vec![5; length];
         let reply = ffi::query(tables, &mut vec![0; length], query, &mut answer);
-        assert_eq!(reply, Reply { number: 0, beside: 2 });
+        assert_eq!(reply, Reply::done(2));
         assert_eq!(answer[..15], [50, 10, 2, 1, 1, 2, 2, 1, 2, 90, 0, 1, 1, 1, 3]);
         assert!(answer[15..].iter().all(|&word| word == 5));
     }
@@ -948,26 +890,10 @@ fn longer_slices_are_long_enough() {
 
 #[test]
 fn words_of_either_table_tampered_with() {
-    let mut host = Host::new(45);
-    let mut random = Random::new(46);
-    let mut tally = [0; 16];
-    for _ in 0..2_000 {
-        let timetable = changing(&mut random, &SMALL);
-        let mut lent = Lent::new(&timetable, vec![0, 1, 2, 0], &mut random);
-        let (words, length) = match random.below(2) {
-            0 => (&mut lent.timetable, to_words(&timetable).len()),
-            _ => (&mut lent.lines, lines::to_words(&timetable).len()),
-        };
-        let at = random.below(length);
-        words[at] = match random.below(4) {
-            0 => random.word(),
-            1 => words[at].wrapping_add(1),
-            2 => words[at].wrapping_sub(1),
-            _ => u16::MAX,
-        };
-        let query = Query { from: 1, to: 2, minute: random.below(3) as u32 };
-        tally[lent.ask(&mut host, query).number as usize] += 1;
-    }
+    let timetable = |random: &mut Random| changing(random, &SMALL);
+    let tally = replies_to_tampered(45, 2_000, timetable, |host, lent, random| {
+        host.query(lent.with(&[0, 1, 2, 0]), Query { from: 1, to: 2, minute: random.below(3) as u32 })
+    });
     assert!(tally[9] > 300 && tally[10] > 700, "by reply number: {tally:?}");
 }
 
@@ -975,37 +901,34 @@ fn words_of_either_table_tampered_with() {
 fn slices_of_any_words() {
     let mut host = Host::new(47);
     let mut random = Random::new(48);
-    let good = Lent::new(&parse(M), vec![1, 3, 2, 0, 2, 0, 3, 0, 3, 1], &mut random);
+    let WithStore { lent: good, store: good_store } = WithStore::of_m(&mut random);
     for round in 0..150 {
-        let [words, tables, store] = [0, 1, 2].map(|_| lent(Vec::new(), &mut random));
+        let any = Lent::any(&mut random);
+        let store = lent(Vec::new(), &mut random);
         let store = &store[..random.below(store.len())];
-        let any = Query { from: random.word().into(), to: random.word().into(), minute: random.bits() as u32 };
+        let anything = Query { from: random.word().into(), to: random.word().into(), minute: random.bits() as u32 };
         let near = Query { from: 1, to: 3, minute: random.below(600) as u32 };
-        for query in [any, near] {
+        for query in [anything, near] {
             let mut number = |timetable: &[u16], lines: &[u16], store: &[u16]| {
                 host.query(Tables { timetable, lines, store }, query).number
             };
-            assert_eq!(number(&words, &tables, store), 9);
-            assert_eq!(number(&words, &good.lines, &good.store), 9);
-            assert_eq!(number(&good.timetable, &tables, &good.store), 10);
-            assert_eq!(number(&good.timetable, &vec![tables[0]; LINE_WORDS], store), 10);
-            assert_eq!(number(&vec![words[0]; TIMETABLE_WORDS], &good.lines, store), 9);
+            assert_eq!(number(&any.timetable, &any.lines, store), 9);
+            assert_eq!(number(&any.timetable, &good.lines, &good_store), 9);
+            assert_eq!(number(&good.timetable, &any.lines, &good_store), 10);
+            assert_eq!(number(&good.timetable, &vec![any.lines[0]; LINE_WORDS], store), 10);
+            assert_eq!(number(&vec![any.timetable[0]; TIMETABLE_WORDS], &good.lines, store), 9);
             number(&good.timetable, &good.lines, store);
             // small numbers, which are more often well made
             let small: Vec<u16> = (0..round % 30).map(|_| random.below(4) as u16).collect();
             number(&good.timetable, &good.lines, &small);
-            number(&good.timetable, &good.lines, &good.store[..random.below(11)]);
+            number(&good.timetable, &good.lines, &good_store[..random.below(11)]);
         }
     }
     let ones = vec![u16::MAX; TIMETABLE_WORDS];
     let query = Query { from: u32::MAX, to: u32::MAX, minute: u32::MAX };
-    for (timetable, lines, number) in
-        [(&ones, &ones, 9), (&good.timetable, &ones, 10), (&good.timetable, &good.lines, 11)]
-    {
-        assert_eq!(host.query(Tables { timetable, lines, store: &ones }, query).number, number);
-    }
+    good.beside_ones(|timetable, lines| host.query(Tables { timetable, lines, store: &ones }, query));
     let query = Query { from: 1, to: 3, minute: 0 };
-    assert_eq!(host.query(Tables { store: &ones, ..good.tables() }, query).number, 13);
+    assert_eq!(host.query(good.with(&ones), query).number, 13);
 }
 
 #[test]
@@ -1015,20 +938,19 @@ fn what_the_other_calls_wrote_is_taken() {
     let mut met = 0;
     for _ in 0..60 {
         let timetable = changing(&mut random, &CHANGING);
-        let [mut words, mut tables] = [0, 1].map(|_| lent(Vec::new(), &mut random));
         let mut work = vec![0; WORK_WORDS];
-        assert_eq!(ffi::read(&timetable.to_text(), &mut words).number, 0);
-        assert_eq!(ffi::build_lines(&words, &mut tables, &mut work).number, 0);
+        let written = Lent::written(&timetable, &mut work, &mut random);
         for from in 1..=timetable.stations.len() as u32 {
             let mut store = vec![0x7777; 4_000];
-            assert_eq!(ffi::make_store(&words, &tables, &mut work, from, &mut store).number, 0);
+            let reply = ffi::make_store(&written.timetable, &written.lines, &mut work, from, &mut store);
+            assert_eq!(reply.number, 0);
             let list = connections::list(&timetable, from, 20_000).expect("not too many");
             for to in others(timetable.stations.len(), from) {
                 let query = Query { from, to, minute: random.pick(&minutes(&list).into_iter().collect::<Vec<_>>()) };
                 let rows = connections::rows(store::feasible(&list, query), query.minute);
                 met += rows.len();
-                let lent = Tables { timetable: &words, lines: &tables, store: &store };
-                host.query_as(lent, query, QUERY_WORDS, expected::answer_of(&rows, query, QUERY_WORDS));
+                let expected = expected::answer_of(&rows, query, QUERY_WORDS);
+                host.query_as(written.with(&store), query, QUERY_WORDS, expected);
             }
         }
     }

@@ -2,17 +2,10 @@
 
 use dairyepoch_tests::ffi;
 use dairyepoch_tests::generate::{largest, long_lines, timetable, with_trips, Size, LARGE, MIDDLING, SMALL};
-use dairyepoch_tests::host::Host;
+use dairyepoch_tests::host::{lent, Host};
 use dairyepoch_tests::random::Random;
 use dairyepoch_tests::timetable::{Onward, Station, Stop, Timetable};
 use dairyepoch_tests::words::{to_words, TIMETABLE_WORDS};
-
-/// The table in a slice of the least length, with any words behind it.
-fn lent(table: &[u16], random: &mut Random) -> Vec<u16> {
-    let mut words = table.to_vec();
-    words.resize_with(words.len().max(TIMETABLE_WORDS), || random.word());
-    words
-}
 
 /// A timetable of the fewest words that have every kind of stop: a first, a middle and a last one.
 fn smallest_whole() -> Timetable {
@@ -22,7 +15,7 @@ fn smallest_whole() -> Timetable {
 /// Asks about each of the values in each place of the table, with the others as they are.
 fn each_word_changed(host: &mut Host, table: &[u16], values: &[u16], random: &mut Random) -> [usize; 10] {
     let mut tally = [0; 10];
-    let mut words = lent(table, random);
+    let mut words = lent(table.to_vec(), random);
     for at in 0..table.len() {
         for &value in values {
             words[at] = value;
@@ -44,7 +37,7 @@ fn words_of_texts_have_a_yes(size: &Size, count: u64) {
     let mut random = Random::new(count);
     for _ in 0..count {
         let table = to_words(&timetable(&mut random, size));
-        assert_eq!(host.check_timetable(&lent(&table, &mut random)), 0);
+        assert_eq!(host.check_timetable(&lent(table, &mut random)), 0);
     }
 }
 
@@ -68,7 +61,7 @@ fn words_of_the_largest_texts_have_a_yes() {
     let mut host = Host::new(1);
     let mut random = Random::new(2);
     for timetable in (0..50).map(|_| largest(&mut random)).chain([long_lines()]).collect::<Vec<_>>() {
-        assert_eq!(host.check_timetable(&lent(&to_words(&timetable), &mut random)), 0);
+        assert_eq!(host.check_timetable(&lent(to_words(&timetable), &mut random)), 0);
     }
 }
 
@@ -77,7 +70,7 @@ fn what_reading_wrote_has_a_yes() {
     let mut random = Random::new(3);
     for size in [SMALL, MIDDLING, LARGE] {
         for _ in 0..200 {
-            let mut words = lent(&[], &mut random);
+            let mut words = lent(Vec::new(), &mut random);
             let text = timetable(&mut random, &size).to_text();
             assert_eq!(ffi::read(&text, &mut words).number, 0);
             assert_eq!(ffi::check_timetable(&words).number, 0);
@@ -102,7 +95,7 @@ fn words_behind_the_table_are_not_judged() {
 fn a_slice_below_16384_words_gives_8_before_9() {
     let mut host = Host::new(5);
     let mut random = Random::new(6);
-    let whole = lent(&to_words(&smallest_whole()), &mut random);
+    let whole = lent(to_words(&smallest_whole()), &mut random);
     let zeros = vec![0; TIMETABLE_WORDS];
     for length in [0, 1, 2, 3, 27, 28, 8_580, 16_382, 16_383] {
         assert_eq!(host.check_timetable(&whole[..length]), 8);
@@ -118,7 +111,7 @@ fn a_slice_above_16384_words_is_long_enough() {
     let mut random = Random::new(8);
     let table = to_words(&largest(&mut random));
     for length in [16_384, 16_385, 32_768, 65_536, 65_537, 2 * 65_536 + 3] {
-        let mut words = lent(&table, &mut random);
+        let mut words = lent(table.clone(), &mut random);
         words.resize(length, 7);
         assert_eq!(host.check_timetable(&words), 0);
         words[0] = 65;
@@ -139,7 +132,7 @@ fn random_words_are_judged_as_the_reference_does() {
     let mut host = Host::new(10);
     let mut random = Random::new(11);
     for _ in 0..2_000 {
-        let mut words = lent(&[], &mut random);
+        let mut words = lent(Vec::new(), &mut random);
         host.check_timetable(&words);
         // small numbers lead further into the table
         words.iter_mut().for_each(|word| *word %= 4);
@@ -172,7 +165,7 @@ fn each_word_of_many_tables_one_up_and_one_down() {
     let mut random = Random::new(17);
     for _ in 0..1_000 {
         let table = to_words(&timetable(&mut random, &SMALL));
-        let mut words = lent(&table, &mut random);
+        let mut words = lent(table.clone(), &mut random);
         for at in 0..table.len() {
             for value in [table[at].wrapping_add(1), table[at].wrapping_sub(1), 0, random.word()] {
                 words[at] = value;
@@ -188,7 +181,7 @@ fn two_words_of_a_table_changed_at_once() {
     let mut host = Host::new(18);
     let mut random = Random::new(19);
     let table = to_words(&smallest_whole());
-    let mut words = lent(&table, &mut random);
+    let mut words = lent(table.clone(), &mut random);
     for one in 0..table.len() {
         for other in 0..one {
             for (first, second) in (0..4).flat_map(|first| (0..6).map(move |second| (first, second))) {
@@ -214,14 +207,14 @@ fn words_left_out_put_in_and_swapped() {
             2 => table.swap(one, other),
             _ => table.truncate(one),
         }
-        host.check_timetable(&lent(&table, &mut random));
+        host.check_timetable(&lent(table, &mut random));
     }
 }
 
 /// Asks about every table that begins with `start`, has any of `values` in the next `free` words and ends with `end`.
 fn every_filling(host: &mut Host, start: &[u16], values: &[u16], free: usize, end: &[u16]) -> [usize; 10] {
     let table = [start, &vec![values[0]; free], end].concat();
-    let mut words = lent(&table, &mut Random::new(22));
+    let mut words = lent(table, &mut Random::new(22));
     let mut tally = [0; 10];
     for mut choice in 0..values.len().pow(free as u32) {
         for word in &mut words[start.len()..start.len() + free] {
@@ -285,7 +278,7 @@ fn counts_above_the_limits_have_a_no() {
             stations: vec![Station { change_minutes: 0, change_penalty: 1 }; stations],
             trips: lengths.iter().map(|&stops| trip_of(stops)).collect(),
         };
-        assert_eq!(host.check_timetable(&lent(&to_words(&timetable), &mut random)), number, "{stations}, {lengths:?}");
+        assert_eq!(host.check_timetable(&lent(to_words(&timetable), &mut random)), number, "{stations}, {lengths:?}");
     };
     expect(0, &[], 9);
     expect(1, &[], 0);
@@ -316,7 +309,7 @@ fn heads_that_lead_out_of_the_slice_have_a_no() {
     let mut host = Host::new(29);
     let mut random = Random::new(30);
     let counts = [0, 1, 2, 64, 65, 256, 257, 2_048, 2_049, 4_094, 4_095, 8_190, 8_191, 16_383, 16_384, 32_768, 65_535];
-    let mut words = lent(&to_words(&largest(&mut random)), &mut random);
+    let mut words = lent(to_words(&largest(&mut random)), &mut random);
     for stations in counts {
         for trips in counts {
             for stops in counts {

@@ -8,15 +8,12 @@ use dairyepoch_tests::generate::{
     LARGE, MIDDLING, SMALL,
 };
 use dairyepoch_tests::host::{lent, Host};
+use dairyepoch_tests::lent::{damaged, Lent};
 use dairyepoch_tests::lines::{self, lines, same_way, words_of, LINE_WORDS, WORK_WORDS};
 use dairyepoch_tests::random::Random;
-use dairyepoch_tests::reference;
+use dairyepoch_tests::reference::{self, accepted};
 use dairyepoch_tests::timetable::{Station, Timetable, LAST_MINUTE};
 use dairyepoch_tests::words::{to_words, TIMETABLE_WORDS};
-
-fn m() -> Timetable {
-    reference::read(M.as_bytes()).expect("M is accepted")
-}
 
 /// Timetables with lines of several trips and of one, overtaken trips, equal times and stations met twice.
 fn any_timetable(random: &mut Random) -> Timetable {
@@ -30,11 +27,6 @@ fn any_timetable(random: &mut Random) -> Timetable {
 /// Timetables of 64 stations, 256 trips and 2,048 stops, of one line, of 256 and of any, and one of a single trip.
 fn timetables_at_the_limits(random: &mut Random) -> [Timetable; 4] {
     [long_lines(), overtaking(), largest(random), with_trips(random, 64, &[2_048])]
-}
-
-/// The words of a timetable and its line tables, as they are lent.
-fn lent_with_tables(timetable: &Timetable, random: &mut Random) -> (Vec<u16>, Vec<u16>) {
-    (lent(to_words(timetable), random), lent(lines::to_words(timetable), random))
 }
 
 /// What was built for the timetable has a yes in both forms.
@@ -89,7 +81,7 @@ fn what_building_wrote_at_the_limits_has_a_yes() {
 fn words_behind_the_tables_are_not_judged() {
     let mut host = Host::new(5);
     let mut random = Random::new(6);
-    for timetable in [m(), with_trips(&mut random, 1, &[]), overtaking()] {
+    for timetable in [accepted(M), with_trips(&mut random, 1, &[]), overtaking()] {
         let (words, table) = (lent(to_words(&timetable), &mut random), lines::to_words(&timetable));
         let last = table.len() - 1;
         for filler in [0, 1, 2, 4, 64, 2_880, 0x7fff, 0x8000, 0xffff] {
@@ -128,7 +120,7 @@ fn each_word_of_many_tables_tampered_with() {
     for _ in 0..60 {
         let timetable = any_timetable(&mut random);
         let length = lines::to_words(&timetable).len();
-        let (words, mut tables) = lent_with_tables(&timetable, &mut random);
+        let Lent { timetable: words, lines: mut tables } = Lent::new(&timetable, &mut random);
         for at in 0..length {
             for kind in 0..KINDS {
                 let (word, next) = (tables[at], tables[at + 1]);
@@ -147,7 +139,7 @@ fn words_of_tables_at_the_limits_tampered_with() {
     let mut random = Random::new(10);
     for timetable in timetables_at_the_limits(&mut random) {
         let length = lines::to_words(&timetable).len();
-        let (words, mut tables) = lent_with_tables(&timetable, &mut random);
+        let Lent { timetable: words, lines: mut tables } = Lent::new(&timetable, &mut random);
         for round in 0..60 {
             let at = if round < 6 { round } else { random.below(length) };
             let (word, next) = (tables[at], tables[at + 1]);
@@ -162,7 +154,7 @@ fn words_of_tables_at_the_limits_tampered_with() {
 fn many_values_in_each_word_of_m() {
     let mut host = Host::new(11);
     let mut random = Random::new(12);
-    let (words, mut tables) = lent_with_tables(&m(), &mut random);
+    let Lent { timetable: words, lines: mut tables } = Lent::new(&accepted(M), &mut random);
     let edges = [1_000, 2_878, 2_879, 2_880, 4_096, 16_383, 16_384, 32_767, 32_768, 65_534, 65_535];
     let mut tally = [0; 11];
     for at in 0..51 {
@@ -182,7 +174,7 @@ fn two_words_changed_at_once() {
     let mut random = Random::new(14);
     let smallest = with_trips(&mut random, 2, &[2]);
     let length = lines::to_words(&smallest).len();
-    let (words, tables) = lent_with_tables(&smallest, &mut random);
+    let Lent { timetable: words, lines: tables } = Lent::new(&smallest, &mut random);
     let mut changed = tables.clone();
     for one in 0..length {
         for other in 0..one {
@@ -223,7 +215,7 @@ fn words_left_out_put_in_and_swapped() {
 fn tables_cut_short() {
     let mut host = Host::new(17);
     let mut random = Random::new(18);
-    for timetable in [m(), any_timetable(&mut random), crowded(&mut random, &CROWDED)] {
+    for timetable in [accepted(M), any_timetable(&mut random), crowded(&mut random, &CROWDED)] {
         let words = lent(to_words(&timetable), &mut random);
         let table = lines::to_words(&timetable);
         for cut in 0..table.len() {
@@ -348,7 +340,7 @@ fn trips_on_other_lines() {
 fn overtaking_trips_on_one_line() {
     let mut host = Host::new(27);
     let mut random = Random::new(28);
-    let overtaken = reference::read(M.replace("520", "514").as_bytes()).expect("a text that is accepted");
+    let overtaken = accepted(&M.replace("520", "514"));
     let words = lent(to_words(&overtaken), &mut random);
     for (lines, are) in [
         (&[vec![0], vec![2], vec![1]][..], true),
@@ -366,7 +358,7 @@ fn overtaking_trips_on_one_line() {
 fn slices_of_random_and_of_equal_words() {
     let mut host = Host::new(29);
     let mut random = Random::new(30);
-    let (words, _) = lent_with_tables(&m(), &mut random);
+    let Lent { timetable: words, .. } = Lent::new(&accepted(M), &mut random);
     for _ in 0..300 {
         let mut tables = lent(Vec::new(), &mut random);
         ask_both(&mut host, &words, &tables, false);
@@ -383,7 +375,7 @@ fn slices_of_random_and_of_equal_words() {
 fn heads_that_lead_out_of_the_slice() {
     let mut host = Host::new(31);
     let mut random = Random::new(32);
-    let (words, mut tables) = lent_with_tables(&m(), &mut random);
+    let Lent { timetable: words, lines: mut tables } = Lent::new(&accepted(M), &mut random);
     let head: Vec<u16> = tables[..4].to_vec();
     let counts = [0, 1, 2, 3, 37, 64, 65, 256, 16_383, 65_535];
     let heads = counts.iter().flat_map(|&stations| counts.iter().map(move |&lines| (stations, lines)));
@@ -400,8 +392,8 @@ fn heads_that_lead_out_of_the_slice() {
 fn lines_that_lead_out_of_the_slice() {
     let mut host = Host::new(33);
     let mut random = Random::new(34);
-    for timetable in [m(), overtaking(), with_trips(&mut random, 64, &[2_048])] {
-        let (words, tables) = lent_with_tables(&timetable, &mut random);
+    for timetable in [accepted(M), overtaking(), with_trips(&mut random, 64, &[2_048])] {
+        let Lent { timetable: words, lines: tables } = Lent::new(&timetable, &mut random);
         let lines = usize::from(tables[1]);
         for value in [0, 4, 5, 6, 16_382, 16_383, 16_384, 32_768, 65_534, 65_535] {
             let line = random.below(lines);
@@ -427,9 +419,9 @@ fn every_two_tiny_timetables() {
     for family in [one_trip.into_iter().map(|trip| vec![trip]).collect::<Vec<_>>(), two_trips.collect()] {
         let timetable =
             |trips| Timetable { stations: vec![Station { change_minutes: 3, change_penalty: 2 }; 3], trips };
-        let lent: Vec<_> = family.into_iter().map(|trips| lent_with_tables(&timetable(trips), &mut random)).collect();
-        for (one, (words, _)) in lent.iter().enumerate() {
-            for (other, (_, tables)) in lent.iter().enumerate() {
+        let lent: Vec<_> = family.into_iter().map(|trips| Lent::new(&timetable(trips), &mut random)).collect();
+        for (one, Lent { timetable: words, .. }) in lent.iter().enumerate() {
+            for (other, Lent { lines: tables, .. }) in lent.iter().enumerate() {
                 assert_eq!(ask_both(&mut host, words, tables, one == other), 0);
             }
         }
@@ -456,23 +448,17 @@ fn every_filling(values: &[u16], free: usize, words: &[u16]) -> [usize; 11] {
 #[test]
 fn every_words_that_could_be_tables_of_one_station() {
     let mut random = Random::new(37);
-    let (words, _) = lent_with_tables(&with_trips(&mut random, 1, &[]), &mut random);
+    let Lent { timetable: words, .. } = Lent::new(&with_trips(&mut random, 1, &[]), &mut random);
     let tally = every_filling(&[0, 1, 2, 4, 6], 6, &words);
     assert_eq!(tally[0], 1);
-}
-
-/// The words of a timetable with one that no text leads to: station 1 has change penalty 0.
-fn damaged(mut words: Vec<u16>) -> Vec<u16> {
-    words[4] = 0;
-    words
 }
 
 #[test]
 fn the_first_no_ends_it() {
     let mut host = Host::new(38);
     let mut random = Random::new(39);
-    for timetable in [m(), overtaking(), any_timetable(&mut random)] {
-        let (words, tables) = lent_with_tables(&timetable, &mut random);
+    for timetable in [accepted(M), overtaking(), any_timetable(&mut random)] {
+        let Lent { timetable: words, lines: tables } = Lent::new(&timetable, &mut random);
         let mut wrong = tables.clone();
         wrong[0] ^= 1;
         assert_eq!(host.check_lines(&words, &tables), 0);
@@ -495,24 +481,20 @@ fn the_first_no_ends_it() {
             }
         }
     }
-    assert_eq!(ffi::ask_lines_of_nothing(), [Reply { number: 8, beside: 0 }; 3]);
+    assert_eq!(ffi::ask_lines_of_nothing(), [Reply::refused(8); 3]);
 }
 
 #[test]
 fn slices_of_16384_words_or_more_are_long_enough() {
     let mut random = Random::new(41);
-    let (words, tables) = lent_with_tables(&overtaking(), &mut random);
+    let lent = Lent::new(&overtaking(), &mut random);
     for length in [16_385, 20_000, 65_535, 65_536, 65_537, 2 * 65_536] {
-        let [longer_words, longer_tables] = [&words, &tables].map(|words| {
-            let mut longer = words.clone();
-            longer.resize_with(length, || random.word());
-            longer
-        });
+        let longer = lent.longer(length, &mut random);
         for (words, tables, work_length) in [
-            (&longer_words, &tables, 16_384),
-            (&words, &longer_tables, 16_384),
-            (&words, &tables, length),
-            (&longer_words, &longer_tables, length),
+            (&longer.timetable, &lent.lines, 16_384),
+            (&lent.timetable, &longer.lines, 16_384),
+            (&lent.timetable, &lent.lines, length),
+            (&longer.timetable, &longer.lines, length),
         ] {
             let mut host = Host::lending_both(0, work_length, 42);
             let mut wrong = tables.clone();

@@ -7,53 +7,24 @@ use dairyepoch_tests::examples::M;
 use dairyepoch_tests::expected::{self, LISTED_MOST};
 use dairyepoch_tests::ffi::{self, Reply};
 use dairyepoch_tests::generate::{
-    changing, crowded, every_trip, largest, long_lines, most_rows, overtaking, rural, timetable, with_shared_ways,
-    with_trips, Diamonds, Size, BUSY, CHANGING, CROWDED, LARGE, MIDDLING, SMALL,
+    changing, crowded, every_timetable, every_trip, largest, long_lines, most_rows, overtaking, rural, timetable,
+    with_shared_ways, with_trips, Diamonds, Size, BUSY, CHANGING, CROWDED, LARGE, MIDDLING, SMALL,
 };
-use dairyepoch_tests::host::{lent, Host, STORE_WORDS};
-use dairyepoch_tests::lines::{self, LINE_WORDS, WORK_WORDS};
+use dairyepoch_tests::handmade::{hop, text, text_of_hops};
+use dairyepoch_tests::host::{Host, STORE_WORDS};
+use dairyepoch_tests::lent::{lend_any_words, noes, replies_to_tampered, Lent, LONGER_LENGTHS};
+use dairyepoch_tests::lines::WORK_WORDS;
 use dairyepoch_tests::random::Random;
-use dairyepoch_tests::reference;
 use dairyepoch_tests::search::{self, Network};
 use dairyepoch_tests::store::{Store, NODES_MOST, STORE_WORDS_MOST};
-use dairyepoch_tests::timetable::{Onward, Station, Stop, Timetable};
-use dairyepoch_tests::words::{to_words, TIMETABLE_WORDS};
-
-/// A timetable's words and line tables as they are lent.
-struct Lent {
-    timetable: Vec<u16>,
-    lines: Vec<u16>,
-}
-
-impl Lent {
-    fn new(timetable: &Timetable, random: &mut Random) -> Lent {
-        Lent { timetable: lent(to_words(timetable), random), lines: lent(lines::to_words(timetable), random) }
-    }
-
-    fn text(text: &str) -> Lent {
-        let timetable = reference::read(text.as_bytes()).expect("a text that is accepted");
-        Lent::new(&timetable, &mut Random::new(0))
-    }
-
-    fn make(&self, host: &mut Host, source: u32) -> Reply {
-        host.make_store(&self.timetable, &self.lines, source)
-    }
-}
-
-fn refused(number: u32) -> Reply {
-    Reply { number, beside: 0 }
-}
-
-fn done(words: usize) -> Reply {
-    Reply { number: 0, beside: words as u32 }
-}
+use dairyepoch_tests::timetable::{Station, Stop, Timetable};
 
 /// The words of a source's store, or the number of the refusal; they are also the reference's.
 fn store(text: &str, source: u32) -> Result<Vec<u16>, u32> {
     let lent = Lent::text(text);
     let mut store = vec![0xabcd; STORE_WORDS];
     let reply = ffi::make_store(&lent.timetable, &lent.lines, &mut vec![0; WORK_WORDS], source, &mut store);
-    assert_eq!(lent.make(&mut Host::new(1), source), reply);
+    assert_eq!(lent.make_store(&mut Host::new(1), source), reply);
     let (words, rest) = store.split_at(reply.beside as usize);
     assert!(rest.iter().all(|&word| word == 0xabcd), "a word past the store was written");
     if reply.number == 0 {
@@ -71,27 +42,6 @@ fn sequences(text: &str, source: u32) -> Vec<Vec<u16>> {
         store.sequences().into_iter().map(|(changes, target)| [&changes[..], &[target]].concat()).collect();
     sequences.sort_unstable();
     sequences
-}
-
-/// A text of stations by change minutes and change penalty, and of trips by station, arrival, departure and ride
-/// penalty of each stop.
-fn text(stations: &[(u16, u16)], trips: &[&[(u16, u16, u16, u16)]]) -> String {
-    let station = |&(change_minutes, change_penalty): &(u16, u16)| Station { change_minutes, change_penalty };
-    let stop = |stops: &[(u16, u16, u16, u16)], place: usize| {
-        let (station, arrive, depart, penalty) = stops[place];
-        Stop {
-            station,
-            arrive: (place > 0).then_some(arrive),
-            onward: (place + 1 < stops.len()).then_some(Onward { depart, penalty }),
-        }
-    };
-    let trips = trips.iter().map(|stops| (0..stops.len()).map(|place| stop(stops, place)).collect()).collect();
-    Timetable { stations: stations.iter().map(station).collect(), trips }.to_string()
-}
-
-/// A trip of two stops.
-fn hop(from: u16, to: u16, depart: u16, arrive: u16, penalty: u16) -> [(u16, u16, u16, u16); 2] {
-    [(from, 0, depart, penalty), (to, arrive, 0, 0)]
 }
 
 #[test]
@@ -207,7 +157,7 @@ fn change_minutes_to_the_minute() {
     }
     // many changes within one minute are not possible: a ride takes a minute
     let trips: Vec<_> = (1..64).map(|station| hop(station, station + 1, 10, 11, 0)).collect();
-    let at_once = text(&[(0, 1); 64], &trips.iter().map(|trip| &trip[..]).collect::<Vec<_>>());
+    let at_once = text_of_hops(&[(0, 1); 64], &trips);
     assert_eq!(sequences(&at_once, 1), [vec![2]]);
 }
 
@@ -215,7 +165,7 @@ fn change_minutes_to_the_minute() {
 fn chains_of_many_changes() {
     // each to the next with no minute to spare: 62 nodes in a row, 63 arcs, patterns of 2 to 64 stations
     let trips: Vec<_> = (1..64).map(|station| hop(station, station + 1, station, station + 1, 0)).collect();
-    let chain = text(&[(0, 1000); 64], &trips.iter().map(|trip| &trip[..]).collect::<Vec<_>>());
+    let chain = text_of_hops(&[(0, 1000); 64], &trips);
     let words = store(&chain, 1).expect("a store");
     assert_eq!(words[..2], [62, 63]);
     assert_eq!(words[2..6], [2, 0, 3, 1]);
@@ -226,11 +176,11 @@ fn chains_of_many_changes() {
     // one minute of change at station 40 and the rest is out of reach
     let mut stations = [(0, 1); 64];
     stations[39] = (1, 1);
-    let broken = text(&stations, &trips.iter().map(|trip| &trip[..]).collect::<Vec<_>>());
+    let broken = text_of_hops(&stations, &trips);
     assert_eq!(store(&broken, 1).map(|words| words[..2].to_vec()), Ok(vec![38, 39]));
     // there and back between two stations on 256 trips: nothing but direct rides is optimal
     let trips: Vec<_> = (0..256).map(|at| hop(at % 2 + 1, 2 - at % 2, at, at + 1, 0)).collect();
-    let shuttle = text(&[(0, 1); 2], &trips.iter().map(|trip| &trip[..]).collect::<Vec<_>>());
+    let shuttle = text_of_hops(&[(0, 1); 2], &trips);
     assert_eq!(store(&shuttle, 1), Ok(vec![0, 1, 2, 0]));
 }
 
@@ -278,9 +228,9 @@ struct Met {
 fn all_sources(host: &mut Host, timetable: &Timetable, met: &mut Met, random: &mut Random) {
     let lent = Lent::new(timetable, random);
     for source in 1..=timetable.stations.len() as u32 {
-        let reply = lent.make(host, source);
+        let reply = lent.make_store(host, source);
         if reply.number != 0 {
-            assert_eq!(reply, refused(15));
+            assert_eq!(reply, Reply::refused(15));
             continue;
         }
         match connections::list(timetable, source, LISTED_MOST) {
@@ -309,7 +259,7 @@ fn all_sources(host: &mut Host, timetable: &Timetable, met: &mut Met, random: &m
         }
     }
     for source in [0, timetable.stations.len() as u32 + 1] {
-        assert_eq!(lent.make(host, source), refused(11));
+        assert_eq!(lent.make_store(host, source), Reply::refused(11));
     }
 }
 
@@ -318,7 +268,8 @@ fn lengths_around(host: &mut Host, lent: &Lent, source: u32, words: &[u16]) {
     let needed = words.len();
     for (length, number) in [(0, 15), (1, 15), (2, 15), (needed - 1, 15), (needed, 0), (needed + 1, 0)] {
         let number = if length >= needed { 0 } else { number };
-        let expected = if number == 0 { (done(needed), words.to_vec()) } else { (refused(15), Vec::new()) };
+        let expected =
+            if number == 0 { (Reply::done(needed), words.to_vec()) } else { (Reply::refused(15), Vec::new()) };
         host.make_store_as(&lent.timetable, &lent.lines, source, length, expected);
     }
 }
@@ -373,8 +324,8 @@ fn made(timetable: &Timetable, sources: impl Iterator<Item = u32>) -> [usize; 2]
     let mut counts = [0; 2];
     for source in sources {
         let expected = match search::patterns(&network, source).map(|patterns| patterns.to_words()) {
-            Some(words) => (done(words.len()), words),
-            None => (refused(15), Vec::new()),
+            Some(words) => (Reply::done(words.len()), words),
+            None => (Reply::refused(15), Vec::new()),
         };
         counts[usize::from(expected.0.number != 0)] += 1;
         host.make_store_as(&lent.timetable, &lent.lines, source, STORE_WORDS, expected);
@@ -429,7 +380,7 @@ fn chains_of_diamonds_are_refused_quickly() {
         let timetable = Diamonds { count, late, beyond: true, chain: 1 }.timetable();
         let lent = Lent::new(&timetable, &mut Random::new(13));
         let began = Instant::now();
-        Host::new(14).make_store_as(&lent.timetable, &lent.lines, 1, STORE_WORDS, (refused(15), Vec::new()));
+        Host::new(14).make_store_as(&lent.timetable, &lent.lines, 1, STORE_WORDS, (Reply::refused(15), Vec::new()));
         assert!(began.elapsed() < Duration::from_secs(20), "{:?}", began.elapsed());
         assert_eq!(expected::store_words(&timetable, 1), None);
     }
@@ -443,7 +394,7 @@ fn counted(diamonds: Diamonds, nodes: usize, arcs: usize) {
     let patterns = search::patterns(&Network::new(&timetable), 1);
     if nodes > NODES_MOST || arcs > NODES_MOST {
         assert!(patterns.is_none());
-        host.make_store_as(&lent.timetable, &lent.lines, 1, STORE_WORDS, (refused(15), Vec::new()));
+        host.make_store_as(&lent.timetable, &lent.lines, 1, STORE_WORDS, (Reply::refused(15), Vec::new()));
         return;
     }
     let patterns = patterns.expect("not too many");
@@ -451,10 +402,10 @@ fn counted(diamonds: Diamonds, nodes: usize, arcs: usize) {
     let words = patterns.to_words();
     assert_eq!(words.len(), 2 + 2 * nodes + 2 * arcs);
     for length in [words.len(), words.len() + 1] {
-        host.make_store_as(&lent.timetable, &lent.lines, 1, length, (done(words.len()), words.clone()));
+        host.make_store_as(&lent.timetable, &lent.lines, 1, length, (Reply::done(words.len()), words.clone()));
     }
     for length in [words.len() - 1, words.len() - 2, 2, 0] {
-        host.make_store_as(&lent.timetable, &lent.lines, 1, length, (refused(15), Vec::new()));
+        host.make_store_as(&lent.timetable, &lent.lines, 1, length, (Reply::refused(15), Vec::new()));
     }
 }
 
@@ -478,19 +429,14 @@ fn stores_of_16382_to_16384_nodes() {
 }
 
 /// Makes the stores of every timetable of so many trips, each one of these.
-fn every_timetable(stations: &[Station], trips: &[Vec<Stop>], count: usize, sources: &[u32]) {
+fn make_every(stations: &[Station], trips: &[Vec<Stop>], count: usize, sources: &[u32]) {
     let mut host = Host::new(17);
     let mut random = Random::new(18);
     let mut words = 0;
-    for mut choice in 0..trips.len().pow(count as u32) {
-        let mut chosen = Vec::new();
-        for _ in 0..count {
-            chosen.push(trips[choice % trips.len()].clone());
-            choice /= trips.len();
-        }
-        let lent = Lent::new(&Timetable { stations: stations.to_vec(), trips: chosen }, &mut random);
+    for timetable in every_timetable(stations, trips, count) {
+        let lent = Lent::new(&timetable, &mut random);
         for &source in sources {
-            words += lent.make(&mut host, source).beside as usize;
+            words += lent.make_store(&mut host, source).beside as usize;
         }
     }
     assert!(words > 0);
@@ -500,14 +446,14 @@ fn every_timetable(stations: &[Station], trips: &[Vec<Stop>], count: usize, sour
 fn every_timetable_of_three_stations_and_two_trips() {
     let trips = [every_trip(3, 2, 2), every_trip(3, 3, 2)].concat();
     for change_minutes in [0, 1] {
-        every_timetable(&[Station { change_minutes, change_penalty: 1 }; 3], &trips, 2, &[1]);
+        make_every(&[Station { change_minutes, change_penalty: 1 }; 3], &trips, 2, &[1]);
     }
 }
 
 #[test]
 fn every_timetable_of_one_trip_with_a_loop() {
     let trips = [every_trip(2, 4, 4), every_trip(3, 4, 3)].concat();
-    every_timetable(&[Station { change_minutes: 0, change_penalty: 1 }; 3], &trips, 1, &[1, 2]);
+    make_every(&[Station { change_minutes: 0, change_penalty: 1 }; 3], &trips, 1, &[1, 2]);
 }
 
 #[test]
@@ -523,7 +469,7 @@ fn sources_that_are_not_there_give_11() {
         for source in [0, next, next + 1, 0xffff, 0x1_0000, 0x1_0001, 0x8000_0000, 0x8000_0001, u32::MAX] {
             for length in [0, 2, STORE_WORDS] {
                 let reply = host.make_store_in(&lent.timetable, &lent.lines, source, length);
-                assert_eq!(reply, refused(11), "source {source}");
+                assert_eq!(reply, Reply::refused(11), "source {source}");
             }
         }
     }
@@ -532,35 +478,19 @@ fn sources_that_are_not_there_give_11() {
 #[test]
 fn the_first_no_ends_it() {
     let good = Lent::text(M);
-    let mut damaged = good.timetable.clone();
-    damaged[4] = 0; // change penalty 0
-    let mut tampered = good.lines.clone();
-    tampered[50] += 1;
-    for noes in 0..1 << 5 {
-        let [slice, timetable, lines, source, room] = [0, 1, 2, 3, 4].map(|no| noes >> no & 1 == 1);
-        let numbers = [(slice, 8), (timetable, 9), (lines, 10), (source, 11), (room, 15)];
-        let number = numbers.iter().find(|(no, _)| *no).map_or(0, |&(_, number)| number);
-        let timetable = if timetable { &damaged } else { &good.timetable };
-        let lines = if lines { &tampered } else { &good.lines };
+    for ([slice, timetable, lines, source, room], number) in noes([8, 9, 10, 11, 15]) {
+        let shorts = if slice { &[0, 1, 51, 16_383][..] } else { &[] };
         let sources = if source { &[0, 4, u32::MAX][..] } else { &[1] };
         let lengths = if room { &[0, 1, 2, 9][..] } else { &[10, 11] };
-        let ask = |host: &mut Host, timetable: &[u16], lines: &[u16]| {
+        let expected = if number == 0 { Reply::done(10) } else { Reply::refused(number) };
+        good.with_noes(timetable, lines).lend(shorts, 21, |host, timetable, lines| {
             for &source in sources {
                 for &length in lengths {
                     let reply = host.make_store_in(timetable, lines, source, length);
-                    assert_eq!(reply, if number == 0 { done(10) } else { refused(number) }, "{source}, {length}");
+                    assert_eq!(reply, expected, "{source}, {length}");
                 }
             }
-        };
-        if slice {
-            for short in [0, 1, 51, 16_383] {
-                ask(&mut Host::new(21), &timetable[..short], lines);
-                ask(&mut Host::new(22), timetable, &lines[..short]);
-                ask(&mut Host::lending_both(0, short, 23), timetable, lines);
-            }
-        } else {
-            ask(&mut Host::new(24), timetable, lines);
-        }
+        });
     }
 }
 
@@ -570,8 +500,8 @@ fn slices_that_are_not_there() {
     let mut work = vec![7; WORK_WORDS];
     for (source, number) in [(0, 11), (1, 15), (2, 15), (3, 15), (4, 11), (u32::MAX, 11)] {
         let reply = ffi::make_store_of_no_words(&lent.timetable, &lent.lines, &mut work, source);
-        assert_eq!(reply, refused(number));
-        assert_eq!(ffi::make_store_of_nothing(source), refused(8));
+        assert_eq!(reply, Reply::refused(number));
+        assert_eq!(ffi::make_store_of_nothing(source), Reply::refused(8));
     }
 }
 
@@ -579,66 +509,28 @@ fn slices_that_are_not_there() {
 fn longer_slices_are_long_enough() {
     let mut random = Random::new(25);
     let lent = Lent::text(M);
-    for length in [16_385, 65_535, 65_536, 65_537, 2 * 65_536] {
-        let [words, tables] = [&lent.timetable, &lent.lines].map(|words| {
-            let mut longer = words.clone();
-            longer.resize_with(length, || random.word());
-            longer
-        });
-        let mut host = Host::lending_both(0, length, 26);
-        assert_eq!(host.make_store(&words, &tables, 1), done(10));
-        assert_eq!(Host::new(26).make_store(&words, &lent.lines, 1), done(10));
-        assert_eq!(Host::new(26).make_store(&lent.timetable, &tables, 1), done(10));
+    for length in LONGER_LENGTHS {
+        let longer = lent.longer(length, &mut random);
+        assert_eq!(longer.make_store(&mut Host::lending_both(0, length, 26), 1), Reply::done(10));
+        assert_eq!(Host::new(26).make_store(&longer.timetable, &lent.lines, 1), Reply::done(10));
+        assert_eq!(Host::new(26).make_store(&lent.timetable, &longer.lines, 1), Reply::done(10));
         let mut store = vec![9; length];
-        let reply = ffi::make_store(&words, &tables, &mut vec![0; length], 1, &mut store);
-        assert_eq!((reply, &store[..10]), (done(10), &[1, 3, 2, 0, 2, 0, 3, 0, 3, 1][..]));
+        let reply = ffi::make_store(&longer.timetable, &longer.lines, &mut vec![0; length], 1, &mut store);
+        assert_eq!((reply, &store[..10]), (Reply::done(10), &[1, 3, 2, 0, 2, 0, 3, 0, 3, 1][..]));
         assert!(store[10..].iter().all(|&word| word == 9));
     }
 }
 
 #[test]
 fn words_of_either_table_tampered_with() {
-    let mut host = Host::new(27);
-    let mut random = Random::new(28);
-    let mut tally = [0; 16];
-    for _ in 0..3_000 {
-        let timetable = changing(&mut random, &SMALL);
-        let mut lent = Lent::new(&timetable, &mut random);
-        let (words, length) = match random.below(2) {
-            0 => (&mut lent.timetable, to_words(&timetable).len()),
-            _ => (&mut lent.lines, lines::to_words(&timetable).len()),
-        };
-        let at = random.below(length);
-        words[at] = match random.below(4) {
-            0 => random.word(),
-            1 => words[at].wrapping_add(1),
-            2 => words[at].wrapping_sub(1),
-            _ => u16::MAX,
-        };
-        tally[lent.make(&mut host, 1).number as usize] += 1;
-    }
+    let timetable = |random: &mut Random| changing(random, &SMALL);
+    let tally = replies_to_tampered(27, 3_000, timetable, |host, lent, _| lent.make_store(host, 1));
     assert!(tally[9] > 400 && tally[10] > 1_000 && tally[0] > 100, "by reply number: {tally:?}");
 }
 
 #[test]
 fn slices_of_any_words() {
-    let mut host = Host::new(29);
-    let mut random = Random::new(30);
-    let good = Lent::text(M);
-    for _ in 0..200 {
-        let [words, tables] = [0, 1].map(|_| lent(Vec::new(), &mut random));
-        let source = random.bits() as u32;
-        assert_eq!(host.make_store(&words, &tables, source).number, 9);
-        assert_eq!(host.make_store(&words, &good.lines, source).number, 9);
-        assert_eq!(host.make_store(&good.timetable, &tables, source).number, 10);
-        assert_eq!(host.make_store(&good.timetable, &vec![tables[0]; LINE_WORDS], source).number, 10);
-        assert_eq!(host.make_store(&vec![words[0]; TIMETABLE_WORDS], &good.lines, source).number, 9);
-        good.make(&mut host, source);
-    }
-    let ones = vec![u16::MAX; TIMETABLE_WORDS];
-    assert_eq!(host.make_store(&ones, &ones, u32::MAX).number, 9);
-    assert_eq!(host.make_store(&good.timetable, &ones, u32::MAX).number, 10);
-    assert_eq!(host.make_store(&good.timetable, &good.lines, u32::MAX).number, 11);
+    lend_any_words(29, 200, |random| random.bits() as u32, u32::MAX, Host::make_store);
 }
 
 #[test]
@@ -647,11 +539,9 @@ fn what_reading_and_building_wrote_is_taken() {
     let mut random = Random::new(32);
     for _ in 0..60 {
         let timetable = changing(&mut random, &CHANGING);
-        let [mut words, mut tables] = [0, 1].map(|_| lent(Vec::new(), &mut random));
-        assert_eq!(ffi::read(&timetable.to_text(), &mut words).number, 0);
-        assert_eq!(ffi::build_lines(&words, &mut tables, &mut vec![0; WORK_WORDS]).number, 0);
+        let written = Lent::written(&timetable, &mut vec![0; WORK_WORDS], &mut random);
         for source in 1..=timetable.stations.len() as u32 {
-            assert_eq!(host.make_store(&words, &tables, source).number, 0);
+            assert_eq!(written.make_store(&mut host, source).number, 0);
         }
     }
     assert_eq!(STORE_WORDS_MOST, 65_534);

@@ -1,0 +1,34 @@
+//! Texts of timetables that a test writes down number by number.
+
+use crate::timetable::{Onward, Station, Stop, Timetable};
+
+/// Station, arrival, departure and ride penalty of a stop. No arrival counts at a trip's first stop, and neither of the
+/// others at its last.
+pub type Numbers = (u16, u16, u16, u16);
+
+/// A text of stations by change minutes and change penalty, and of trips by the numbers of each stop.
+pub fn text(stations: &[(u16, u16)], trips: &[&[Numbers]]) -> String {
+    let station = |&(change_minutes, change_penalty): &(u16, u16)| Station { change_minutes, change_penalty };
+    let stop = |stops: &[Numbers], place: usize| {
+        let (station, arrive, depart, penalty) = stops[place];
+        Stop {
+            station,
+            arrive: (place > 0).then_some(arrive),
+            onward: (place + 1 < stops.len()).then_some(Onward { depart, penalty }),
+        }
+    };
+    let trips = trips.iter().map(|stops| (0..stops.len()).map(|place| stop(stops, place)).collect()).collect();
+    Timetable { stations: stations.iter().map(station).collect(), trips }.to_string()
+}
+
+/// A trip of two stops.
+pub type Hop = [Numbers; 2];
+
+pub fn hop(from: u16, to: u16, depart: u16, arrive: u16, penalty: u16) -> Hop {
+    [(from, 0, depart, penalty), (to, arrive, 0, 0)]
+}
+
+/// As `text`, where all trips are of two stops.
+pub fn text_of_hops(stations: &[(u16, u16)], hops: &[Hop]) -> String {
+    text(stations, &hops.iter().map(|hop| &hop[..]).collect::<Vec<_>>())
+}
