@@ -6,23 +6,18 @@ use Rattle.checking.proofs.are_named.Reads as reads
 use Rattle.checking.proofs.are_named.Lts as lts
 use Rattle.checking.proofs.is_listed.Reads as is-listed-reads
 
--- src/lib.rt:90:9
 is-listed-requires : tie.Need-is-listed-requires
 is-listed-requires c κs = search needs
 
--- src/lib.rt:91:9
 returns : tie.Need-returns
 returns c = search first-unlisted
 
--- src/lib.rt:93:9
 is-listed-requires-2 : tie.Need-is-listed-requires-2
 is-listed-requires-2 c κs = search needs
 
--- src/lib.rt:94:9
 returns-2 : tie.Need-returns-2
 returns-2 c = search second-unlisted
 
--- src/lib.rt:86:1
 returns-3 : tie.Need-returns-3
 returns-3 c =
     let first = c .before .before .before in

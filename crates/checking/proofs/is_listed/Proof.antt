@@ -6,15 +6,12 @@ use Rattle.checking.proofs.is_listed.Reads as reads
 use Rattle.checking.proofs.is_listed.Lts as lts
 use Rattle.words.proofs.word.Reads as word-reads
 
--- src/lib.rt:80:9
 returns : tie.Need-returns
 returns c = search below-first
 
--- src/lib.rt:82:16
 word-requires : tie.Need-word-requires
 word-requires c κs = search needs
 
--- src/lib.rt:75:1
 returns-2 : tie.Need-returns-2
 returns-2 c = search as-listed
 

@@ -7,43 +7,33 @@ use Rattle.checking.proofs.query_number.Lts as lts
 use Rattle.checking.proofs.are_named.Reads as are-named-reads
 use Rattle.checking.proofs.tables_number.Reads as tables-number-reads
 
--- src/lib.rt:111:9
 tables-number-requires : tie.Need-tables-number-requires
 tables-number-requires c κs = search needs
 
--- src/lib.rt:113:9
 same-length : tie.Need-same-length
 same-length c = search needs
 
--- src/lib.rt:113:9
 returns : tie.Need-returns
 returns c = search tables-refused
 
--- src/lib.rt:115:9
 are-named-requires : tie.Need-are-named-requires
 are-named-requires c κs = search words-long
 
--- src/lib.rt:116:9
 same-length-2 : tie.Need-same-length-2
 same-length-2 c = search needs
 
--- src/lib.rt:116:9
 returns-2 : tie.Need-returns-2
 returns-2 c = search not-named
 
--- src/lib.rt:119:9
 same-length-3 : tie.Need-same-length-3
 same-length-3 c = search needs
 
--- src/lib.rt:119:9
 returns-3 : tie.Need-returns-3
 returns-3 c = search minute-late
 
--- src/lib.rt:100:1
 same-length-4 : tie.Need-same-length-4
 same-length-4 c = search needs
 
--- src/lib.rt:100:1
 returns-4 : tie.Need-returns-4
 returns-4 c = search all-asked
 

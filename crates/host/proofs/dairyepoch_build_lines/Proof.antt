@@ -7,23 +7,18 @@ use Rattle.host.proofs.dairyepoch_build_lines.Lts as lts
 use Rattle.host.proofs.pack_count.Reads as pack-count-reads
 use Rattle.tables.proofs.build.Reads as build-reads
 
--- src/lib.rt:77:16
 build-requires : tie.Need-build-requires
 build-requires c κs = search needs
 
--- src/lib.rt:77:5
 pack-count-requires : tie.Need-pack-count-requires
 pack-count-requires c κs = search needs
 
--- src/lib.rt:65:1
 same-length : tie.Need-same-length
 same-length c = search needs
 
--- src/lib.rt:65:1
 same-length-2 : tie.Need-same-length-2
 same-length-2 c = search needs
 
--- src/lib.rt:65:1
 returns : tie.Need-returns
 returns c = (search count-same, search needs)
 

@@ -7,23 +7,18 @@ use Rattle.host.proofs.dairyepoch_direct.Lts as lts
 use Rattle.direct.proofs.direct.Reads as direct-reads
 use Rattle.host.proofs.pack_count.Reads as pack-count-reads
 
--- src/lib.rt:124:16
 direct-requires : tie.Need-direct-requires
 direct-requires c κs = search needs
 
--- src/lib.rt:124:5
 pack-count-requires : tie.Need-pack-count-requires
 pack-count-requires c κs = search needs
 
--- src/lib.rt:94:1
 same-length : tie.Need-same-length
 same-length c = search needs
 
--- src/lib.rt:94:1
 same-length-2 : tie.Need-same-length-2
 same-length-2 c = search needs
 
--- src/lib.rt:94:1
 returns : tie.Need-returns
 returns c = (search count-same, search needs)
 

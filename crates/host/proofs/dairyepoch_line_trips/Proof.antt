@@ -7,27 +7,21 @@ use Rattle.host.proofs.dairyepoch_line_trips.Lts as lts
 use Rattle.alone.proofs.line_place.Reads as line-place-reads
 use Rattle.host.proofs.pack.Reads as pack-reads
 
--- src/lib.rt:144:9
 line-place-requires : tie.Need-line-place-requires
 line-place-requires c κs = search needs
 
--- src/lib.rt:145:24
 mul-pack : tie.Need-mul-pack
 mul-pack c = search needs
 
--- src/lib.rt:145:24
 add-pack : tie.Need-add-pack
 add-pack c = search needs
 
--- src/lib.rt:145:5
 pack-requires : tie.Need-pack-requires
 pack-requires c κs = search needs
 
--- src/lib.rt:140:1
 same-length : tie.Need-same-length
 same-length c = search needs
 
--- src/lib.rt:140:1
 returns : tie.Need-returns
 returns c = search place-packed
 

@@ -7,23 +7,18 @@ use Rattle.host.proofs.dairyepoch_query.Lts as lts
 use Rattle.asking.proofs.query.Reads as query-reads
 use Rattle.host.proofs.pack_count.Reads as pack-count-reads
 
--- src/lib.rt:212:16
 query-requires : tie.Need-query-requires
 query-requires c κs = search needs
 
--- src/lib.rt:212:5
 pack-count-requires : tie.Need-pack-count-requires
 pack-count-requires c κs = search needs
 
--- src/lib.rt:179:1
 same-length : tie.Need-same-length
 same-length c = search needs
 
--- src/lib.rt:179:1
 same-length-2 : tie.Need-same-length-2
 same-length-2 c = search needs
 
--- src/lib.rt:179:1
 returns : tie.Need-returns
 returns c = (search count-same, search needs)
 

@@ -6,27 +6,21 @@ use Rattle.host.proofs.pack_count.Reads as reads
 use Rattle.host.proofs.pack_count.Lts as lts
 use Rattle.host.proofs.pack.Reads as pack-reads
 
--- src/lib.rt:55:31
 enum-known-reply : tie.Need-enum-known-reply
 enum-known-reply c = search needs
 
--- src/lib.rt:56:13
 pack-requires : tie.Need-pack-requires
 pack-requires c κs = search needs
 
--- src/lib.rt:56:13
 returns : tie.Need-returns
 returns c = search count-done
 
--- src/lib.rt:58:34
 enum-known-reply-2 : tie.Need-enum-known-reply-2
 enum-known-reply-2 c = search needs
 
--- src/lib.rt:59:13
 pack-requires-2 : tie.Need-pack-requires-2
 pack-requires-2 c κs = search needs
 
--- src/lib.rt:59:13
 returns-2 : tie.Need-returns-2
 returns-2 c = search count-refused
 

@@ -7,19 +7,15 @@ use Rattle.lookup.proofs.arrive_at.Lts as lts
 use Rattle.lookup.proofs.peek.Reads as peek-reads
 use Rattle.lookup.proofs.times_place.Reads as times-place-reads
 
--- src/lib.rt:86:13
 times-place-requires : tie.Need-times-place-requires
 times-place-requires c κs = search needs
 
--- src/lib.rt:86:13
 add-peek : tie.Need-add-peek
 add-peek c = search needs
 
--- src/lib.rt:86:5
 peek-requires : tie.Need-peek-requires
 peek-requires c κs = search needs
 
--- src/lib.rt:82:1
 returns : tie.Need-returns
 returns c = (search arrives, search needs)
 

@@ -6,19 +6,15 @@ use Rattle.lookup.proofs.calls_place.Reads as reads
 use Rattle.lookup.proofs.calls_place.Lts as lts
 use Rattle.lookup.proofs.peek.Reads as peek-reads
 
--- src/lib.rt:93:13
 peek-requires : tie.Need-peek-requires
 peek-requires c κs = search needs
 
--- src/lib.rt:93:13
 add-peek : tie.Need-add-peek
 add-peek c = search needs
 
--- src/lib.rt:93:5
 peek-requires-2 : tie.Need-peek-requires-2
 peek-requires-2 c κs = search needs
 
--- src/lib.rt:89:1
 returns : tie.Need-returns
 returns c = (search begins, search needs)
 

@@ -7,23 +7,18 @@ use Rattle.lookup.proofs.depart_at.Lts as lts
 use Rattle.lookup.proofs.peek.Reads as peek-reads
 use Rattle.lookup.proofs.times_place.Reads as times-place-reads
 
--- src/lib.rt:94:13
 times-place-requires : tie.Need-times-place-requires
 times-place-requires c κs = search needs
 
--- src/lib.rt:94:13
 add-peek : tie.Need-add-peek
 add-peek c = search needs
 
--- src/lib.rt:94:13
 add-peek-2 : tie.Need-add-peek-2
 add-peek-2 c = search needs
 
--- src/lib.rt:94:5
 peek-requires : tie.Need-peek-requires
 peek-requires c κs = search needs
 
--- src/lib.rt:90:1
 returns : tie.Need-returns
 returns c = (search departs, search needs)
 

@@ -6,27 +6,21 @@ use Rattle.lookup.proofs.line_at.Reads as reads
 use Rattle.lookup.proofs.line_at.Lts as lts
 use Rattle.lookup.proofs.peek.Reads as peek-reads
 
--- src/lib.rt:38:22
 add-peek : tie.Need-add-peek
 add-peek c = search needs
 
--- src/lib.rt:38:9
 peek-requires : tie.Need-peek-requires
 peek-requires c κs = search needs
 
--- src/lib.rt:39:9
 peek-requires-2 : tie.Need-peek-requires-2
 peek-requires-2 c κs = search needs
 
--- src/lib.rt:40:25
 add-peek-2 : tie.Need-add-peek-2
 add-peek-2 c = search needs
 
--- src/lib.rt:40:9
 peek-requires-3 : tie.Need-peek-requires-3
 peek-requires-3 c κs = search needs
 
--- src/lib.rt:33:1
 returns : tie.Need-returns
 returns c = (search line-is, search needs)
 

@@ -6,19 +6,15 @@ use Rattle.lookup.proofs.number_at.Reads as reads
 use Rattle.lookup.proofs.number_at.Lts as lts
 use Rattle.lookup.proofs.peek.Reads as peek-reads
 
--- src/lib.rt:53:13
 add-peek : tie.Need-add-peek
 add-peek c = search needs
 
--- src/lib.rt:53:13
 add-peek-2 : tie.Need-add-peek-2
 add-peek-2 c = search needs
 
--- src/lib.rt:53:5
 peek-requires : tie.Need-peek-requires
 peek-requires c κs = search needs
 
--- src/lib.rt:49:1
 returns : tie.Need-returns
 unfolding numberAt
 returns c = c .peek .ensures

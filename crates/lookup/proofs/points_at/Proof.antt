@@ -6,31 +6,24 @@ use Rattle.lookup.proofs.points_at.Reads as reads
 use Rattle.lookup.proofs.points_at.Lts as lts
 use Rattle.lookup.proofs.peek.Reads as peek-reads
 
--- src/lib.rt:69:13
 add-peek : tie.Need-add-peek
 add-peek c = search needs
 
--- src/lib.rt:69:13
 add-peek-2 : tie.Need-add-peek-2
 add-peek-2 c = search needs
 
--- src/lib.rt:69:34
 mul-peek : tie.Need-mul-peek
 mul-peek c = search needs
 
--- src/lib.rt:69:13
 add-peek-3 : tie.Need-add-peek-3
 add-peek-3 c = search needs
 
--- src/lib.rt:69:13
 add-peek-4 : tie.Need-add-peek-4
 add-peek-4 c = search needs
 
--- src/lib.rt:69:5
 peek-requires : tie.Need-peek-requires
 peek-requires c κs = search needs
 
--- src/lib.rt:65:1
 returns : tie.Need-returns
 unfolding pointsAt
 returns c = c .peek .ensures

@@ -6,27 +6,21 @@ use Rattle.lookup.proofs.station_at.Reads as reads
 use Rattle.lookup.proofs.station_at.Lts as lts
 use Rattle.lookup.proofs.peek.Reads as peek-reads
 
--- src/lib.rt:61:13
 add-peek : tie.Need-add-peek
 add-peek c = search needs
 
--- src/lib.rt:61:13
 add-peek-2 : tie.Need-add-peek-2
 add-peek-2 c = search needs
 
--- src/lib.rt:61:34
 mul-peek : tie.Need-mul-peek
 mul-peek c = search needs
 
--- src/lib.rt:61:13
 add-peek-3 : tie.Need-add-peek-3
 add-peek-3 c = search needs
 
--- src/lib.rt:61:5
 peek-requires : tie.Need-peek-requires
 peek-requires c κs = search needs
 
--- src/lib.rt:57:1
 returns : tie.Need-returns
 unfolding stationAt
 returns c = c .peek .ensures

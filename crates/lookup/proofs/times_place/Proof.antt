@@ -7,44 +7,36 @@ use Rattle.lookup.proofs.times_place.Tie as tie
 use Rattle.lookup.proofs.times_place.Reads as reads
 use Rattle.lookup.proofs.times_place.Lts as lts
 
--- src/lib.rt:78:5
 add-result : tie.Need-add-result
 add-result c = search needs
 
--- src/lib.rt:78:5
 add-result-2 : tie.Need-add-result-2
 add-result-2 c = search needs
 
--- src/lib.rt:78:26
 mul-result : tie.Need-mul-result
 mul-result c = search needs
 
--- src/lib.rt:78:5
 add-result-3 : tie.Need-add-result-3
 add-result-3 c = search needs
 
--- src/lib.rt:78:49
 mul-result-2 : tie.Need-mul-result-2
 mul-result-2 c =
     let a = c .before .before .before .before in
     let h = product (a .args .p) (a .args .l .trips) (a .pre .3) (a .pre .2) in
     record { fits = omega arith }
 
--- src/lib.rt:78:44
 mul-result-3 : tie.Need-mul-result-3
 mul-result-3 c =
     let a = c .before .before .before .before in
     let h = product (a .args .p) (a .args .l .trips) (a .pre .3) (a .pre .2) in
     record { fits = omega arith }
 
--- src/lib.rt:78:5
 add-result-4 : tie.Need-add-result-4
 add-result-4 c =
     let a = c .before .before .before .before in
     let h = product (a .args .p) (a .args .l .trips) (a .pre .3) (a .pre .2) in
     record { fits = omega (arith, a .pre) }
 
--- src/lib.rt:74:1
 returns : tie.Need-returns
 returns c =
     let a = c .before .before .before .before in
