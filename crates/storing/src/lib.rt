@@ -19,7 +19,8 @@ ghost use Rattle.storing.specs.Hope.{Stationed, Family, Told, Stays, Sib
 ghost use Rattle.storing.specs.Seeking.{Down, Sought, Chunked};
 ghost use Rattle.storing.specs.Chunks.{SomeChunk, AllReached, Reached, Whole};
 ghost use Rattle.growing.specs.Tree.{stationIn, parentIn, Grown};
-ghost use Rattle.storing.specs.Storing.{sequences, storeReply, storeAfter};
+ghost use Rattle.storing.specs.Storing.{sequences, storeReply, storeValues, storeAfter};
+ghost use Rattle.replies.specs.Replies.{valuesOf};
 ghost use Rattle.storing.specs.Made.{madeReply, madeAfter};
 use growing::Counts;
 use replies::Reply;
@@ -1366,22 +1367,22 @@ fn make(words: &[u16], work: &mut [u32], source: usize, store: &mut [u16]) -> Re
     }
 }
 
-// The store of one source. Working space may hold any words afterwards.
-pub fn make_store(
+// The store of one source, if no question is in the way.
+fn store_asked(
     words: &[u16],
     lines: &[u16],
     work: &mut [u32],
     source: u32,
     store: &mut [u16],
 ) -> Reply
-    ensures reply { λ r. ⌜ r
+    ensures { λ r. ⌜ r
         ≡ storeReply
         (now (words .entry))
         (now (lines .entry))
         (length (now (work .entry)))
         source
         (length (now (store .entry))) ⌝ }
-    ensures words { λ _. ⌜ now (store .exit)
+    ensures { λ _. ⌜ now (store .exit)
         ≡ storeAfter
         (now (words .entry))
         (now (lines .entry))
@@ -1398,4 +1399,37 @@ pub fn make_store(
     }
     let space = &mut work[0..tables::WORDS_LEAST];
     make(words, space, source as usize, store)
+}
+
+// The store of one source. Working space may hold any words afterwards.
+pub fn make_store(
+    words: &[u16],
+    lines: &[u16],
+    work: &mut [u32],
+    source: u32,
+    store: &mut [u16],
+) -> Reply
+    ensures reply { λ r. ⌜ r
+        ≡ storeReply
+        (now (words .entry))
+        (now (lines .entry))
+        (length (now (work .entry)))
+        source
+        (length (now (store .entry))) ⌝ }
+    ensures values { λ r. ⌜ valuesOf r
+        ≡ storeValues
+        (now (words .entry))
+        (now (lines .entry))
+        (length (now (work .entry)))
+        source
+        (length (now (store .entry))) ⌝ }
+    ensures words { λ _. ⌜ now (store .exit)
+        ≡ storeAfter
+        (now (words .entry))
+        (now (lines .entry))
+        (length (now (work .entry)))
+        source
+        (now (store .entry)) ⌝ }
+{
+    store_asked(words, lines, work, source, store)
 }
