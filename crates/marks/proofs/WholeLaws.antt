@@ -18,7 +18,7 @@ use Rattle.marks.specs.Arrays.{fill, fall}
 use Rattle.marks.specs.Walks.{Visit, boarding, boardings, run, offer, rides, stepped, flag, endsWell}
 use Rattle.marks.specs.Walks.{changesWell}
 use Rattle.marks.specs.Held.{Departures, Changes}
-use Rattle.marks.specs.Stepping.{Steps, run-append, step-labelled}
+use Rattle.marks.specs.Stepping.{Steps, run-append, step-labelled, step-kept}
 use Rattle.marks.specs.Marking.{Marked, ArcsMarked, KidsMarked, arcs-marked, kids-marked}
 use Rattle.marks.specs.Paths.{changed, reached, Path, changed-none, changed-more, reached-none, reached-more}
 use Rattle.marks.specs.Paths.{boards-reached}
@@ -149,6 +149,9 @@ module _
           next = λ a d rev there-c labels.
               subst (Labelled w a d (e ∷ rev) e) (sym is-stepped)
               (step-labelled w ok caught changes c e apart x₀ long a d rev there-c labels);
+          kept = λ a d rev labels.
+              subst (Labelled w a d rev c) (sym is-stepped)
+              (step-kept w ok caught changes c e apart x₀ long a d rev labels);
         }
 
 -- ---- a path of changes

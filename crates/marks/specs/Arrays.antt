@@ -66,7 +66,7 @@ unfoldable pub fall : (low : ℕ) → List ℕ → List ℕ → List ℕ
 fall low [] x = x
 fall low (g ∷ l) x = fall (min low (getD x g 0)) l (set x g (min low (getD x g 0)))
 
-fall-out : (l : List ℕ) (low : ℕ) (x : List ℕ) (g : ℕ) → ¬ (g ∈ l) → getD (fall low l x) g 0 ≡ getD x g 0
+pub fall-out : (l : List ℕ) (low : ℕ) (x : List ℕ) (g : ℕ) → ¬ (g ∈ l) → getD (fall low l x) g 0 ≡ getD x g 0
 unfolding fall
 fall-out [] low x g h = refl
 fall-out (k ∷ l) low x g h =

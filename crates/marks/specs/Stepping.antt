@@ -20,7 +20,8 @@ use Rattle.stopwise.specs.LeastSettled.{arrived-behind}
 use Rattle.chains.specs.Order.{firstOr, waiting, catch}
 use Rattle.chains.specs.InOrderLaws.{caught-there}
 use Rattle.chains.specs.Parts.{waiting-in, waiting-out, waiting-behind, waiting-distinct}
-use Rattle.marks.specs.Arrays.{fill, fill-length, fill-in, fill-out, Within, fall, fall-top, fall-below, Behind}
+use Rattle.marks.specs.Arrays.{fill, fill-length, fill-in, fill-out, Within, fall, fall-out, fall-top, fall-below}
+use Rattle.marks.specs.Arrays.{Behind}
 use Rattle.marks.specs.Arrays.{behind-later, behind-in, From, fall-from, lower, lower-length, lower-other}
 use Rattle.marks.specs.Arrays.{lower-here}
 use Rattle.marks.specs.Walks.{Visit, visit, boarding, boardings, run, rootLabel, offer, rides, stepped}
@@ -28,9 +29,10 @@ use Rattle.marks.specs.Held.{Changes, goes-few}
 use Rattle.marks.specs.Reaching.{boardsAt, boarding-stops, boardings-arrived, boardings-least}
 
 -- from labels at station c to labels at station e: whatever the changes before were, if x has the labels at c behind
--- them, y has those at e behind them and a change at e
+-- them, y has those at e behind them and a change at e, and still those at c
 pub record Steps (w : List ℕ) (c e : ℕ) (x y : List ℕ) : Type 0 where
   pub next : (a d : ℕ) (rev : List ℕ) → boardsAt a rev ≡ c → Labelled w a d rev c x → Labelled w a d (e ∷ rev) e y
+  pub kept : (a d : ℕ) (rev : List ℕ) → Labelled w a d rev c x → Labelled w a d rev c y
 
 pub run-append : (act : Visit → List ℕ → List ℕ) (l m : List Visit) (s : List ℕ)
     → run act (l ++ m) s ≡ run act m (run act l s)
@@ -291,6 +293,14 @@ module _
         let k = offers-catch v g (boarding-stops w ok c x i from v m) goes o in
         apart (sym at ∙ k .here ∙ o .there-e))
 
+    rides-kept : (l x : List ℕ) → ((i : ℕ) → i ∈ l → Goes w i × (station w i ≡ c)) → (g : ℕ) → Goes w g
+        → station w g ≡ c → getD (rides w caught c e l x) g 0 ≡ getD x g 0
+    unfolding rides
+    rides-kept [] x h g goes at = refl
+    rides-kept (i ∷ l) x h g goes at =
+        rides-kept l (run (offer w caught c e) (boarding w c x i) x) (λ k m. h k (there m)) g goes at
+        ∙ ride-kept x i g (h i (here refl) .0) goes at
+
     -- all walks at once
     rides-run : (l x : List ℕ) → ((i : ℕ) → i ∈ l → Goes w i × (station w i ≡ c))
         → rides w caught c e l x ≡ run (offer w caught c e) (boardings w c x l) x
@@ -328,6 +338,19 @@ module _
       start-kept : (g : ℕ) → Goes w g → station w g ≡ c → getD start g 0 ≡ getD x₀ g 0
       start-kept g goes at =
           fill-out (λ g. unreached) (waiting w e) x₀ g (λ m. apart (sym at ∙ waiting-out w e g m .1))
+
+      -- only departures of e have got other labels
+      stepped-kept : (g : ℕ) → Goes w g → station w g ≡ c → getD (stepped w caught c e x₀) g 0 ≡ getD x₀ g 0
+      unfolding stepped
+      stepped-kept g goes at =
+          fall-out (waiting w e) unreached (rides w caught c e (waiting w c) start) g
+          (λ m. apart (sym at ∙ waiting-out w e g m .1))
+          ∙ rides-kept (waiting w c) start (λ i. waiting-out w c i) g goes at
+          ∙ start-kept g goes at
+
+      pub step-kept : (a d : ℕ) (rev : List ℕ) → Labelled w a d rev c x₀
+          → Labelled w a d rev c (stepped w caught c e x₀)
+      step-kept a d rev labels = labelled-same w a d rev c x₀ (stepped w caught c e x₀) stepped-kept labels
 
       within : Within (waiting w e) offered
       within = waiting-within w ok offered offered-long e

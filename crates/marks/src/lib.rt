@@ -240,7 +240,7 @@ fn settle(chain: &[u16], begin: usize, end: usize, x: &mut [u32])
     }
 }
 
-// From the labels at station c to those at station e, one change later.
+// From the labels at station c to those at station e, one change later; those at c stay.
 pub fn label_step(
     words: &[u16],
     chain: &[u16],

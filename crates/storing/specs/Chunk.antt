@@ -164,6 +164,30 @@ module _ (Told : (v b : ℕ) → Type 0) (lo : ℕ) (old : List ℕ) where
       let e : v ≡ hi = omega arith in
       subst (λ k. Raised Told lo k old new) e r
 
+-- the nodes from v on up to u as well, whatever the flags were when node lo was at hand
+pub record RaisedOn (Told : (v b : ℕ) → Type 0) (lo v u : ℕ) (old new : List ℕ) : Type 0 where
+  pub on : (first : List ℕ) → Raised Told lo v first old → Raised Told lo u first new
+
+module _ (Told : (v b : ℕ) → Type 0) (lo : ℕ) where
+  pub on-none : (v : ℕ) (old : List ℕ) → RaisedOn Told lo v v old old
+  on-none v old = record { on = λ first r. r }
+
+  pub on-more : (v u : ℕ) (old mid new : List ℕ) → lo ≤ u → RaisedOn Told lo v u old mid
+      → MarkedAt (Told u) lo u mid new → RaisedOn Told lo v (u + 1) old new
+  on-more v u old mid new low r m = record { on = λ first h. raised-more Told lo first u mid new low (r .on first h) m }
+
+  pub on-alone : (v : ℕ) (old new : List ℕ) → lo ≤ v → MarkedAt (Told v) lo v old new
+      → RaisedOn Told lo v (v + 1) old new
+  on-alone v old new low m = on-more v v old old new low (on-none v old) m
+
+  pub on-then : (v u t : ℕ) (old mid new : List ℕ) → RaisedOn Told lo v u old mid → RaisedOn Told lo u t mid new
+      → RaisedOn Told lo v t old new
+  on-then v u t old mid new r m = record { on = λ first h. m .on first (r .on first h) }
+
+  pub on-all : (v u : ℕ) (first old new : List ℕ) → Raised Told lo v first old → RaisedOn Told lo v u old new
+      → Raised Told lo u first new
+  on-all v u first old new r m = m .on first r
+
 -- ---- the flags that are up are exactly those told
 pub record Shown (Told : (v b : ℕ) → Type 0) (lo hi : ℕ) (flags : List ℕ) : Type 0 where
   pub here : (v b : ℕ) → lo ≤ v → v < hi → 1 ≤ b → b ≤ 64 → (getD flags (64 * (v - lo) + (b - 1)) 0 ≡ 1) ↔ Told v b

@@ -9,3 +9,4 @@ pub mod Standing
 pub mod Chunk
 pub mod Seeking
 pub mod Chunks
+pub mod Hope

@@ -81,7 +81,7 @@ abbrev pub KidsAt : (w : List ℕ) (a d v b : ℕ) → Type 0
 KidsAt w a d v b = KidAt w a d (nodeAt (sequences w a) v) b
 
 -- the last of the stations, or the source
-boards-final : (a : ℕ) (q l : List ℕ) → boardsAt a (reverseAux q l) ≡ final (boardsAt a l ∷ q)
+pub boards-final : (a : ℕ) (q l : List ℕ) → boardsAt a (reverseAux q l) ≡ final (boardsAt a l ∷ q)
 boards-final a [] l = refl
 boards-final a (y ∷ q) l = boards-final a q (y ∷ l)
 
@@ -105,7 +105,7 @@ module _ (w : List ℕ) (yes : isTimetable w ≡ true) (a : ℕ) (some : 1 ≤ a
   abbrev node : List ℕ
   node = nodeAt (sequences w a) v
 
-  named : (u : ℕ) → u ≤ s .n → Sequenced w a (nodeAt (sequences w a) u)
+  pub named : (u : ℕ) → u ≤ s .n → Sequenced w a (nodeAt (sequences w a) u)
   named u h =
       sequenced w yes a some inside u
       (grown-listed (sequences w a) (stationCount w) (made w yes a some inside) a work (s .targets) (s .n) (s .m)

@@ -1,5 +1,6 @@
 -- What the store call answers and writes. Document 01: "One store per source, in 16-bit words."; "A store call returns
 -- its words, 2 + 2n + 2m"; "Is the answer or store slice long enough, and for a store are n and m at most 16,383? 15".
+use mathlib.Core.Path.{_≡_}
 use mathlib.Core.Bool.{Bool, _&&_}
 use mathlib.Core.List.{List, [], _∷_, _++_}
 use Prim.Native.Nat.{ℕ}
@@ -7,7 +8,7 @@ use lib.Dec.{leb}
 use lib.ListN.{length}
 use Rattle.questions.specs.Question.{ask, firstNo}
 use Rattle.replies.specs.declared.Reply.{Reply}
-use Rattle.replies.specs.Replies.{replyOf, wordsAfter}
+use Rattle.replies.specs.Replies.{replyOf, valuesOf, valuesFor, reply-values, wordsAfter}
 use Rattle.timetable.specs.Words.{timetableOf}
 use Rattle.connections.specs.Connections.{net}
 use Rattle.stores.specs.Stored.{stored}
@@ -37,6 +38,15 @@ storeNumber w v n a m =
 
 unfoldable pub storeReply : (w v : List ℕ) (n a m : ℕ) → Reply
 storeReply w v n a m = replyOf (storeNumber w v n a m) (length (storeOf w a))
+
+-- its number and count
+unfoldable pub storeValues : (w v : List ℕ) (n a m : ℕ) → List ℕ
+storeValues w v n a m = valuesFor (storeNumber w v n a m) (length (storeOf w a))
+
+pub store-values : (w v : List ℕ) (n a m : ℕ) (r : Reply) → r ≡ storeReply w v n a m
+    → valuesOf r ≡ storeValues w v n a m
+unfolding storeReply storeValues
+store-values w v n a m r e = reply-values (storeNumber w v n a m) (length (storeOf w a)) r e
 
 -- the words of the store slice after the call
 unfoldable pub storeAfter : (w v : List ℕ) (n a : ℕ) (old : List ℕ) → List ℕ

@@ -1,6 +1,6 @@
 -- The marks of the labels are those of the node.
-use borrow.Author.Needs.{needs}
 use Rattle.storing.specs.Standing.{arcs-at, kids-at}
+use borrow.Author.Needs.{needs}
 use Rattle.storing.proofs.mark_node.Statement.{statement}
 use Rattle.storing.proofs.mark_node.Tie as tie
 
@@ -14,7 +14,15 @@ mark-requires c κs = (
 )
 
 returns : tie.Need-returns
-returns c = (search arcs-at, search kids-at, search needs, search needs, search needs)
+returns c = (
+  search arcs-at,
+  search kids-at,
+  search needs,
+  search needs,
+  search needs,
+  search needs,
+  search needs,
+)
 
 pub mark-node-spec : {M : Type 1} → statement M
 mark-node-spec =

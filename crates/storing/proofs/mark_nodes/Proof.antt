@@ -2,9 +2,9 @@
 use mathlib.Core.Path.{_≡_}
 use Prim.Native.Nat.{_≤_, _-_}
 use lib.ListN.{length}
+use Rattle.storing.specs.Standing.{ArcsAt, KidsAt}
+use Rattle.storing.specs.Chunk.{Raised, raised-none, on-all, raised-all}
 use borrow.Author.Needs.{needs}
-use Rattle.storing.specs.Standing.{ArcsAt, KidsAt, standing}
-use Rattle.storing.specs.Chunk.{Raised, raised-none, raised-more, raised-all}
 use Rattle.storing.proofs.mark_nodes.Statement.{statement}
 use Rattle.storing.proofs.mark_nodes.Tie as tie
 
@@ -19,7 +19,8 @@ Inv-loop words chain first catch work lo hi source d allowed q x₀ arcs₀ kids
     × Raised (KidsAt words source d) lo node kids₀ kids
 
 abbrev μ-loop : tie.MeasureT-loop
-μ-loop words chain first catch work lo hi source d allowed q x₀ arcs₀ kids₀ node₀ x arcs kids node = hi - node
+μ-loop words chain first catch work lo hi source d allowed q x₀ arcs₀ kids₀ node₀ x arcs kids node =
+    hi - node
 
 loop-holds : tie.Need-loop-holds Inv-loop μ-loop
 loop-holds c = (
@@ -32,15 +33,16 @@ loop-holds c = (
   search raised-none,
 )
 
-mark-at-requires : tie.Need-mark-at-requires Inv-loop μ-loop
-mark-at-requires c κs = (
+mark-family-requires : tie.Need-mark-family-requires Inv-loop μ-loop
+mark-family-requires c κs = (
   search needs,
   search needs,
   search needs,
   search needs,
   search needs,
   search needs,
-  search standing,
+  search needs,
+  search needs,
   search needs,
   search needs,
   search needs,
@@ -58,8 +60,8 @@ loop-again c = (
   search needs,
   search needs,
   search needs,
-  search raised-more,
-  search raised-more,
+  search on-all,
+  search on-all,
 )
 
 returns : tie.Need-returns Inv-loop μ-loop
@@ -72,8 +74,7 @@ mark-nodes-spec =
     Inv-loop
     μ-loop
     loop-holds
-    mark-at-requires
-    (λ c. search needs)
+    mark-family-requires
     (λ c. search needs)
     loop-again
     (λ c. search needs)
