@@ -6,22 +6,16 @@ use native.Mathlib.Numerals.{add-one}
 use native.Mathlib.Omega.{arith}
 use lib.ListN.{length, getD, set}
 use Rattle.timetable.specs.Timetable.{Stop}
-use Rattle.timetable.specs.Words.{stationCount, stopAt}
+use Rattle.timetable.specs.Words.{stopAt}
 use Rattle.stopwise.specs.Stopwise.{station, depart, changePoints, unreached}
 use Rattle.penalties.specs.Lowered.{lowered, boarding}
-use Rattle.penalties.specs.Swept.{Quiet, Turned}
-use Rattle.penalties.specs.Riding.{Departing, idle, unboarded, boarded, from-earlier}
+use Rattle.penalties.specs.Swept.{Turned}
+use Rattle.penalties.specs.Riding.{Departing, unboarded, boarded}
 
 module _ (w caught : List ℕ) (i : ℕ) (v q : List ℕ) (r : Departing w caught i v q) where
   -- ---- the places of the slices, and the sums
-  pub few : stationCount w ≤ 64
-  few = r .few
-
   pub read-at : (l : List ℕ) → 2048 ≤ length l → i < length l
   read-at l h = omega (arith, r .timely .few i (r .goes), r .timely .stops)
-
-  pub stop-few : i < 2048
-  stop-few = omega (arith, r .timely .few i (r .goes), r .timely .stops)
 
   pub next-few : i + 1 < 2048
   next-few = omega (arith, r .timely .few i (r .goes), r .timely .stops)
@@ -87,14 +81,3 @@ module _ (w caught : List ℕ) (i : ℕ) (v q : List ℕ) (r : Departing w caugh
             long
             (rw (stop, add-one i) at rode)
             (rw (stop, add-one i, r .catches) at offered))
-
-    -- ---- with the minute
-    module _ (a d : ℕ) (low : List ℕ) where
-      pub skipped : (depart w i < d → Quiet w i v q low) → s .depart < d → Turned w a d i v q low v q low
-      skipped quiet h =
-          let early : depart w i < d = rw stop at h in
-          idle w caught a d i v q low r (quiet early) early
-
-      pub taken : d ≤ s .depart → (v′ q′ low′ : List ℕ) → Turned w a (s .depart) i v q low v′ q′ low′
-          → Turned w a d i v q low v′ q′ low′
-      taken on v′ q′ low′ t = from-earlier (rw stop at on) (rw stop at t)

@@ -1,18 +1,21 @@
 -- One turn of the pass: departure i stands at place x of the order.
 use mathlib.Core.Path.{_≡_, sym, ap, subst, _∙_}
 use mathlib.Core.List.{List, [], _∷_, _++_}
-use Prim.Native.Nat.{ℕ, suc, _+_, _<_}
+use Prim.Native.Nat.{ℕ, suc, _+_, _≤_, _<_}
 use native.Mathlib.Numerals.{add-one}
 use native.Mathlib.Omega.{arith}
 use lib.ListN.{length, getD, take, drop, length-take}
 use lib.Seq.{getD-take, split-at, take-suc}
+use Rattle.timetable.specs.Timetable.{Stop}
+use Rattle.timetable.specs.Words.{stationCount, stopAt}
 use Rattle.timetable.specs.Access.{stations-few}
-use Rattle.stopwise.specs.Stopwise.{depart, Goes}
-use Rattle.penalties.specs.Swept.{Quiet, Swept, Turned}
+use Rattle.stopwise.specs.Stopwise.{Goes}
+use Rattle.chains.specs.Rising.{minuteAt}
+use Rattle.penalties.specs.Swept.{Swept, Turned}
 use Rattle.penalties.specs.Split.{Place, goes-now}
 use Rattle.penalties.specs.Turning.{turned}
-use Rattle.penalties.specs.Underway.{not-yet, quiet}
-use Rattle.penalties.specs.Riding.{Departing}
+use Rattle.penalties.specs.Underway.{not-yet}
+use Rattle.penalties.specs.Riding.{Departing, from-earlier}
 use Rattle.penalties.specs.Arranged.{Arranged, departures}
 
 -- the order of departures stands in the slice
@@ -48,6 +51,12 @@ module _
     goes : Goes w i
     goes = goes-now place
 
+    pub few : stationCount w ≤ 64
+    few = stations-few w (arranged .timetable)
+
+    pub stop-few : i < 2048
+    stop-few = omega (arith, arranged .timely .few i goes, arranged .timely .stops)
+
     -- ---- one departure more
     module _ (a d : ℕ) (v q low : List ℕ) (so-far : Swept w a d (take x (departures w)) v q low) where
       pub departing : Departing w caught i v q
@@ -61,14 +70,13 @@ module _
             most = so-far .q-most;
           }
 
-      pub early : depart w i < d → Quiet w i v q low
-      early h = quiet place so-far h
-
-      pub once : (v′ q′ low′ : List ℕ) → Turned w a d i v q low v′ q′ low′
+      pub once : (s : Stop) (v′ q′ low′ : List ℕ) → s ≡ stopAt w i → d ≤ minuteAt w deps x
+          → Turned w a (s .depart) i v q low v′ q′ low′
           → Swept w a d (take (x + 1) (departures w)) v′ q′ low′
-      once v′ q′ low′ t =
+      once s v′ q′ low′ stop on t =
           let more : take x (departures w) ++ (i ∷ []) ≡ take (x + 1) (departures w) =
           ap (λ k. take x (departures w) ++ (k ∷ [])) here
           ∙ sym (take-suc (departures w) x 0 in-order)
           ∙ ap (λ k. take k (departures w)) (sym (add-one x)) in
-          subst (λ l. Swept w a d l v′ q′ low′) more (turned place so-far t)
+          subst (λ l. Swept w a d l v′ q′ low′) more
+          (turned place so-far (from-earlier (rw (← is) at on) (rw stop at t)))

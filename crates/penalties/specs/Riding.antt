@@ -13,7 +13,7 @@ use Rattle.stopwise.specs.Stopwise.{station, depart, points, changePoints, unre
 use Rattle.stopwise.specs.Settled.{Timely}
 use Rattle.chains.specs.Order.{catch}
 use Rattle.penalties.specs.Lowered.{lowered, lowered-here, lowered-else, boarding, boards-free, boards-least}
-use Rattle.penalties.specs.Swept.{Quiet, Boards, Turned}
+use Rattle.penalties.specs.Swept.{Boards, Turned}
 
 -- where the ride begins: no one has arrived by it
 pub record Departing (w caught : List ℕ) (i : ℕ) (v q : List ℕ) : Type 0 where
@@ -26,27 +26,6 @@ pub record Departing (w caught : List ℕ) (i : ℕ) (v q : List ℕ) : Type 0 w
 
 min-cases : {b : ℕ} (x y : ℕ) → b ≡ min x y → (b ≡ x) ⊎ (b ≡ y)
 min-cases x y e = elim (decLe x y) [ yes h ↦ inl (omega arith) | no h ↦ inr (omega arith) ]
-
--- a departure before minute d, when no one is there: nothing changes
-pub idle : (w caught : List ℕ) (a d i : ℕ) (v q low : List ℕ) → Departing w caught i v q → Quiet w i v q low
-    → depart w i < d → Turned w a d i v q low v q low
-idle w caught a d i v q low r none h =
-    record {
-      b = unreached;
-      boards =
-          record {
-            at-start = λ e g. absurd (omega arith);
-            by-staying = omega (arith, none .aboard);
-            by-changing = omega (arith, none .waiting);
-            attained = λ g. absurd (omega arith);
-          };
-      low-here = omega (arith, none .waiting, none .catching);
-      low-else = λ c e. refl;
-      v-here = omega (arith, r .fresh);
-      v-else = λ j e. refl;
-      q-here = omega (arith, r .fresh, r .most (catch w (suc i)));
-      q-else = λ f e. refl;
-    }
 
 module _
     (w caught : List ℕ)

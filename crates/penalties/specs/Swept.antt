@@ -54,12 +54,6 @@ pub record Swept (w : List ℕ) (a d : ℕ) (done v q low : List ℕ) : Type 0 w
   pub attained : (i : ℕ) → i ∈ done → getD v (suc i) 0 < unreached
       → FromStart w a d v i ⊎ (FromStop w a d v i ⊎ FromChange w a d v i)
 
--- no one has arrived at stop i, has caught the departure there, or waits for it
-pub record Quiet (w : List ℕ) (i : ℕ) (v q low : List ℕ) : Type 0 where
-  pub aboard : getD v i 0 ≡ unreached
-  pub catching : getD q i 0 ≡ unreached
-  pub waiting : getD low (station w i) 0 ≡ unreached
-
 module _ (w : List ℕ) (a d i : ℕ) where
   -- b is the least that one has paid who boards at stop i
   pub record Boards (v low : List ℕ) (b : ℕ) : Type 0 where

@@ -1,5 +1,4 @@
--- Whoever is on the way left no earlier than minute d, and no later than the departure at hand. So at a departure
--- before d there is no one.
+-- Whoever is on the way left no earlier than minute d, and no later than the departure at hand.
 use mathlib.Core.Path.{_≡_, subst}
 use mathlib.Core.List.{List}
 use Prim.Native.Nat.{ℕ, suc, _≤_, _<_}
@@ -8,9 +7,9 @@ use native.Mathlib.Omega.{arith}
 use native.Mathlib.Decide.{decLt}
 use lib.ListN.{getD}
 use Rattle.lists.specs.Lists.{_∈_}
-use Rattle.stopwise.specs.Stopwise.{station, depart, unreached}
-use Rattle.penalties.specs.Swept.{Swept, Quiet}
-use Rattle.penalties.specs.Split.{Place, goes-now, goes-done, stop-few, stop-most, station-few, fresh, earlier}
+use Rattle.stopwise.specs.Stopwise.{depart, unreached}
+use Rattle.penalties.specs.Swept.{Swept}
+use Rattle.penalties.specs.Split.{Place, goes-now, stop-most, fresh, earlier}
 
 -- what is not less is the most
 at-most : (x : ℕ) → x ≤ unreached → ¬ (x < unreached) → x ≡ unreached
@@ -30,9 +29,6 @@ module _
         let r = s .reached j h g in
         omega (arith, r .timely, earlier p (r .k) (r .gone))
 
-    arrived : (k : ℕ) → k ∈ done → getD v (suc k) 0 < unreached → d ≤ depart w i
-    arrived k m h = on-the-way (suc k) (stop-most p k (goes-done p k m)) h
-
     -- no one has arrived by the ride that begins at i
     pub not-yet : getD v (suc i) 0 ≡ unreached
     not-yet = at-most (getD v (suc i) 0) (s .v-most (suc i)) none
@@ -41,22 +37,3 @@ module _
         none h =
             let r = s .reached (suc i) (stop-most p i (goes-now p)) h in
             fresh p (subst (λ k. k ∈ done) (suc-inj (r .next)) (r .gone))
-
-    -- before d there is no one
-    pub quiet : depart w i < d → Quiet w i v q low
-    quiet early =
-        record {
-          aboard = at-most (getD v i 0) (s .v-most i) (λ h. omega (arith, on-the-way i (stop-few p) h));
-          catching = at-most (getD q i 0) (s .q-most i) catching;
-          waiting = at-most (getD low (station w i) 0) (s .low-most (station w i)) waiting;
-        }
-      where
-        catching : ¬ (getD q i 0 < unreached)
-        catching h =
-            let r = s .offered i (stop-few p) h in
-            omega (arith, arrived (r .k) (r .gone) (omega (arith, r .is)))
-
-        waiting : ¬ (getD low (station w i) 0 < unreached)
-        waiting h =
-            let r = s .waited (station w i) (station-few p) h in
-            omega (arith, arrived (r .k) (r .gone) (omega (arith, r .is)))

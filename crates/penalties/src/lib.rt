@@ -1,12 +1,14 @@
 // The least penalties on arrival at each stop, for a start at one station from one minute on: one pass over the
 // departures in their order.
 ghost use mathlib.Core.Path.{_≡_};
-ghost use Prim.Native.Nat.{suc, _+_, _≤_, _<_, min};
-ghost use lib.ListN.{length, getD, set, take, replicate};
+ghost use Prim.Native.Nat.{_+_, _≤_, _<_, min};
+ghost use lib.ListN.{length, getD, set, take};
 ghost use Rattle.timetable.specs.Words.{stationCount, stopAt};
-ghost use Rattle.stopwise.specs.Stopwise.{unreached, station, depart, changePoints};
+ghost use Rattle.stopwise.specs.Stopwise.{unreached, station, changePoints};
 ghost use Rattle.stopwise.specs.Settled.{Settled};
-ghost use Rattle.penalties.specs.Swept.{Quiet, Swept, Turned};
+ghost use Rattle.chains.specs.Rising.{minuteAt, Early, InTime};
+ghost use Rattle.penalties.specs.Swept.{Swept, Turned};
+ghost use Rattle.penalties.specs.Sweeping.{Blank};
 ghost use Rattle.penalties.specs.Riding.{Departing};
 ghost use Rattle.penalties.specs.Lowered.{lowered, boarding};
 ghost use Rattle.penalties.specs.Arranged.{Arranged, departures};
@@ -40,7 +42,8 @@ fn lower(a: &mut [u32], k: usize, x: u32)
 
 // All words become unreached.
 fn fill(a: &mut [u32])
-    ensures { λ _. ⌜ now (a .exit) ≡ replicate (length (now (a .entry))) unreached ⌝ }
+    requires { ⌜ 2048 ≤ length (now a) ⌝ }
+    ensures { λ _. ⌜ Blank 2048 (now (a .exit)) ⌝ }
     ensures { λ _. ⌜ length (now (a .exit)) ≡ length (now (a .entry)) ⌝ }
 {
     let n = a.len();
@@ -142,44 +145,7 @@ fn ride(
     arrive(words, catches, i + 1, b + s.points, v, q);
 }
 
-// Departure i. Before minute d there is no one.
-fn depart(
-    words: &[u16],
-    catches: &[u16],
-    source: usize,
-    d: usize,
-    i: usize,
-    v: &mut [u32],
-    q: &mut [u32],
-    low: &mut [u32],
-)
-    requires { ⌜ (16384 ≤ length (now words)) × (2048 ≤ length (now catches)) ⌝ }
-    requires { ⌜ (2048 ≤ length (now v)) × (2048 ≤ length (now q)) × (length (now low) ≡ 65) ⌝ }
-    requires { ⌜ Departing (now words) (now catches) i (now v) (now q) ⌝ }
-    requires { ⌜ (depart (now words) i < d → Quiet (now words) i (now v) (now q) (now low)) ⌝ }
-    ensures { λ _. ⌜ Turned
-        (now (words .entry))
-        source
-        d
-        i
-        (now (v .entry))
-        (now (q .entry))
-        (now (low .entry))
-        (now (v .exit))
-        (now (q .exit))
-        (now (low .exit)) ⌝ }
-    ensures { λ _. ⌜ (length (now (v .exit)) ≡ length (now (v .entry)))
-        × (length (now (q .exit)) ≡ length (now (q .entry)))
-        × (length (now (low .exit)) ≡ length (now (low .entry))) ⌝ }
-{
-    let s = timetable::stop_at(words, i);
-    if (s.depart as usize) < d {
-        return;
-    }
-    ride(words, catches, source, i, s, v, q, low);
-}
-
-// The departure at place x of the order.
+// The departure at place x of the order, at minute d or later.
 fn turn(
     words: &[u16],
     order: &[u16],
@@ -194,6 +160,7 @@ fn turn(
     requires { ⌜ (16384 ≤ length (now words)) × (2048 ≤ length (now catches)) ⌝ }
     requires { ⌜ (2048 ≤ length (now v)) × (2048 ≤ length (now q)) × (length (now low) ≡ 65) ⌝ }
     requires { ⌜ (x < length (departures (now words))) × Arranged (now words) (now order) (now catches) ⌝ }
+    requires { ⌜ (d ≤ minuteAt (now words) (now order) x) ⌝ }
     requires { ⌜ Swept (now words) source d (take x (departures (now words))) (now v) (now q) (now low) ⌝ }
     ensures { λ _. ⌜ Swept
         (now (words .entry))
@@ -208,7 +175,40 @@ fn turn(
         × (length (now (low .exit)) ≡ length (now (low .entry))) ⌝ }
 {
     let i = words::word(order, x) as usize;
-    depart(words, catches, source, d, i, v, q, low);
+    let s = timetable::stop_at(words, i);
+    ride(words, catches, source, i, s, v, q, low);
+}
+
+// The departures from place begin of the order on, all of them at minute d or later. v, q and low are blank.
+fn sweep(
+    words: &[u16],
+    order: &[u16],
+    n: usize,
+    begin: usize,
+    catches: &[u16],
+    source: usize,
+    d: usize,
+    v: &mut [u32],
+    q: &mut [u32],
+    low: &mut [u32],
+)
+    requires { ⌜ (16384 ≤ length (now words)) × (2048 ≤ length (now catches)) ⌝ }
+    requires { ⌜ (2048 ≤ length (now v)) × (2048 ≤ length (now q)) × (length (now low) ≡ 65) ⌝ }
+    requires { ⌜ (n ≡ length (departures (now words))) × Arranged (now words) (now order) (now catches) ⌝ }
+    requires { ⌜ (begin ≤ n)
+        × Early (now words) (now order) d 0 begin
+        × InTime (now words) (now order) d begin n ⌝ }
+    requires { ⌜ Blank 2048 (now v) × Blank 2048 (now q) × Blank 65 (now low) ⌝ }
+    ensures { λ _. ⌜ Settled (now (words .entry)) source d (now (v .exit)) ⌝ }
+    ensures { λ _. ⌜ (length (now (v .exit)) ≡ length (now (v .entry)))
+        × (length (now (q .exit)) ≡ length (now (q .entry)))
+        × (length (now (low .exit)) ≡ length (now (low .entry))) ⌝ }
+{
+    let mut x = begin;
+    while x < n {
+        turn(words, order, catches, source, d, x, v, q, low);
+        x += 1;
+    }
 }
 
 // v gets the least penalties on arrival, for a start at the source from minute d on; q is working space. The first n
@@ -233,9 +233,7 @@ pub fn least_penalties(
     fill(v);
     fill(q);
     let mut low = [UNREACHED; 65];
-    let mut x = 0;
-    while x < n {
-        turn(words, order, catches, source, d, x, v, q, &mut low);
-        x += 1;
-    }
+    // Before minute d there is no one: those departures stand in front, and are left out.
+    let begin = chains::first_from(words, order, 0, n, d);
+    sweep(words, order, n, begin, catches, source, d, v, q, &mut low);
 }

@@ -12,14 +12,15 @@ use Rattle.timetable.specs.Timetable.{Station, Stop}
 use Rattle.timetable.specs.Words.{stationCount, stationAt, stopAt}
 use Rattle.timetable.specs.Access.{stations-few}
 use Rattle.chains.specs.Order.{order, catch}
-use Rattle.stopwise.specs.Stopwise.{station, depart, points, changePoints, nowhere, Goes}
+use Rattle.chains.specs.Rising.{minuteAt, Rising, Early, InTime, departures-rise, departures-early}
+use Rattle.stopwise.specs.Stopwise.{station, points, changePoints, nowhere, Goes}
 use Rattle.prospects.specs.Passed.{
   Limits,
   Passed,
   ontoBound,
   leaveBound,
   passed-none,
-  passed-early,
+  passed-front,
   passed-more,
   passed-all,
   passed-bounded,
@@ -63,6 +64,20 @@ unfolding leaveBound
 leave-is w first e q leaving i a b c r s is-a is-b is-c is-s is-r =
     rw (is-r, is-s, is-c, is-a, is-b, add-one i)
 
+-- ---- the departures
+module _ (w departures first : List ℕ) (n : ℕ) (r : Routes w departures n first) where
+  pub words-long : 16384 ≤ length w
+  words-long = r .long
+
+  pub stations-most : stationCount w ≤ 64
+  stations-most = stations-few w (r .accepted)
+
+  pub order-within : n ≤ length departures
+  order-within = r .within
+
+  pub order-rises : Rising w departures 0 n
+  order-rises = departures-rise w departures n (r .departing) (r .within) (r .timely)
+
 -- ---- a turn of the pass
 module _
     (w departures first : List ℕ)
@@ -87,12 +102,6 @@ module _
 
     goes : Goes w i
     goes = r .ordered .goes i (subst (λ l. i ∈ l) (sym parts) (Memᴰ·append-right (take p (order w)) (here refl)))
-
-    pub words-long : 16384 ≤ length w
-    words-long = r .long
-
-    pub stations-most : stationCount w ≤ 64
-    stations-most = stations-few w (r .accepted)
 
     pub stop-within : i < 2048
     stop-within = omega (arith, r .timely .few i goes, r .timely .stops)
@@ -121,19 +130,12 @@ module _
 
     module _ (s : Stop) (is-s : s ≡ stopAt w i) where
       pub inside-high : (high : List ℕ) → length high ≡ 65 → s .station < length high
-      inside-high high long = rw is-s (omega (arith, r .timely .listed i goes, stations-most))
+      inside-high high long = rw is-s (omega (arith, r .timely .listed i goes, stations-few w (r .accepted)))
 
       module _ (e q leaving high : List ℕ) (d : ℕ)
           (known : Passed w e d (drop (p + 1) (order w)) q leaving high) where
-        pub pass-early : s .depart < d → Passed w e d (drop p (order w)) q leaving high
-        pass-early h =
-            subst
-            (λ l. Passed w e d l q leaving high)
-            (sym left)
-            (passed-early w e d (drop (p + 1) (order w)) q leaving high i (rw is-s at h) known)
-
         pub pass-more : (b h : ℕ) → b ≡ leaveBound w first e q leaving i → h ≡ max (getD high (s .station) 0) b
-            → d ≤ s .depart → length q ≡ 2048 → length leaving ≡ 2048 → length high ≡ 65
+            → d ≤ minuteAt w departures p → length q ≡ 2048 → length leaving ≡ 2048 → length high ≡ 65
             → Passed w e d (drop p (order w)) (set q i h) (set leaving i b) (set high (s .station) h)
         pass-more b h is-b is-h timely long-q long-leaving long-high =
             subst
@@ -144,8 +146,8 @@ module _
             Passed w e d (i ∷ drop (p + 1) (order w)) (set q i h) (set leaving i b) (set high (z .station) h))
             (sym is-s)
             (passed-more w e first d (r .timely) (r .ordered) (r .caught) (take p (order w)) (drop (p + 1) (order w)) q
-            leaving high i parts known (rw is-s at timely) b h is-b (rw is-s at is-h) long-q long-leaving long-high
-            stations-most))
+            leaving high i parts known (rw (← is-i) at timely) b h is-b (rw is-s at is-h) long-q long-leaving
+            long-high (stations-few w (r .accepted))))
 
 -- ---- the pass
 module _ (w departures first : List ℕ) (n : ℕ) (r : Routes w departures n first) (e : List ℕ) (d : ℕ) where
@@ -159,21 +161,35 @@ module _ (w departures first : List ℕ) (n : ℕ) (r : Routes w departures n fi
       subst (λ l. Passed w e d l q leaving (replicate 65 0)) (sym none)
       (passed-none w e d q leaving (replicate 65 0) (zero-each leaving (length old) same zeros) (zero-replicate 65))
 
-  pub pass-next : (q leaving high : List ℕ) (p : ℕ) → 0 < p → Passed w e d (drop p (order w)) q leaving high
-      → Passed w e d (drop (p - 1 + 1) (order w)) q leaving high
-  pass-next q leaving high p h k =
-      let back : p ≡ p - 1 + 1 = omega arith in
-      subst (λ m. Passed w e d (drop m (order w)) q leaving high) back k
-
-  module _ (q leaving high : List ℕ) (p : ℕ) (done : p ≤ 0)
-      (k : Passed w e d (drop p (order w)) q leaving high) where
+  -- those in front leave too early
+  module _ (q leaving high : List ℕ) (begin : ℕ) (within : begin ≤ n) (early : Early w departures d 0 begin)
+      (k : Passed w e d (drop begin (order w)) q leaving high) where
     all : Passed w e d (order w) q leaving high
     all =
-        let none : p ≡ 0 = omega arith in
-        subst (λ m. Passed w e d (drop m (order w)) q leaving high) none k
+        subst (λ l. Passed w e d l q leaving high) (take-append-drop begin (order w))
+        (passed-front w e d (take begin (order w)) (drop begin (order w)) q leaving high
+        (departures-early w departures n (r .departing) d begin within early)
+        k)
 
     pub passes-all : Limits w e d leaving
     passes-all = passed-all w e first d (r .timely) (r .ordered) (r .caught) q leaving high all
 
     pub passes-bounded : Bounded w e d first q
     passes-bounded = passed-bounded w e first d (r .timely) (r .ordered) (r .caught) q leaving high all
+
+-- one place after the other, the last first
+module _ (w e : List ℕ) (d begin p : ℕ) where
+  pub pass-timely : (departures : List ℕ) (n : ℕ) → InTime w departures d begin n → begin < p → p ≤ n
+      → d ≤ minuteAt w departures (p - 1)
+  pass-timely departures n late h g = late .each (p - 1) (omega arith) (omega arith)
+
+  module _ (q leaving high : List ℕ) (k : Passed w e d (drop p (order w)) q leaving high) where
+    pub pass-next : begin < p → Passed w e d (drop (p - 1 + 1) (order w)) q leaving high
+    pass-next h =
+        let back : p ≡ p - 1 + 1 = omega arith in
+        subst (λ m. Passed w e d (drop m (order w)) q leaving high) back k
+
+    pub pass-last : begin ≤ p → p ≤ begin → Passed w e d (drop begin (order w)) q leaving high
+    pass-last h g =
+        let last : p ≡ begin = omega arith in
+        subst (λ m. Passed w e d (drop m (order w)) q leaving high) last k

@@ -86,7 +86,7 @@ passed-none w e d q leaving high zeros nulls =
 
 -- ---- one departure more, which leaves too early
 module _ (w e : List ℕ) (d : ℕ) (l q leaving high : List ℕ) (i : ℕ) (early : depart w i < d) where
-  pub passed-early : Passed w e d l q leaving high → Passed w e d (i ∷ l) q leaving high
+  passed-early : Passed w e d l q leaving high → Passed w e d (i ∷ l) q leaving high
   passed-early p =
       record {
         well =
@@ -107,6 +107,14 @@ module _ (w e : List ℕ) (d : ℕ) (l q leaving high : List ℕ) (i : ℕ) (ear
           → (x < getD q k 0) ↔ Later w e d (k ∷ ys) (station w k) x
       parts k x [] ys s h = absurd (omega (arith, ap (depart w) (first-same s)))
       parts k x (z ∷ xs) ys s h = p .behind k x xs ys (rest-same s) h
+
+-- many, before those passed
+pub passed-front : (w e : List ℕ) (d : ℕ) (front l q leaving high : List ℕ)
+    → ((i : ℕ) → i ∈ front → depart w i < d) → Passed w e d l q leaving high → Passed w e d (front ++ l) q leaving high
+passed-front w e d [] l q leaving high early p = p
+passed-front w e d (i ∷ front) l q leaving high early p =
+    passed-early w e d (front ++ l) q leaving high i (early i (here refl))
+    (passed-front w e d front l q leaving high (λ k m. early k (there m)) p)
 
 -- ---- changes
 module _ (w e first : List ℕ) (d : ℕ) (t : Timely w) (o : InOrder w) (is-first : Caught w first) where

@@ -8,6 +8,7 @@ ghost use Rattle.stopwise.specs.Stopwise.{station, arrive, nowhere};
 ghost use Rattle.stopwise.specs.Prospects.{Allows, Bounded};
 ghost use Rattle.stopwise.specs.Settled.{Timely};
 ghost use Rattle.chains.specs.Order.{order as departures};
+ghost use Rattle.chains.specs.Rising.{minuteAt, InTime};
 ghost use Rattle.prospects.specs.Arrivals.{Arrivals, Held, Run};
 ghost use Rattle.prospects.specs.Front.{Least, MinuteEnd, markOf, Marked, Fronted};
 ghost use Rattle.prospects.specs.Allowing.{topOf};
@@ -255,7 +256,7 @@ fn leave_bound(words: &[u16], catch: &[u16], e: &[u32], q: &[u32], leaving: &[u3
     less(larger(onto, here), timetable::stop_at(words, i).points)
 }
 
-// The departure at place p of the order, those behind it having been passed.
+// The departure at place p of the order, at minute d or later, those behind it having been passed.
 fn pass(
     words: &[u16],
     order: &[u16],
@@ -270,6 +271,7 @@ fn pass(
 )
     requires { ⌜ Routes (now words) (now order) n (now catch)
         × (p < n)
+        × (d ≤ minuteAt (now words) (now order) p)
         × (length (now e) ≡ 2048)
         × (length (now q) ≡ 2048)
         × (length (now leaving) ≡ 2048)
@@ -283,15 +285,46 @@ fn pass(
 {
     let i = words::word(order, p) as usize;
     let stop = timetable::stop_at(words, i);
-    if (stop.depart as usize) < d {
-        return;
-    }
     let bound = leave_bound(words, catch, e, q, leaving, i);
     let c = stop.station as usize;
     let highest = larger(high[c], bound);
     leaving[i] = bound;
     high[c] = highest;
     q[i] = highest;
+}
+
+// The departures from place begin of the order on, all of them at minute d or later, the last first.
+fn pass_all(
+    words: &[u16],
+    order: &[u16],
+    n: usize,
+    begin: usize,
+    catch: &[u16],
+    d: usize,
+    e: &[u32],
+    q: &mut [u32],
+    leaving: &mut [u32],
+    high: &mut [u32],
+)
+    requires { ⌜ Routes (now words) (now order) n (now catch)
+        × (begin ≤ n)
+        × InTime (now words) (now order) d begin n
+        × (length (now e) ≡ 2048)
+        × (length (now q) ≡ 2048)
+        × (length (now leaving) ≡ 2048)
+        × (length (now high) ≡ 65)
+        × Passed (now words) (now e) d (drop n (departures (now words))) (now q) (now leaving) (now high) ⌝ }
+    ensures { λ _. ⌜ Passed (now (words .entry)) (now (e .entry)) d (drop begin (departures (now (words .entry))))
+        (now (q .exit)) (now (leaving .exit)) (now (high .exit)) ⌝ }
+    ensures { λ _. ⌜ (length (now (q .exit)) ≡ 2048)
+        × (length (now (leaving .exit)) ≡ 2048)
+        × (length (now (high .exit)) ≡ 65) ⌝ }
+{
+    let mut p = n;
+    while begin < p {
+        p -= 1;
+        pass(words, order, n, p, catch, d, e, q, leaving, high);
+    }
 }
 
 fn clear(v: &mut [u32])
@@ -328,9 +361,7 @@ pub fn prospects(
 {
     clear(leaving);
     let mut high = [0u32; 65];
-    let mut p = n;
-    while 0 < p {
-        p -= 1;
-        pass(words, order, n, p, catch, d, e, q, leaving, &mut high);
-    }
+    // The departures before minute d stand in front, and are left out.
+    let begin = chains::first_from(words, order, 0, n, d);
+    pass_all(words, order, n, begin, catch, d, e, q, leaving, &mut high);
 }

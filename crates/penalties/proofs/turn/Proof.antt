@@ -1,6 +1,6 @@
 -- The stop at place x of the order begins a ride that no one has taken yet, and one departure more is done.
 use borrow.Author.Needs.{needs}
-use Rattle.penalties.proofs.TurnLaws.{listed-in, departing, early, once}
+use Rattle.penalties.proofs.TurnLaws.{listed-in, few, stop-few, departing, once}
 use Rattle.penalties.proofs.turn.Statement.{statement}
 use Rattle.penalties.proofs.turn.Tie as tie
 
@@ -10,9 +10,10 @@ turn-spec =
     (tie.spec
     (λ c κs. search listed-in)
     (λ c. search needs)
+    (λ c κs. (search needs, search few, search stop-few))
     (λ c κs. (
-      (search needs, search needs),
-      ((search needs, search needs, search needs), (search departing, search early)),
+      (search needs, search few, search needs),
+      ((search needs, search needs, search needs), (search needs, search departing)),
     ))
     (λ c. search needs)
     (λ c. search needs)

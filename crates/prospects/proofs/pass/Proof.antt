@@ -1,4 +1,4 @@
--- A departure before minute d changes nothing; any other is settled by those behind it.
+-- A departure is settled by those behind it.
 use borrow.Author.Needs.{needs}
 use Rattle.prospects.proofs.PassLaws.{
   words-long,
@@ -11,7 +11,6 @@ use Rattle.prospects.proofs.PassLaws.{
   next-caught,
   inside,
   inside-high,
-  pass-early,
   pass-more,
 }
 use Rattle.prospects.proofs.pass.Statement.{statement}
@@ -24,8 +23,6 @@ pass-spec =
     (λ c. search needs)
     (λ c. search needs)
     (λ c κs. (search words-long, search stations-most, search stop-within))
-    (λ c. search needs)
-    (λ c. (search pass-early, search needs))
     (λ c κs. (
       search words-long,
       search stations-most,

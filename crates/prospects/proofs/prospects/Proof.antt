@@ -1,36 +1,49 @@
--- Backwards through the order: the departures from place p on were passed.
-use mathlib.Core.Path.{_≡_}
-use Prim.Native.Nat.{_≤_}
+-- The departures from minute d on are passed, and those in front of them leave too early.
 use borrow.Author.Needs.{needs}
-use lib.ListN.{length, drop}
-use Rattle.chains.specs.Order.{order as departures}
-use Rattle.prospects.specs.Passed.{Passed}
-use Rattle.prospects.proofs.PassLaws.{pass-first, pass-next, passes-all, passes-bounded}
+use Rattle.prospects.proofs.PassLaws.{
+  words-long,
+  stations-most,
+  order-within,
+  order-rises,
+  pass-first,
+  passes-all,
+  passes-bounded,
+}
 use Rattle.prospects.proofs.prospects.Statement.{statement}
 use Rattle.prospects.proofs.prospects.Tie as tie
 
-abbrev Inv-loop : tie.InvT-loop
-Inv-loop words order n catch d e q₀ leaving₀ high₀ p₀ q leaving high p =
-    (p ≤ n)
-    × ((length q ≡ 2048)
-    × ((length leaving ≡ 2048) × ((length high ≡ 65) × Passed words e d (drop p (departures words)) q leaving high)))
+first-from-requires : tie.Need-first-from-requires
+first-from-requires c κs = (
+  search words-long,
+  search stations-most,
+  search needs,
+  search order-within,
+  search order-rises,
+)
 
-abbrev μ-loop : tie.MeasureT-loop
-μ-loop words order n catch d e q₀ leaving₀ high₀ p₀ q leaving high p = p
+pass-all-requires : tie.Need-pass-all-requires
+pass-all-requires c κs = (
+  search needs,
+  search needs,
+  search needs,
+  search needs,
+  search needs,
+  search needs,
+  search needs,
+  search pass-first,
+)
+
+returns : tie.Need-returns
+returns c = (search passes-all, (search passes-bounded, search needs))
 
 pub prospects-spec : {M : Type 1} → statement M
 prospects-spec =
     tie.close
     (tie.spec
-    Inv-loop
-    μ-loop
     (λ c. search needs)
-    (λ c. (search needs, (search needs, (search needs, (search needs, search pass-first)))))
+    first-from-requires
     (λ c. search needs)
-    (λ c. search needs)
-    (λ c κs. (search needs, search needs, search needs, search needs, search needs, search needs, search pass-next))
+    pass-all-requires
     (λ c. search needs)
     (λ c. search needs)
-    (λ c. search needs)
-    (λ c. search needs)
-    (λ c. (search passes-all, (search passes-bounded, search needs))))
+    returns)
