@@ -1,12 +1,9 @@
 -- All rides of a cursor noted one after the other, and a step from one station to the one before it.
 use mathlib.Core.Path.{_≡_, sym, ap, subst, _∙_}
 use mathlib.Core.Bool.{false}
-use mathlib.Core.List.{List, [], _∷_, _++_, append-nil}
+use mathlib.Core.List.{List, _∷_}
 use Prim.Native.Nat.{ℕ, _+_, _-_, _≤_}
-use native.Mathlib.Omega.{arith}
-use lib.ListN.{length, getD, take, drop, replicate, drop-of-length-le}
-use lib.Seq.{take-all}
-use Rattle.words.specs.Put.{put}
+use lib.ListN.{length, getD}
 use Rattle.timetable.specs.Timetable.{Station}
 use Rattle.timetable.specs.Words.{stationAt}
 use Rattle.lookup.specs.Lookup.{callsPlace}
@@ -15,9 +12,9 @@ use Rattle.direct.specs.Choosing.{noPoints, noteAll, blank}
 use Rattle.riding.specs.declared.Ride.{Ride as RideStruct}
 use Rattle.riding.specs.declared.Cursor.{Cursor}
 use Rattle.riding.specs.Riding.{Tells, left, rideOf, left-none}
-use Rattle.showing.specs.Settling.{settled}
-use Rattle.showing.specs.Stepping.{arrived, catches, stepped}
-use Rattle.showing.specs.Turns.{tells-is, stepBack, caughtBy, catches-none, catches-more}
+use Rattle.showing.specs.Settling.{settledFrom}
+use Rattle.showing.specs.Stepping.{catches}
+use Rattle.showing.specs.Turns.{tells-is, gatherBack, stepBack, caughtBy, catches-none, catches-more}
 
 module _ (lines : List ℕ) (from to minute cm cp : ℕ) (old first : List ℕ) where
   -- what is noted once the rides left are noted too
@@ -54,40 +51,26 @@ pub calls-same : (lines : List ℕ) (x from : ℕ) → from ≡ x → callsPlace
     → callsPlace lines from ≤ length lines
 calls-same lines x from e h = subst (λ k. callsPlace lines k ≤ length lines) (sym e) h
 
-copied : (k : ℕ) (z spare : List ℕ) → length z ≡ k → length spare ≡ k → put 0 (take k z) spare ≡ z
-unfolding put
-copied k z spare e f =
-    let all : take k z ≡ z = take-all k z (omega arith) in
-    let none : drop (0 + length z) spare ≡ [] = drop-of-length-le spare {i = 0 + length z} (omega arith) in
-    rw (all, none) (append-nil z)
-
-emptied : (k : ℕ) (z : List ℕ) → length z ≡ k → replicate k noPoints ++ drop k z ≡ replicate k noPoints
-emptied k z e =
-    let none : drop k z ≡ [] = drop-of-length-le z {i = k} (omega arith) in
-    rw none (append-nil (replicate k noPoints))
-
-pub kept : (z old copy : List ℕ) → length old ≡ 2880 → length z ≡ 2880 → copy ≡ put 0 (take 2880 z) old → copy ≡ z
-kept z old copy h g c = c ∙ copied 2880 z old g h
-
-pub cleared : (z empty : List ℕ) → length z ≡ 2880 → empty ≡ replicate 2880 4294967295 ++ drop 2880 z → empty ≡ blank
-cleared z empty g e = e ∙ emptied 2880 z g
-
-module _ (w lines path : List ℕ) (minute j : ℕ) (z copy empty full last : List ℕ) (from to : ℕ) (x : Station) where
-  pub step-done : from ≡ getD path (j - 1) 0 → to ≡ getD path j 0 → x ≡ stationAt w (from - 1)
-      → copy ≡ z
-      → empty ≡ blank
-      → full ≡ noteAll empty (catches (x .minutes) (x .points) copy (allRead lines from minute to))
-      → last ≡ settled noPoints full
-      → last ≡ stepBack w lines minute path j z
-  unfolding stepped stepBack
-  step-done d e s c n f l =
+module _ (w lines path : List ℕ) (minute j : ℕ) (old z full : List ℕ) (from to : ℕ) (x : Station) where
+  pub gathered : from ≡ getD path (j - 1) 0 → to ≡ getD path j 0 → x ≡ stationAt w (from - 1)
+      → full ≡ noteAll z (catches (x .minutes) (x .points) old (allRead lines from (minute + x .minutes) to))
+      → full ≡ gatherBack w lines minute path j old z
+  unfolding gatherBack
+  gathered d e s f =
       let there : x ≡ stationAt w (getD path (j - 1) 0 - 1) = s ∙ ap (λ k. stationAt w (k - 1)) d in
-      l
-      ∙ ap (settled noPoints)
-      (f
-      ∙ (λ i. noteAll (n i) (catches (there i .minutes) (there i .points) (c i) (allRead lines (d i) minute (e i)))))
+      f
+      ∙ (λ i.
+      noteAll z
+      (catches (there i .minutes) (there i .points) old (allRead lines (d i) (minute + there i .minutes) (e i))))
 
-pub last-filled : (empty last : List ℕ) (v : ℕ) → empty ≡ blank → last ≡ replicate (v + 1) 0 ++ drop (v + 1) empty
-    → last ≡ arrived v
-unfolding arrived
-last-filled empty last v e f = f ∙ ap (λ l. replicate (v + 1) 0 ++ drop (v + 1) l) e
+module _ (w lines path : List ℕ) (minute j : ℕ) (z copy empty full : List ℕ) where
+  -- the words over which a step goes, as what was left before it
+  pub gathered-from : copy ≡ z → empty ≡ blank → full ≡ gatherBack w lines minute path j copy empty
+      → full ≡ gatherBack w lines minute path j z blank
+  gathered-from c e f = f ∙ (λ i. gatherBack w lines minute path j (c i) (e i))
+
+  pub step-done : (last : List ℕ) → copy ≡ z → empty ≡ blank → full ≡ gatherBack w lines minute path j copy empty
+      → last ≡ settledFrom noPoints minute full
+      → last ≡ stepBack w lines minute path j z
+  unfolding stepBack
+  step-done last c e f l = l ∙ ap (settledFrom noPoints minute) (gathered-from c e f)

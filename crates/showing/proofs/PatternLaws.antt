@@ -20,11 +20,14 @@ use Rattle.checking.specs.Question10.{areTables}
 use Rattle.lookup.specs.Lookup.{callsPlace}
 use Rattle.direct.specs.Candidates.{allRead}
 use Rattle.direct.specs.Shown.{calls-inside}
-use Rattle.riding.specs.Ridden.{read-rides}
+use Rattle.direct.specs.Choosing.{blank}
+use Rattle.riding.specs.Ridden.{read-rides, read-bounds}
 use Rattle.showing.specs.Rests.{Rests, RestsAt}
-use Rattle.showing.specs.Stepping.{arrived, stepped, rests-before, rests-end}
-use Rattle.showing.specs.Turns.{stepBack}
+use Rattle.showing.specs.Spans.{Spans, Arrived}
+use Rattle.showing.specs.Stepping.{stepped, noted-spans, rests-before, rests-end}
+use Rattle.showing.specs.Turns.{gatherBack, stepBack}
 use Rattle.showing.specs.Showing.{Given}
+use Rattle.showing.proofs.GatherLaws.{gathered-from}
 
 -- ---- a listed station
 module _ (w : List ℕ) (accepted : isTimetable w ≡ true) where
@@ -61,29 +64,79 @@ module _ (w : List ℕ) (accepted : isTimetable w ≡ true) where
           points = ap (λ s. s .points) is;
         }
 
+-- ---- the station before station j of a path, and the rides from it
+module _ (w lines path : List ℕ) (j v : ℕ) (given : Given w lines path (j + 1) v) (later : 1 ≤ j) where
+  abbrev back : ℕ
+  back = getD path (j - 1) 0
+
+  pub back-first : 1 ≤ getD path (j - 1) 0
+  back-first = given .listed .at (j - 1) (omega arith) .0
+
+  back-most : back ≤ stationCount w
+  back-most = given .listed .at (j - 1) (omega arith) .1
+
+  pub back-few : getD path (j - 1) 0 ≤ 64
+  back-few = station-few w (given .accepted) back back-first back-most
+
+  pub back-calls : callsPlace lines (getD path (j - 1) 0) ≤ length lines
+  back-calls = station-calls w (given .accepted) back back-first back-most lines (given .own)
+
+  -- nothing is noted outside the window
+  pub gathered-spans : (minute : ℕ) (z copy empty full : List ℕ) → minute ≤ v → Spans minute v z
+      → copy ≡ z
+      → empty ≡ blank
+      → full ≡ gatherBack w lines minute path j copy empty
+      → Spans minute v full
+  unfolding gatherBack
+  gathered-spans minute z copy empty full early spans c e f =
+      subst (Spans minute v) (sym (gathered-from w lines path minute j z copy empty full c e f))
+      (noted-spans minute v early (given .timely) cm cp z spans rides useful)
+    where
+      cm : ℕ
+      cm = (stationAt w (back - 1)) .minutes
+
+      cp : ℕ
+      cp = (stationAt w (back - 1)) .points
+
+      rides : List Ride
+      rides = allRead lines back (minute + cm) (getD path j 0)
+
+      useful : (r : Ride) → r ∈ rides → (minute + cm ≤ r .depart) × (r .depart < r .arrive)
+      useful r m =
+          let inside = station-inside w (given .accepted) back back-first back-most in
+          let to = getD path j 0 in
+          let bounds = read-bounds w lines back to (minute + cm) (given .accepted) (given .own) back-first inside r m in
+          (bounds .leaves, bounds .later)
+
+pub kept-spans : (minute v : ℕ) (z copy : List ℕ) → Spans minute v z → copy ≡ z → Spans minute v copy
+kept-spans minute v z copy s e = subst (Spans minute v) (sym e) s
+
+-- ---- from the target back
+
+-- On the way back to station i of a path of r stations one is at station j, and z holds what is left behind that.
+pub record Back (w path : List ℕ) (r v t i j : ℕ) (z : List ℕ) : Type 0 where
+  pub past : i ≤ j
+  pub inside : j < r
+  pub rests : RestsAt w path r v t j z
+
 module _ (w lines path : List ℕ) (r v : ℕ) (given : Given w lines path r v) where
   accepted : isTimetable w ≡ true
   accepted = given .accepted
 
-  -- ---- the station before station j of a path
-  module _ (j : ℕ) (inside : j < r) where
-    abbrev back : ℕ
-    back = getD path (j - 1) 0
+  -- what is known of a path is known of its first stations
+  pub given-part : (j : ℕ) → j < r → Given w lines path (j + 1) v
+  given-part j h =
+      record {
+        enough = given .enough;
+        accepted = given .accepted;
+        own = given .own;
+        listed = record { at = λ i g. given .listed .at i (omega arith) };
+        few = omega (arith, given .few);
+        long = omega (arith, given .long);
+        timely = given .timely;
+      }
 
-    pub back-first : 1 ≤ getD path (j - 1) 0
-    back-first = given .listed .at (j - 1) (omega arith) .0
-
-    back-most : back ≤ stationCount w
-    back-most = given .listed .at (j - 1) (omega arith) .1
-
-    pub back-few : getD path (j - 1) 0 ≤ 64
-    back-few = station-few w accepted back back-first back-most
-
-    pub back-calls : callsPlace lines (getD path (j - 1) 0) ≤ length lines
-    back-calls = station-calls w accepted back back-first back-most lines (given .own)
-
-  -- ---- the loop from the target back
-  module _ (minute : ℕ) where
+  module _ (minute i : ℕ) where
     abbrev n : Net
     n = net (timetableOf w)
 
@@ -93,26 +146,28 @@ module _ (w lines path : List ℕ) (r v : ℕ) (given : Given w lines path r v) 
     slice-end : (k : ℕ) → k ≡ r → slice k r path ≡ []
     slice-end k e = ap (λ k. slice k r path) e ∙ slice-empty r path
 
-    pub rest-begins : (i : ℕ) (z : List ℕ) → i < r → z ≡ arrived v → RestsAt w path r v minute (r - 1) z
+    pub rest-begins : (z : List ℕ) → i < r → Arrived minute v z → Back w path r v minute i (r - 1) z
     unfolding RestsAt
-    rest-begins i z h is =
+    rest-begins z h arrived =
         let none : slice (r - 1 + 1) r path ≡ [] = slice-end (r - 1 + 1) (omega arith) in
-        let last = rests-end (timetableOf w) (is-valid w accepted) b v minute b refl in
-        subst (λ q. Rests n b v minute q b z) (sym none) (subst (λ z. Rests n b v minute [] b z) (sym is) last)
+        let last = rests-end (timetableOf w) (is-valid w accepted) b v minute b refl z arrived in
+        record {
+          past = omega arith;
+          inside = omega arith;
+          rests = subst (λ q. Rests n b v minute q b z) (sym none) last;
+        }
 
-    pub rest-done : (i j : ℕ) (z : List ℕ) → i ≤ j → j ≤ i
-        → RestsAt w path r v minute j z
-        → RestsAt w path r v minute i z
-    rest-done i j z h g s =
-        let same : j ≡ i = omega arith in
-        subst (λ k. RestsAt w path r v minute k z) same s
+    pub rest-done : (j : ℕ) (z : List ℕ) → Back w path r v minute i j z → j ≤ i → RestsAt w path r v minute i z
+    rest-done j z s h =
+        let same : j ≡ i = omega (arith, s .past) in
+        subst (λ k. RestsAt w path r v minute k z) same (s .rests)
 
-    pub rest-more : (j : ℕ) (z new : List ℕ) → 1 ≤ j → j < r
+    rests-more : (j : ℕ) (z new : List ℕ) → minute ≤ v → 1 ≤ j → j < r
         → RestsAt w path r v minute j z
         → new ≡ stepBack w lines minute path j z
         → RestsAt w path r v minute (j - 1) new
-    unfolding stepBack RestsAt
-    rest-more j z new less inside s is-new =
+    unfolding gatherBack stepBack stepped RestsAt
+    rests-more j z new early less inside s is-new =
         subst (λ q. Rests n b v minute q x new) (sym on) (subst (Rests n b v minute (y ∷ q) x) (sym is) whole)
       where
         x : ℕ
@@ -133,18 +188,23 @@ module _ (w lines path : List ℕ) (r v : ℕ) (given : Given w lines path r v) 
         c : ChangeThere w accepted x first most
         c = change-there w accepted x first most
 
-        rides : List Ride
-        rides = allRead lines x minute y
+        rides : ℕ → List Ride
+        rides cm = allRead lines x (minute + cm) y
 
-        whole : Rests n b v minute (y ∷ q) x (stepped (c .change .minutes) (c .change .points) z rides)
+        after : (cm cp : ℕ) → List ℕ
+        after cm cp = stepped minute cm cp z (rides cm)
+
+        whole : Rests n b v minute (y ∷ q) x (after (c .change .minutes) (c .change .points))
         whole =
             let inside = station-inside w accepted x first most in
-            let told = read-rides w lines x y minute accepted (given .own) first inside in
+            let cm = c .change .minutes in
+            let told = read-rides w lines x y (minute + cm) accepted (given .own) first inside in
             let t = timetableOf w in
-            rests-before t (is-valid w accepted) b v minute q x y (c .change) (c .listed) (c .at) rides told z s
+            rests-before t (is-valid w accepted) b v minute q x y (c .change) (c .listed) (c .at) (rides cm) told z s
+            (omega (arith, given .timely))
 
-        is : new ≡ stepped (c .change .minutes) (c .change .points) z rides
-        is = is-new ∙ (λ i. stepped (sym (c .minutes) i) (sym (c .points) i) z rides)
+        is : new ≡ after (c .change .minutes) (c .change .points)
+        is = is-new ∙ (λ i. after (sym (c .minutes) i) (sym (c .points) i))
 
         on : slice (j - 1 + 1) r path ≡ y ∷ slice (j + 1) r path
         on =
@@ -152,3 +212,13 @@ module _ (w lines path : List ℕ) (r v : ℕ) (given : Given w lines path r v) 
             ap (λ k. slice k r path) here
             ∙ slice-cons j r path 0 inside (given .long)
             ∙ ap (λ k. y ∷ slice k r path) (sym (add-one j))
+
+    pub rest-more : (j : ℕ) (z new : List ℕ) → minute ≤ v → Back w path r v minute i j z → i < j
+        → new ≡ stepBack w lines minute path j z
+        → Back w path r v minute i (j - 1) new
+    rest-more j z new early s less is =
+        record {
+          past = omega arith;
+          inside = omega (arith, s .inside);
+          rests = rests-more j z new early (omega arith) (s .inside) (s .rests) is;
+        }

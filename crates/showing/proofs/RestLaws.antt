@@ -1,34 +1,54 @@
--- The words of what is left: filled, read, lowered, and settled from the end.
-use mathlib.Core.Path.{_≡_, refl, sym, ap, _∙_}
-use mathlib.Core.List.{List, [], _∷_, _++_, append-nil}
-use Prim.Native.Nat.{ℕ, zero, suc, _+_, _-_, _≤_, _<_, min}
+-- The words of what is left: filled, copied, read, lowered, and settled from the end.
+use mathlib.Core.Path.{_≡_, refl, sym, ap, subst, _∙_}
+use mathlib.Core.List.{List, [], _∷_, _++_}
+use Prim.Native.Nat.{ℕ, suc, _+_, _-_, _≤_, _<_, min}
 use native.Mathlib.Omega.{arith}
-use borrow.Author.Fill.{fill-more}
 use borrow.Author.Tests.{lt-ltb, le-ltb, le-leb, lt-leb}
-use lib.ListN.{length, getD, set, take, drop, replicate, drop-of-length-le, List·getD-eq-default}
-use lib.Seq.{set-out, set-getD, take-all, drop-cons, take-suc, append-snoc, set-at, getD-at, length-take-le}
-use Rattle.direct.specs.Choosing.{noPoints}
+use lib.ListN.{length, getD, set, take, drop, take-append-drop, List·getD-eq-default}
+use lib.Seq.{set-out, set-getD, drop-cons, take-suc, append-snoc, set-at, getD-at, getD-drop, length-take-le}
+use Rattle.direct.specs.Choosing.{noPoints, blank}
+use Rattle.direct.specs.Noted.{getD-any, getD-blank}
 use Rattle.direct.specs.Turns.{lowered}
 use Rattle.riding.specs.declared.Ride.{Ride as RideStruct}
-use Rattle.showing.specs.Settling.{least, settled}
+use Rattle.showing.specs.Settling.{least, settled, settledFrom, least-none, settled-none}
+use Rattle.showing.specs.Spans.{Spans, Arrived, Stored, spans-blank}
+use Rattle.showing.specs.Spans.{stored-more, stored-all, stored-spans, stored-is}
+use Rattle.showing.specs.Stepping.{settled-spans}
 use Rattle.showing.specs.Turns.{caughtBy}
 
--- ---- filled from the front
-module _ (old z : List ℕ) (n x i : ℕ) (so-far : z ≡ replicate i x ++ drop i old) where
-  pub filled-more : i < n → n ≤ length old → set z i x ≡ replicate (i + 1) x ++ drop (i + 1) old
-  filled-more h g = rw so-far (fill-more i x old (omega arith))
+-- ---- filled and copied
+module _ (old z : List ℕ) (x a n i : ℕ) (so-far : Stored (λ k. x) a i old z) where
+  pub filled-more : a ≤ i → i < n → n ≤ length old → length z ≡ length old → Stored (λ k. x) a (i + 1) old (set z i x)
+  filled-more h g l e = stored-more (λ k. x) a old i z so-far x h (omega arith) refl
 
-  pub filled : i ≤ n → n ≤ i → z ≡ replicate n x ++ drop n old
-  filled h g =
-      let all : i ≡ n = omega arith in
-      so-far ∙ ap (λ k. replicate k x ++ drop k old) all
+module _ (z first : List ℕ) (t v : ℕ) (timely : v ≤ 2879) (spans : Spans t v z) (firsts : Spans t v first) where
+  module _ (old : List ℕ) (m : ℕ) (so-far : Stored (λ k. getD z k noPoints) t m first old) where
+    pub kept-more : t ≤ m → m ≤ v → length old ≡ length first
+        → Stored (λ k. getD z k noPoints) t (m + 1) first (set old m (getD z m 0))
+    kept-more h g e =
+        let same = getD-any z m 0 noPoints (omega (arith, spans .long)) in
+        let inside : m < length old = omega (arith, firsts .long) in
+        stored-more (λ k. getD z k noPoints) t first m old so-far (getD z m 0) h inside same
+
+    pub kept : m ≤ v + 1 → v < m → length old ≡ length first → old ≡ z
+    kept h g e =
+        let all = stored-all (λ k. getD z k noPoints) t first m old so-far (v + 1) h (omega arith) in
+        stored-is (λ k. getD z k noPoints) t v first old all firsts z e spans (λ m k l. refl)
+
+module _ (z new : List ℕ) (t v : ℕ) (spans : Spans t v z) (long : length new ≡ length z) where
+  pub cleared : Stored (λ k. 4294967295) t (v + 1) z new → new ≡ blank
+  cleared s =
+      let none = spans-blank t v in
+      stored-is (λ k. 4294967295) t v z new s spans blank long none (λ m h g. sym (getD-blank 2880 noPoints m))
+
+  pub last-filled : Stored (λ k. 0) t (v + 1) z new → Arrived t v new
+  last-filled s =
+      record {
+        spans = stored-spans (λ k. 0) t v z new s spans long;
+        free = λ m h g. s .inside m h (omega arith);
+      }
 
 -- ---- read
-getD-any : (l : List ℕ) (i d e : ℕ) → i < length l → getD l i d ≡ getD l i e
-getD-any [] i d e h = absurd (omega arith)
-getD-any (x ∷ l) zero d e h = refl
-getD-any (x ∷ l) (suc i) d e h = getD-any l i d e (omega arith)
-
 module _ (z : List ℕ) (m r : ℕ) where
   pub read-here : m < length z → r ≡ getD z m 0 → r ≡ getD z m noPoints
   read-here h e = e ∙ getD-any z m 0 noPoints h
@@ -72,50 +92,57 @@ module _ (cm cp : ℕ) (old z : List ℕ) (s : RideStruct) (left : ℕ) (is : le
         (g ∙ ap (λ k. lowered z (s .depart - cm) (cp + s .points + k)) is)
 
 -- ---- settled from the end
-module _ (old : List ℕ) (long : length old ≡ 2880) where
-  behind-none : drop 2880 old ≡ []
-  behind-none = drop-of-length-le old {i = 2880} (omega arith)
+module _ (old : List ℕ) (t v : ℕ) (timely : v ≤ 2879) (spans : Spans t v old) where
+  behind-none : (k : ℕ) → getD (drop (v + 1) old) k noPoints ≡ noPoints
+  behind-none k = getD-drop (v + 1) old k noPoints ∙ spans .above (v + 1 + k) (omega arith)
 
-  pub settle-begins : old ≡ take 2880 old ++ settled noPoints (drop 2880 old)
-  unfolding settled
-  settle-begins = rw (behind-none, take-all 2880 old (omega arith)) (sym (append-nil old))
+  pub settle-begins : old ≡ settledFrom noPoints (v + 1) old
+  unfolding settledFrom
+  settle-begins = rw (settled-none noPoints (drop (v + 1) old) behind-none) (sym (take-append-drop (v + 1) old))
 
-  pub low-begins : 4294967295 ≡ least noPoints (drop 2880 old)
-  unfolding least
-  low-begins = rw behind-none
+  pub low-begins : 4294967295 ≡ least noPoints (drop (v + 1) old)
+  low-begins = sym (least-none noPoints (drop (v + 1) old) behind-none)
 
   module _
       (z : List ℕ)
       (low m : ℕ)
-      (so-far : z ≡ take m old ++ settled noPoints (drop m old))
+      (so-far : z ≡ settledFrom noPoints m old)
       (is : low ≡ least noPoints (drop m old))
     where
-      pub settle-done : m ≤ 0 → z ≡ settled noPoints old
-      settle-done h =
-          let end : m ≡ 0 = omega arith in
-          so-far ∙ ap (λ k. take k old ++ settled noPoints (drop k old)) end
+      pub settle-done : t ≤ m → m ≤ t → z ≡ settledFrom noPoints t old
+      settle-done h g =
+          let end : m ≡ t = omega arith in
+          so-far ∙ ap (λ k. settledFrom noPoints k old) end
 
-      module _ (more : 0 < m) (inside : m ≤ 2880) where
+      pub settle-spans : t ≤ v → t ≤ m → m ≤ t → Spans t v z
+      settle-spans early h g =
+          subst (Spans t v) (sym (settle-done h g)) (settled-spans t v early timely old spans)
+
+      module _ (more : t < m) (inside : m ≤ v + 1) where
         abbrev k : ℕ
         k = m - 1
+
+        here : k < length old
+        here = omega (arith, spans .long)
 
         next : m ≡ suc k
         next = omega arith
 
         at : drop k old ≡ getD old k 0 ∷ drop m old
-        at = drop-cons old k 0 (omega arith) ∙ ap (λ i. getD old k 0 ∷ drop i old) (sym next)
+        at = drop-cons old k 0 here ∙ ap (λ i. getD old k 0 ∷ drop i old) (sym next)
 
         front : take m old ≡ take k old ++ (getD old k 0 ∷ [])
-        front = ap (λ i. take i old) next ∙ take-suc old k 0 (omega arith)
+        front = ap (λ i. take i old) next ∙ take-suc old k 0 here
 
         apart : z ≡ take k old ++ getD old k 0 ∷ settled noPoints (drop m old)
+        unfolding settledFrom
         apart =
             so-far
             ∙ ap (λ f. f ++ settled noPoints (drop m old)) front
             ∙ append-snoc (take k old) (getD old k 0) (settled noPoints (drop m old))
 
         long-front : length (take k old) ≡ k
-        long-front = length-take-le k old (omega arith)
+        long-front = length-take-le k old (omega (arith, here))
 
         word : getD z k 0 ≡ getD old k 0
         word =
@@ -127,8 +154,8 @@ module _ (old : List ℕ) (long : length old ≡ 2880) where
         low-more r e = rw at (omega (arith, e, word, is))
 
         pub settle-more : (r : ℕ) → r ≡ min (getD z (m - 1) 0) low
-            → set z (m - 1) r ≡ take (m - 1) old ++ settled noPoints (drop (m - 1) old)
-        unfolding settled
+            → set z (m - 1) r ≡ settledFrom noPoints (m - 1) old
+        unfolding settled settledFrom
         settle-more r e =
             let lowest : r ≡ min (getD old k 0) (least noPoints (drop m old)) = omega (arith, e, word, is) in
             ap (λ l. set l k r) apart

@@ -15,6 +15,7 @@ use Rattle.connections.specs.Rides.{Ride}
 use Rattle.connections.specs.Connections.{Change, net, Connection, Boards, ready}
 use Rattle.lists.specs.Lists.{_∈_}
 use Rattle.connections.specs.Sound.{sound}
+use Rattle.connections.specs.Feasibility.{takes-time}
 use Rattle.lookup.specs.Lookup.{callsPlace}
 use Rattle.direct.specs.Candidates.{allRead}
 use Rattle.reckoning.specs.Greedy.{rideNumbers}
@@ -64,6 +65,14 @@ moved w path i left to paid s x old new e f g h =
     }
 
 -- ---- along the path
+
+-- the rides to the first i stations are written, as Under says
+pub record Riding (w lines path : List ℕ) (r v a m p d i : ℕ) (rides : List ℕ) (at : At) : Type 0 where
+  pub given : Given w lines path r v
+  pub past : i ≤ r
+  pub rooms : length rides ≡ 192
+  pub under : Under w path r v a m p d i rides at
+
 module _ (w lines path : List ℕ) (r v : ℕ) (given : Given w lines path r v) where
   accepted : isTimetable w ≡ true
   accepted = given .accepted
@@ -205,12 +214,12 @@ module _ (w lines path : List ℕ) (r v : ℕ) (given : Given w lines path r v) 
     next-most left s old new next move = omega (arith, move .from, given .listed .at i inside .1)
 
     -- a ride more
-    pub rides-on : (a m p₀ d : ℕ) (at : At) (step : Next) (old new : List ℕ) → length old ≡ 192
+    under-on : (a m p₀ d : ℕ) (at : At) (step : Next) (old new : List ℕ) → length old ≡ 192
         → Under w path r v a m p₀ d i old at
         → Rode w path r v false i at old new step
         → Under w path r v a m p₀ d (i + 1) new (step .at)
     unfolding Rode
-    rides-on a m p₀ d at step old new rooms under rode = go rode
+    under-on a m p₀ d at step old new rooms under rode = go rode
       where
         here : Left t b v (take r path) a m p₀ (take (3 * i) old) d (y ∷ q) (at .from) (at .ready) (at .left)
         here =
@@ -240,17 +249,24 @@ module _ (w lines path : List ℕ) (r v : ℕ) (given : Given w lines path r v) 
                   (there .change) (there .listed) (there .at) q (take (3 * i) old) d here chosen);
             }
 
+  -- ---- nobody can arrive before the query's minute
+  pub none-late : (a m p : ℕ) (rides : List ℕ) → v < m
+      → FoundAt w path r v a m p (record { found = false; depart = 0 }) rides
+  unfolding FoundAt
+  none-late a m p rides late e f =
+      omega (arith, takes-time (net t) (sound t (is-valid w accepted)) a m b e (f .feasible), f .timely)
+
   -- ---- the first ride
   module _ (a m p : ℕ) (step : Next) where
     abbrev start : At
     start = record { from = a; ready = m; left = p }
 
-    pub starts : (old new : List ℕ) → 1 ≤ r → length old ≡ 192
+    under-first : (old new : List ℕ) → 1 ≤ r → length old ≡ 192
         → Rode w path r v true 0 (record { from = a; ready = m; left = p }) old new step
         → not (step .found) ≡ false
         → Under w path r v a m p (step .depart) 1 new (step .at)
     unfolding Rode
-    starts old new some rooms rode found = go rode
+    under-first old new some rooms rode found = go rode
       where
         Goes : List ℕ → ℕ → Type 0
         Goes whole d =
@@ -280,6 +296,18 @@ module _ (w lines path : List ℕ) (r v : ℕ) (given : Given w lines path r v) 
                   subst (Goes (take r path)) (sym leaves) (subst (λ l. Goes l (ride .depart)) (sym on-way) goes-on);
             }
 
+    pub starts : (old new : List ℕ) → 1 ≤ r → length old ≡ 192 → length new ≡ length old
+        → Rode w path r v true 0 (record { from = a; ready = m; left = p }) old new step
+        → not (step .found) ≡ false
+        → Riding w lines path r v a m p (step .depart) 1 new (step .at)
+    starts old new some rooms same rode found =
+        record {
+          given = given;
+          past = some;
+          rooms = same ∙ rooms;
+          under = under-first old new some rooms rode found;
+        }
+
     pub none-fits : (old new : List ℕ) → Rode w path r v true 0 (record { from = a; ready = m; left = p }) old new step
         → not (step .found) ≡ true
         → FoundAt w path r v a m p (record { found = false; depart = 0 }) new
@@ -291,22 +319,46 @@ module _ (w lines path : List ℕ) (r v : ℕ) (given : Given w lines path r v) 
         go (inl h) = h .none
         go (inr h) = absurd (true-false (sym e ∙ ap not (h .found)))
 
-  module _ (a m p d i : ℕ) (rides : List ℕ) (at : At) (under : Under w path r v a m p d i rides at) where
+module _
+    (w lines path : List ℕ)
+    (r v a m p d i : ℕ)
+    (rides : List ℕ)
+    (at : At)
+    (riding : Riding w lines path r v a m p d i rides at)
+  where
     abbrev Goes : (i : ℕ) (q : List ℕ) → Type 0
-    Goes i q = Going t b v (take r path) a m p (take (3 * i) rides) d q (at .from) (at .ready) (at .left)
+    Goes i q =
+        let b = getD path (r - 1) 0 in
+        Going (timetableOf w) b v (take r path) a m p (take (3 * i) rides) d q (at .from) (at .ready) (at .left)
 
     -- while a station is left, one can leave no earlier than one began
     pub stands-there : i < r → Standing w m at
     stands-there inside =
-        let here = subst (Goes i) (on i inside) (under .going) in
+        let under = riding .under in
+        let here = subst (Goes i) (on w lines path r v (riding .given) i inside) (under .going) in
         record { least = under .least; most = under .most; later = here .later }
 
+    -- a ride more
+    pub rides-on : (step : Next) (new : List ℕ) → i < r → Rode w path r v false i at rides new step
+        → length new ≡ length rides
+        → Riding w lines path r v a m p d (i + 1) new (step .at)
+    rides-on step new inside rode same =
+        let rooms = riding .rooms in
+        record {
+          given = riding .given;
+          past = omega arith;
+          rooms = same ∙ rooms;
+          under =
+              under-on w lines path r v (riding .given) i inside a m p d at step rides new rooms (riding .under) rode;
+        }
+
     -- with no station left it is done
-    pub arrives : i ≤ r → r ≤ i → FoundAt w path r v a m p (record { found = true; depart = d }) rides
+    pub arrives : r ≤ i → FoundAt w path r v a m p (record { found = true; depart = d }) rides
     unfolding FoundAt
-    arrives h g =
-        let end : i ≡ r = omega arith in
-        subst (Goes r) (slice-empty r path) (subst (λ i. Goes i (slice i r path)) end (under .going))
+    arrives h =
+        let end : i ≡ r = omega (arith, riding .past) in
+        let going = riding .under .going in
+        subst (Goes r) (slice-empty r path) (subst (λ i. Goes i (slice i r path)) end going)
 
 -- ---- what became of a ride
 module _

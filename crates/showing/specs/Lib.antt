@@ -1,6 +1,7 @@
 pub mod Showing
 pub mod Rests
 pub mod Settling
+pub mod Spans
 pub mod Stepping
 pub mod Foremost
 pub mod Heads

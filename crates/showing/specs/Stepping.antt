@@ -3,13 +3,12 @@
 -- what is left behind it.
 use mathlib.Core.Path.{_≡_, refl, sym, ap, _∙_}
 use mathlib.Core.Bool.{Bool, not, _&&_}
-use mathlib.Core.Logic.{_↔_}
-use mathlib.Core.List.{List, [], _∷_, _++_, map, Memᴰ·map, Memᴰ·of-map}
-use Prim.Native.Nat.{ℕ, zero, suc, _+_, _-_, _≤_, _<_}
+use mathlib.Core.Logic.{_⊎_, inl, inr, _↔_}
+use mathlib.Core.List.{List, [], _∷_, map, Memᴰ·map, Memᴰ·of-map}
+use Prim.Native.Nat.{ℕ, _+_, _-_, _≤_, _<_, min}
 use native.Mathlib.Omega.{arith}
-use lib.Dec.{T, leb, ltb, leb→le, nleb→lt}
-use lib.ListN.{length, getD, drop, replicate, length-replicate, getD-replicate, List·getD-append}
-use lib.Seq.{getD-append-add, getD-drop}
+use lib.Dec.{T, leb, ltb, ltb→lt, leb→le, nleb→lt, nltb→le}
+use lib.ListN.{length, getD, length-set}
 use Rattle.timetable.specs.Timetable.{Timetable, valid}
 use Rattle.lists.specs.Lists.{_∈_, filter}
 use Rattle.lists.specs.Tests.{either, reads, writes}
@@ -21,9 +20,10 @@ use Rattle.connections.specs.Sound.{Sound, sound}
 use Rattle.connections.specs.Feasibility.{penalty-most}
 use Rattle.reckoning.specs.Sets.{firstRide}
 use Rattle.direct.specs.Choosing.{noPoints, noteAll, blank}
-use Rattle.direct.specs.Noted.{LeastNoted, least-noted}
+use Rattle.direct.specs.Noted.{Noted, Arrives, all-noted, LeastNoted, least-noted}
 use Rattle.showing.specs.Rests.{Rest, Rests, begun, parted}
-use Rattle.showing.specs.Settling.{settled, settled-low, settled-is}
+use Rattle.showing.specs.Settling.{settledFrom, length-from, from-kept, from-low, from-is}
+use Rattle.showing.specs.Spans.{Spans, Arrived, spans-blank, spans-in}
 
 -- A ride as one who arrives before it counts it: he arrives cm minutes before it leaves, and pays cp for the change,
 -- the ride, and what is left behind it.
@@ -47,39 +47,97 @@ catchable cm old r = ltb (getD old (r .arrive) noPoints) noPoints && leb cm (r .
 unfoldable pub catches : (cm cp : ℕ) (old : List ℕ) → List Ride → List Ride
 catches cm cp old l = map (caught cm cp old) (filter (catchable cm old) l)
 
--- what is left at the station before, rides being those between the two
-unfoldable pub stepped : (cm cp : ℕ) (old : List ℕ) → List Ride → List ℕ
-stepped cm cp old rides = settled noPoints (noteAll blank (catches cm cp old rides))
+-- what is left at the station before from minute t on, rides being those between the two
+unfoldable pub stepped : (t cm cp : ℕ) (old : List ℕ) → List Ride → List ℕ
+stepped t cm cp old rides = settledFrom noPoints t (noteAll blank (catches cm cp old rides))
 
--- nothing to pay for minutes up to v, and as it was behind
-abbrev zeros : (v : ℕ) → List ℕ → List ℕ
-zeros v l = replicate (v + 1) 0 ++ drop (v + 1) l
+pub length-noted : (l : List Ride) (best : List ℕ) → length (noteAll best l) ≡ length best
+unfolding noteAll
+length-noted [] best = refl
+length-noted (r ∷ l) best =
+    length-noted l _ ∙ length-set best (r .arrive) (min (getD best (r .arrive) 0) (r .points))
 
--- at the target all is done, by minute v
-unfoldable pub arrived : (v : ℕ) → List ℕ
-arrived v = zeros v blank
+-- ---- the window is kept
+module _ (t v : ℕ) (early : t ≤ v) (timely : v ≤ 2879) where
+  pub settled-spans : (z : List ℕ) → Spans t v z → Spans t v (settledFrom noPoints t z)
+  settled-spans z s =
+      record {
+        long = length-from noPoints t z inside ∙ s .long;
+        below = λ m h. from-kept noPoints t z inside m h ∙ s .below m h;
+        above = above;
+      }
+    where
+      inside : t ≤ length z
+      inside = omega (arith, s .long)
 
-getD-same : (k a i : ℕ) → getD (replicate k a) i a ≡ a
-getD-same zero a i = refl
-getD-same (suc k) a zero = refl
-getD-same (suc k) a (suc i) = getD-same k a i
+      above : (m : ℕ) → v < m → getD (settledFrom noPoints t z) m noPoints ≡ noPoints
+      above m h = either (ltb x noPoints) some none
+        where
+          x : ℕ
+          x = getD (settledFrom noPoints t z) m noPoints
 
-module _ (v : ℕ) (l : List ℕ) (m : ℕ) where
-  zeros-at : m ≤ v → getD (zeros v l) m noPoints ≡ 0
-  zeros-at h =
-      let inside : m < length (replicate {A = ℕ} (v + 1) 0) = omega (arith, length-replicate {A = ℕ} (v + 1) 0) in
-      List·getD-append (replicate (v + 1) 0) (drop (v + 1) l) noPoints m inside
-      ∙ getD-replicate (v + 1) m 0 noPoints (omega arith)
+          some : T (ltb x noPoints) → x ≡ noPoints
+          some g =
+              let k = from-is noPoints t z inside m (ltb→lt x noPoints g) in
+              absurd (omega (arith, k .1, k .2, ltb→lt x noPoints g, s .above (k .0) (omega (arith, k .1))))
 
-  zeros-past : v < m → getD (zeros v l) m noPoints ≡ getD l m noPoints
-  zeros-past h =
-      let long = length-replicate {A = ℕ} (v + 1) 0 in
-      let there : length (replicate {A = ℕ} (v + 1) 0) + (m - (v + 1)) ≡ m = omega arith in
-      let back : v + 1 + (m - (v + 1)) ≡ m = omega arith in
-      ap (λ i. getD (zeros v l) i noPoints) (sym there)
-      ∙ getD-append-add (replicate (v + 1) 0) (drop (v + 1) l) (m - (v + 1)) noPoints
-      ∙ getD-drop (v + 1) l (m - (v + 1)) noPoints
-      ∙ ap (λ i. getD l i noPoints) back
+          none : T (not (ltb x noPoints)) → x ≡ noPoints
+          none g =
+              let low = from-low noPoints t z inside m m (omega arith) (omega arith) in
+              omega (arith, nltb→le x noPoints g, low, s .above m h)
+
+  -- Rides that can still be caught by one who arrives at minute t, and that take time, are noted for minutes from t
+  -- on; and what is left behind them is left by minute v, so they are noted for minutes before it.
+  module _
+      (cm cp : ℕ)
+      (old : List ℕ)
+      (spans : Spans t v old)
+      (rides : List Ride)
+      (useful : (r : Ride) → r ∈ rides → (t + cm ≤ r .depart) × (r .depart < r .arrive))
+    where
+      abbrev counted : List Ride
+      counted = catches cm cp old rides
+
+      within : (r : Ride) → r ∈ counted → (t ≤ r .arrive) × (r .arrive ≤ v)
+      unfolding catches
+      within r m =
+          let k = Memᴰ·of-map (caught cm cp old) (filter (catchable cm old) rides) m in
+          let f = filter-out (catchable cm old) rides (k .1) in
+          let test = f .1 in
+          let left : getD old ((k .0) .arrive) noPoints < noPoints = search reads in
+          let by = spans-in t v old spans ((k .0) .arrive) left .1 in
+          let u = useful (k .0) (f .0) in
+          let at = ap (λ r. r .arrive) (k .2) in
+          (omega (arith, u .0, at), omega (arith, u .1, by, at))
+
+      pub noted-spans : Spans t v (noteAll blank (catches cm cp old rides))
+      noted-spans =
+          record {
+            long = length-noted counted blank ∙ blank-spans .long;
+            below = λ m h. outside m (none-below m h) (blank-spans .below m h);
+            above = λ m h. outside m (none-above m h) (blank-spans .above m h);
+          }
+        where
+          blank-spans : Spans t v blank
+          blank-spans = spans-blank t v
+
+          noted : Noted noPoints blank (noteAll blank counted) counted
+          noted =
+              all-noted noPoints counted blank (λ r m. omega (arith, within r m .1, blank-spans .long))
+
+          Note : ℕ → Type 0
+          Note m = Arrives noPoints counted m (getD (noteAll blank counted) m noPoints)
+
+          none-below : (m : ℕ) → m < t → ¬ Note m
+          none-below m h a = omega (arith, within (a .ride) (a .listed) .0, a .at)
+
+          none-above : (m : ℕ) → v < m → ¬ Note m
+          none-above m h a = omega (arith, within (a .ride) (a .listed) .1, a .at)
+
+          outside : (m : ℕ) → ¬ Note m
+              → getD blank m noPoints ≡ noPoints
+              → getD (noteAll blank counted) m noPoints ≡ noPoints
+          outside m far none = elim (noted .stems m) [ inl e ↦ e ∙ none | inr a ↦ absurd (far a) ]
 
 module _ (timetable : Timetable) (okay : T (valid timetable)) (b v t : ℕ) where
   abbrev n : Net
@@ -96,7 +154,7 @@ module _ (timetable : Timetable) (okay : T (valid timetable)) (b v t : ℕ) wher
       (listed : w ∈ n .changes)
       (at : w .from ≡ x)
       (rides : List Ride)
-      (told : (r : Ride) → r ∈ rides ↔ (Boards n x t r × (r .to ≡ y)))
+      (told : (r : Ride) → r ∈ rides ↔ (Boards n x (t + w .minutes) r × (r .to ≡ y)))
       (old : List ℕ)
       (rests : Rests n b v t q y old)
     where
@@ -106,7 +164,7 @@ module _ (timetable : Timetable) (okay : T (valid timetable)) (b v t : ℕ) wher
       -- a ride that can be caught, as it is counted
       record Caught (r : Ride) : Type 0 where
         ride : Ride
-        boards : Boards n x t ride
+        boards : Boards n x (t + w .minutes) ride
         to : ride .to ≡ y
         rest : Rest n b v q y (ride .arrive) (getD old (ride .arrive) noPoints)
         early : w .minutes ≤ ride .depart
@@ -132,7 +190,7 @@ module _ (timetable : Timetable) (okay : T (valid timetable)) (b v t : ℕ) wher
             pays = sym (ap (λ r. r .points) (k .2));
           }
 
-      caught-in : (r : Ride) → Boards n x t r → r .to ≡ y → getD old (r .arrive) noPoints < noPoints
+      caught-in : (r : Ride) → Boards n x (t + w .minutes) r → r .to ≡ y → getD old (r .arrive) noPoints < noPoints
           → w .minutes ≤ r .depart → caught (w .minutes) (w .points) old r ∈ those
       unfolding catches
       caught-in r boards to left early =
@@ -145,11 +203,11 @@ module _ (timetable : Timetable) (okay : T (valid timetable)) (b v t : ℕ) wher
           omega (arith, c .minute, ok .forward (c .ride) (c .boards .listed), ok .bounded (c .ride) (c .boards .listed))
 
       -- the least penalties of those, for who can wait
-      module _ (after : List ℕ) (noted : LeastNoted noPoints after those) where
-        some : (m : ℕ) → getD (settled noPoints after) m noPoints < noPoints
-            → Rest n b v (y ∷ q) x m (getD (settled noPoints after) m noPoints)
+      module _ (after : List ℕ) (noted : LeastNoted noPoints after those) (inside : t ≤ length after) where
+        some : (m : ℕ) → getD (settledFrom noPoints t after) m noPoints < noPoints
+            → Rest n b v (y ∷ q) x m (getD (settledFrom noPoints t after) m noPoints)
         some m h =
-            let k = settled-is noPoints after m h in
+            let k = from-is noPoints t after inside m h in
             let a = noted .arrives (k .0) (omega (arith, k .2)) in
             let c = caught-out (a .ride) (a .listed) in
             let r = c .ride in
@@ -173,7 +231,8 @@ module _ (timetable : Timetable) (okay : T (valid timetable)) (b v t : ℕ) wher
               total = omega (arith, k .2, a .costs, c .pays, e .total);
             }
 
-        least : (m s : ℕ) → t ≤ m → m < 2880 → Rest n b v (y ∷ q) x m s → getD (settled noPoints after) m noPoints ≤ s
+        least : (m s : ℕ) → t ≤ m → m < 2880 → Rest n b v (y ∷ q) x m s
+            → getD (settledFrom noPoints t after) m noPoints ≤ s
         least m s h g o =
             let same : o .change ≡ w = named timetable .change (o .change) w (o .listed) listed (o .at ∙ sym at) in
             let x′ = o .change .to in
@@ -184,11 +243,11 @@ module _ (timetable : Timetable) (okay : T (valid timetable)) (b v t : ℕ) wher
             let minutes = ap (λ w. w .minutes) same in
             let points = ap (λ w. w .points) same in
             let most = penalty-most timetable okay x′ u b e (o .feasible) in
-            let boards : Boards n x t r =
+            let boards : Boards n x (t + w .minutes) r =
             record {
               listed = d .boards .listed;
               here = d .boards .here ∙ ok .stays (o .change) (o .listed) ∙ o .at;
-              timely = omega (arith, d .boards .timely);
+              timely = omega (arith, d .boards .timely, minutes);
             }
             in
             let forward = ok .forward r (d .boards .listed) in
@@ -199,7 +258,7 @@ module _ (timetable : Timetable) (okay : T (valid timetable)) (b v t : ℕ) wher
             let in-list = caught-in r boards (d .to) left early in
             omega (
               arith,
-              settled-low noPoints after m (r .depart - w .minutes) (omega (arith, d .boards .timely, minutes)),
+              from-low noPoints t after inside m (r .depart - w .minutes) h (omega (arith, d .boards .timely, minutes)),
               noted .low (caught (w .minutes) (w .points) old r) in-list,
               low,
               o .total,
@@ -207,28 +266,24 @@ module _ (timetable : Timetable) (okay : T (valid timetable)) (b v t : ℕ) wher
               points,
             )
 
-        settled-rests : Rests n b v t (y ∷ q) x (settled noPoints after)
+        settled-rests : Rests n b v t (y ∷ q) x (settledFrom noPoints t after)
         settled-rests = record { some = some; least = least }
 
-      pub rests-before : Rests n b v t (y ∷ q) x (stepped (w .minutes) (w .points) old rides)
+      pub rests-before : t ≤ 2880 → Rests n b v t (y ∷ q) x (stepped t (w .minutes) (w .points) old rides)
       unfolding stepped
-      rests-before = settled-rests (noteAll blank those) (least-noted noPoints 2880 those in-time)
+      rests-before h =
+          let long = length-noted those blank ∙ spans-blank t v .long in
+          settled-rests (noteAll blank those) (least-noted noPoints 2880 those in-time) (omega (arith, long))
 
   -- ---- at the target
-  module _ (x : ℕ) (at : x ≡ b) where
-    pub rests-end : Rests n b v t [] x (arrived v)
-    unfolding arrived
+  module _ (x : ℕ) (at : x ≡ b) (z : List ℕ) (arrived : Arrived t v z) where
+    pub rests-end : Rests n b v t [] x z
     rests-end = record { some = some; least = least }
       where
-        some : (m : ℕ) → getD (zeros v blank) m noPoints < noPoints
-            → Rest n b v [] x m (getD (zeros v blank) m noPoints)
-        some m h = either (leb m v) early late
-          where
-            early : T (leb m v) → Rest n b v [] x m (getD (zeros v blank) m noPoints)
-            early g = (at, leb→le m v g, zeros-at v blank m (leb→le m v g))
+        some : (m : ℕ) → getD z m noPoints < noPoints → Rest n b v [] x m (getD z m noPoints)
+        some m h =
+            let w = spans-in t v z (arrived .spans) m h in
+            (at, w .1, arrived .free m (w .0) (w .1))
 
-            late : T (not (leb m v)) → Rest n b v [] x m (getD (zeros v blank) m noPoints)
-            late g = absurd (omega (arith, zeros-past v blank m (nleb→lt m v g), getD-same 2880 noPoints m))
-
-        least : (m s : ℕ) → t ≤ m → m < 2880 → Rest n b v [] x m s → getD (zeros v blank) m noPoints ≤ s
-        least m s h g rest = omega (arith, zeros-at v blank m (rest .1))
+        least : (m s : ℕ) → t ≤ m → m < 2880 → Rest n b v [] x m s → getD z m noPoints ≤ s
+        least m s h g rest = omega (arith, arrived .free m h (rest .1))

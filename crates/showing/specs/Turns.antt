@@ -9,11 +9,12 @@ use Rattle.timetable.specs.Words.{stationAt}
 use Rattle.lists.specs.Lists.{before, keep, filter}
 use Rattle.connections.specs.Rides.{Ride}
 use Rattle.direct.specs.Candidates.{allRead}
-use Rattle.direct.specs.Choosing.{noPoints, noteAll}
+use Rattle.direct.specs.Choosing.{noPoints, noteAll, blank}
 use Rattle.direct.specs.Turns.{lowered}
 use Rattle.riding.specs.declared.Ride.{Ride as RideStruct}
 use Rattle.riding.specs.Riding.{Tells}
-use Rattle.showing.specs.Stepping.{catchable, catches, stepped}
+use Rattle.showing.specs.Settling.{settledFrom}
+use Rattle.showing.specs.Stepping.{catchable, catches}
 use Rattle.showing.specs.Foremost.{former, foremost}
 use Rattle.showing.specs.Heads.{lateness, headKey, noRide, takeable, headOf}
 
@@ -63,12 +64,16 @@ catches-more cm cp old z r l = go (catchable cm old r) refl
     go true e = rw e
     go false e = rw e
 
--- what is left behind the station before station j of a path
-unfoldable pub stepBack : (w lines : List ℕ) (minute : ℕ) (path : List ℕ) (j : ℕ) (z : List ℕ) → List ℕ
-stepBack w lines minute path j z =
+-- z once all rides from the station before station j of a path to station j are noted, old being what is left there
+unfoldable pub gatherBack : (w lines : List ℕ) (minute : ℕ) (path : List ℕ) (j : ℕ) (old z : List ℕ) → List ℕ
+gatherBack w lines minute path j old z =
     let x = getD path (j - 1) 0 in
     let s = stationAt w (x - 1) in
-    stepped (s .minutes) (s .points) z (allRead lines x minute (getD path j 0))
+    noteAll z (catches (s .minutes) (s .points) old (allRead lines x (minute + s .minutes) (getD path j 0)))
+
+-- what is left behind the station before station j of a path
+unfoldable pub stepBack : (w lines : List ℕ) (minute : ℕ) (path : List ℕ) (j : ℕ) (z : List ℕ) → List ℕ
+stepBack w lines minute path j z = settledFrom noPoints minute (gatherBack w lines minute path j z blank)
 
 -- ---- the ride to take, once one ride more is seen
 abbrev keyOf : (first : Bool) → RideStruct → List ℕ

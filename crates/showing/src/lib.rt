@@ -1,9 +1,9 @@
 // The connection of one stored pattern that is shown for a row: what is left behind each station, station by station
 // from the target back, and then ride by ride the first that can be taken.
 ghost use mathlib.Core.Path.{_≡_};
-ghost use mathlib.Core.List.{[], _∷_, _++_};
+ghost use mathlib.Core.List.{[], _∷_};
 ghost use Prim.Native.Nat.{_+_, _-_, _*_, _≤_, _<_, min};
-ghost use lib.ListN.{length, getD, drop, replicate};
+ghost use lib.ListN.{length, getD};
 ghost use Rattle.words.specs.Put.{put};
 ghost use Rattle.timetable.specs.Words.{stationCount};
 ghost use Rattle.lookup.specs.Lookup.{callsPlace};
@@ -12,17 +12,17 @@ ghost use Rattle.direct.specs.Choosing.{noPoints, noteAll, blank};
 ghost use Rattle.direct.specs.Turns.{lowered};
 ghost use Rattle.showing.specs.Showing.{Given, FoundAt};
 ghost use Rattle.showing.specs.Rests.{RestsAt};
-ghost use Rattle.showing.specs.Settling.{settled};
-ghost use Rattle.showing.specs.Stepping.{arrived, catches};
+ghost use Rattle.showing.specs.Settling.{settledFrom};
+ghost use Rattle.showing.specs.Spans.{Spans, Stored, Arrived};
+ghost use Rattle.showing.specs.Stepping.{catches};
 ghost use Rattle.showing.specs.Heads.{lateness, headOf};
 ghost use Rattle.showing.specs.OnTheWay.{Standing, Headed, Moved, Rode};
-ghost use Rattle.showing.specs.Turns.{stepBack, caughtBy, tellsOf, numbersBefore, comesBefore, tried, Sized};
+ghost use Rattle.showing.specs.Turns.{caughtBy, gatherBack, stepBack};
+ghost use Rattle.showing.specs.Turns.{tellsOf, numbersBefore, comesBefore, tried, Sized};
 use riding::Ride;
 use timetable::Station;
 
-// The minutes in which a trip may arrive: 0 to 2,879.
-const MINUTES: usize = 2880;
-
+// The last minute in which a trip may arrive.
 const LAST_MINUTE: usize = 2879;
 
 // The penalty where nothing is left that arrives in time; all that does has less.
@@ -62,15 +62,18 @@ fn less(a: usize, b: usize) -> usize
 }
 
 // ---- what is left behind each station
+//
+// There is a word for each minute of the two days, but only the minutes from the query's to the row's can matter, and
+// only their words are stored: all others say throughout that nothing is left.
 
-// Stores x in the first n words.
-fn fill(z: &mut [u32], n: usize, x: u32)
-    requires { ⌜ n ≤ length (now z) ⌝ }
-    ensures { λ _. ⌜ now (z .exit) ≡ replicate n x ++ drop n (now (z .entry)) ⌝ }
+// Stores x in the words from `from` to before `to`.
+fn fill(z: &mut [u32], from: usize, to: usize, x: u32)
+    requires { ⌜ (from ≤ to) × (to ≤ length (now z)) ⌝ }
+    ensures { λ _. ⌜ Stored (λ _. x) from to (now (z .entry)) (now (z .exit)) ⌝ }
     ensures { λ _. ⌜ length (now (z .exit)) ≡ length (now (z .entry)) ⌝ }
 {
-    let mut i = 0;
-    while i < n {
+    let mut i = from;
+    while i < to {
         z[i] = x;
         i += 1;
     }
@@ -156,14 +159,15 @@ fn lesser(a: u32, b: u32) -> u32
 }
 
 // Who arrives earlier can wait: each minute takes the least of its own and all later ones.
-fn settle(z: &mut [u32])
-    requires { ⌜ length (now z) ≡ 2880 ⌝ }
-    ensures { λ _. ⌜ now (z .exit) ≡ settled noPoints (now (z .entry)) ⌝ }
+fn settle(z: &mut [u32], minute: usize, v: usize)
+    requires { ⌜ (minute ≤ v) × (v ≤ 2879) × Spans minute v (now z) ⌝ }
+    ensures { λ _. ⌜ (now (z .exit) ≡ settledFrom noPoints minute (now (z .entry)))
+        × Spans minute v (now (z .exit)) ⌝ }
     ensures { λ _. ⌜ length (now (z .exit)) ≡ length (now (z .entry)) ⌝ }
 {
     let mut low = NO_POINTS;
-    let mut m = MINUTES;
-    while 0 < m {
+    let mut m = v + 1;
+    while minute < m {
         m -= 1;
         low = lesser(z[m], low);
         z[m] = low;
@@ -179,54 +183,100 @@ fn station(path: &[u16], i: usize) -> usize
 }
 
 // Copies what is left, to go on from it.
-fn keep(old: &mut [u32], z: &[u32])
-    requires { ⌜ (length (now old) ≡ 2880) × (length (now z) ≡ 2880) ⌝ }
+fn keep(old: &mut [u32], z: &[u32], minute: usize, v: usize)
+    requires { ⌜ (minute ≤ v) × (v ≤ 2879) × Spans minute v (now old) × Spans minute v (now z) ⌝ }
     ensures { λ _. ⌜ now (old .exit) ≡ now (z .entry) ⌝ }
     ensures { λ _. ⌜ length (now (old .exit)) ≡ length (now (old .entry)) ⌝ }
 {
-    words::copy_long(old, 0, z, MINUTES);
+    let mut m = minute;
+    while m <= v {
+        old[m] = z[m];
+        m += 1;
+    }
 }
 
 // Nothing is noted yet.
-fn clear(z: &mut [u32])
-    requires { ⌜ length (now z) ≡ 2880 ⌝ }
+fn clear(z: &mut [u32], minute: usize, v: usize)
+    requires { ⌜ (minute ≤ v) × (v ≤ 2879) × Spans minute v (now z) ⌝ }
     ensures { λ _. ⌜ now (z .exit) ≡ blank ⌝ }
     ensures { λ _. ⌜ length (now (z .exit)) ≡ length (now (z .entry)) ⌝ }
 {
-    fill(z, MINUTES, NO_POINTS);
+    fill(z, minute, v + 1, NO_POINTS);
 }
 
-// From what is left behind station j of a path to what is left behind the one before it.
-fn step(words: &[u16], lines: &[u16], minute: usize, path: &[u16], j: usize, z: &mut [u32])
+// Notes all rides from the station before station j of a path to station j, for one who arrives at the minute or later:
+// a ride that leaves before he can have changed is of no use.
+fn gather_back(
+    words: &[u16],
+    lines: &[u16],
+    minute: usize,
+    path: &[u16],
+    j: usize,
+    old: &[u32],
+    z: &mut [u32],
+)
     requires { ⌜ (16384 ≤ length (now words))
+        × (minute ≤ 2879)
         × (1 ≤ j)
         × (j < length (now path))
         × (1 ≤ getD (now path) (j - 1) 0)
         × (getD (now path) (j - 1) 0 ≤ 64)
-        × (callsPlace (now lines) (getD (now path) (j - 1) 0) ≤ length (now lines))
-        × (length (now z) ≡ 2880) ⌝ }
+        × (callsPlace (now lines) (getD (now path) (j - 1) 0) ≤ length (now lines)) ⌝ }
     ensures { λ _. ⌜ now (z .exit)
-        ≡ stepBack (now (words .entry)) (now (lines .entry)) minute (now (path .entry)) j (now (z .entry)) ⌝ }
+        ≡ gatherBack (now (words .entry)) (now (lines .entry)) minute (now (path .entry)) j (now (old .entry))
+        (now (z .entry)) ⌝ }
     ensures { λ _. ⌜ length (now (z .exit)) ≡ length (now (z .entry)) ⌝ }
 {
     let from = station(path, j - 1);
     let to = station(path, j);
     let change = timetable::station_at(words, from - 1);
-    let mut old = [0u32; 2880];
-    keep(&mut old, z);
-    clear(z);
-    gather(lines, from, to, minute, change, &old, z);
-    settle(z);
+    gather(
+        lines,
+        from,
+        to,
+        minute + change.minutes as usize,
+        change,
+        old,
+        z,
+    );
 }
 
-// Behind the last station nothing is left, by minute v.
-fn fill_last(z: &mut [u32], v: usize)
-    requires { ⌜ (v ≤ 2879) × (length (now z) ≡ 2880) ⌝ }
-    ensures { λ _. ⌜ now (z .exit) ≡ arrived v ⌝ }
+// From what is left behind station j of a path to what is left behind the one before it.
+fn step(
+    words: &[u16],
+    lines: &[u16],
+    minute: usize,
+    path: &[u16],
+    j: usize,
+    v: usize,
+    z: &mut [u32],
+    old: &mut [u32],
+)
+    requires { ⌜ Given (now words) (now lines) (now path) (j + 1) v
+        × (1 ≤ j)
+        × (minute ≤ v)
+        × Spans minute v (now z)
+        × Spans minute v (now old) ⌝ }
+    ensures { λ _. ⌜ (now (z .exit)
+        ≡ stepBack (now (words .entry)) (now (lines .entry)) minute (now (path .entry)) j (now (z .entry)))
+        × Spans minute v (now (z .exit))
+        × Spans minute v (now (old .exit)) ⌝ }
+    ensures { λ _. ⌜ (length (now (z .exit)) ≡ length (now (z .entry)))
+        × (length (now (old .exit)) ≡ length (now (old .entry))) ⌝ }
+{
+    keep(old, z, minute, v);
+    clear(z, minute, v);
+    gather_back(words, lines, minute, path, j, old, z);
+    settle(z, minute, v);
+}
+
+// Behind the last station nothing is left to pay, by minute v.
+fn fill_last(z: &mut [u32], minute: usize, v: usize)
+    requires { ⌜ (minute ≤ v) × (v ≤ 2879) × Spans minute v (now z) ⌝ }
+    ensures { λ _. ⌜ Arrived minute v (now (z .exit)) ⌝ }
     ensures { λ _. ⌜ length (now (z .exit)) ≡ length (now (z .entry)) ⌝ }
 {
-    clear(z);
-    fill(z, v + 1, 0);
+    fill(z, minute, v + 1, 0);
 }
 
 // What is left behind station i of a path of r stations, for one who is to arrive at the last by minute v.
@@ -239,15 +289,23 @@ fn rest(
     r: usize,
     v: usize,
     z: &mut [u32],
+    old: &mut [u32],
 )
-    requires { ⌜ Given (now words) (now lines) (now path) r v × (i < r) × (length (now z) ≡ 2880) ⌝ }
-    ensures { λ _. ⌜ RestsAt (now (words .entry)) (now (path .entry)) r v minute i (now (z .exit)) ⌝ }
-    ensures { λ _. ⌜ length (now (z .exit)) ≡ length (now (z .entry)) ⌝ }
+    requires { ⌜ Given (now words) (now lines) (now path) r v
+        × (i < r)
+        × (minute ≤ v)
+        × Spans minute v (now z)
+        × Spans minute v (now old) ⌝ }
+    ensures { λ _. ⌜ RestsAt (now (words .entry)) (now (path .entry)) r v minute i (now (z .exit))
+        × Spans minute v (now (z .exit))
+        × Spans minute v (now (old .exit)) ⌝ }
+    ensures { λ _. ⌜ (length (now (z .exit)) ≡ length (now (z .entry)))
+        × (length (now (old .exit)) ≡ length (now (old .entry))) ⌝ }
 {
-    fill_last(z, v);
+    fill_last(z, minute, v);
     let mut j = r - 1;
     while i < j {
-        step(words, lines, minute, path, j, z);
+        step(words, lines, minute, path, j, v, z, old);
         j -= 1;
     }
 }
@@ -359,12 +417,23 @@ fn take_ride(
     v: usize,
     at: At,
     first: bool,
+    z: &mut [u32],
+    old: &mut [u32],
 ) -> Ride
-    requires { ⌜ Given (now words) (now lines) (now path) r v × (i < r) × Standing (now words) minute at ⌝ }
-    ensures { λ s. ⌜ Headed (now (words .entry)) (now (path .entry)) r v first i at s × Sized s ⌝ }
+    requires { ⌜ Given (now words) (now lines) (now path) r v
+        × (i < r)
+        × Standing (now words) minute at
+        × (minute ≤ v)
+        × Spans minute v (now z)
+        × Spans minute v (now old) ⌝ }
+    ensures { λ s. ⌜ Headed (now (words .entry)) (now (path .entry)) r v first i at s
+        × Sized s
+        × Spans minute v (now (z .exit))
+        × Spans minute v (now (old .exit)) ⌝ }
+    ensures { λ _. ⌜ (length (now (z .exit)) ≡ length (now (z .entry)))
+        × (length (now (old .exit)) ≡ length (now (old .entry))) ⌝ }
 {
-    let mut z = [0u32; 2880];
-    rest(words, lines, minute, path, i, r, v, &mut z);
+    rest(words, lines, minute, path, i, r, v, z, old);
     choose(
         lines,
         at.from,
@@ -372,7 +441,7 @@ fn take_ride(
         at.ready,
         first,
         at.left,
-        &z,
+        z,
     )
 }
 
@@ -425,16 +494,25 @@ fn ride_on(
     at: At,
     first: bool,
     rides: &mut [u32],
+    z: &mut [u32],
+    old: &mut [u32],
 ) -> Next
     requires { ⌜ Given (now words) (now lines) (now path) r v
         × (i < r)
         × Standing (now words) minute at
-        × (length (now rides) ≡ 192) ⌝ }
+        × (length (now rides) ≡ 192)
+        × (minute ≤ v)
+        × Spans minute v (now z)
+        × Spans minute v (now old) ⌝ }
     ensures { λ s. ⌜ Rode (now (words .entry)) (now (path .entry)) r v first i at (now (rides .entry))
-        (now (rides .exit)) s ⌝ }
-    ensures { λ _. ⌜ length (now (rides .exit)) ≡ length (now (rides .entry)) ⌝ }
+        (now (rides .exit)) s
+        × Spans minute v (now (z .exit))
+        × Spans minute v (now (old .exit)) ⌝ }
+    ensures { λ _. ⌜ (length (now (rides .exit)) ≡ length (now (rides .entry)))
+        × (length (now (z .exit)) ≡ length (now (z .entry)))
+        × (length (now (old .exit)) ≡ length (now (old .entry))) ⌝ }
 {
-    let ride = take_ride(words, lines, minute, path, i, r, v, at, first);
+    let ride = take_ride(words, lines, minute, path, i, r, v, at, first, z, old);
     if ride.trip == NO_TRIP {
         return Next {
             found: false,
@@ -451,7 +529,83 @@ fn ride_on(
 }
 
 // The connection along a path of r stations, from the source at the minute, that is shown for a row: there by minute v,
-// for p points at the most. Its rides are written.
+// which is no earlier, for p points at the most. Its rides are written.
+fn first_in_time(
+    words: &[u16],
+    lines: &[u16],
+    source: usize,
+    minute: usize,
+    path: &[u16],
+    r: usize,
+    v: usize,
+    p: u32,
+    rides: &mut [u32],
+    z: &mut [u32],
+    old: &mut [u32],
+) -> First
+    requires { ⌜ Given (now words) (now lines) (now path) r v
+        × (1 ≤ r)
+        × (1 ≤ source)
+        × (source ≤ stationCount (now words))
+        × (length (now rides) ≡ 192)
+        × (minute ≤ v)
+        × Spans minute v (now z)
+        × Spans minute v (now old) ⌝ }
+    ensures { λ f. ⌜ FoundAt (now (words .entry)) (now (path .entry)) r v source minute p f (now (rides .exit)) ⌝ }
+    ensures { λ _. ⌜ length (now (rides .exit)) ≡ length (now (rides .entry)) ⌝ }
+{
+    let start = At {
+        from: source,
+        ready: minute,
+        left: p as usize,
+    };
+    let head = ride_on(
+        words,
+        lines,
+        minute,
+        path,
+        0,
+        r,
+        v,
+        start,
+        true,
+        rides,
+        z,
+        old,
+    );
+    if !head.found {
+        return First {
+            found: false,
+            depart: 0,
+        };
+    }
+    let mut at = head.at;
+    let mut i = 1;
+    while i < r {
+        let next = ride_on(
+            words,
+            lines,
+            minute,
+            path,
+            i,
+            r,
+            v,
+            at,
+            false,
+            rides,
+            z,
+            old,
+        );
+        at = next.at;
+        i += 1;
+    }
+    First {
+        found: true,
+        depart: head.depart,
+    }
+}
+
+// The same for any minute v: there is none by a minute before the query's.
 pub fn first_of_pattern(
     words: &[u16],
     lines: &[u16],
@@ -471,27 +625,25 @@ pub fn first_of_pattern(
     ensures { λ f. ⌜ FoundAt (now (words .entry)) (now (path .entry)) r v source minute p f (now (rides .exit)) ⌝ }
     ensures { λ _. ⌜ length (now (rides .exit)) ≡ length (now (rides .entry)) ⌝ }
 {
-    let start = At {
-        from: source,
-        ready: minute,
-        left: p as usize,
-    };
-    let head = ride_on(words, lines, minute, path, 0, r, v, start, true, rides);
-    if !head.found {
+    if v < minute {
         return First {
             found: false,
             depart: 0,
         };
     }
-    let mut at = head.at;
-    let mut i = 1;
-    while i < r {
-        let next = ride_on(words, lines, minute, path, i, r, v, at, false, rides);
-        at = next.at;
-        i += 1;
-    }
-    First {
-        found: true,
-        depart: head.depart,
-    }
+    let mut z = [NO_POINTS; 2880];
+    let mut old = [NO_POINTS; 2880];
+    first_in_time(
+        words,
+        lines,
+        source,
+        minute,
+        path,
+        r,
+        v,
+        p,
+        rides,
+        &mut z,
+        &mut old,
+    )
 }

@@ -1,6 +1,6 @@
--- All words are filled.
-use Rattle.showing.proofs.GatherLaws.{cleared}
+-- The words of the window are filled, and all others said so before.
 use borrow.Author.Needs.{needs}
+use Rattle.showing.proofs.RestLaws.{cleared}
 use Rattle.showing.proofs.clear.Statement.{statement}
 use Rattle.showing.proofs.clear.Tie as tie
 
@@ -8,4 +8,4 @@ returns : tie.Need-returns
 returns c = (search cleared, search needs)
 
 pub clear-spec : {M : Type 1} → statement M
-clear-spec = tie.close (tie.spec (λ c. search needs) (λ c. search needs) returns)
+clear-spec = tie.close (tie.spec (λ c. search needs) (λ c. search needs) (λ c. search needs) returns)

@@ -1,6 +1,6 @@
--- All words are cleared, and then those up to minute v are 0.
-use Rattle.showing.proofs.GatherLaws.{last-filled}
+-- The words of the window are 0, and the others as they were.
 use borrow.Author.Needs.{needs}
+use Rattle.showing.proofs.RestLaws.{last-filled}
 use Rattle.showing.proofs.fill_last.Statement.{statement}
 use Rattle.showing.proofs.fill_last.Tie as tie
 
@@ -8,5 +8,4 @@ returns : tie.Need-returns
 returns c = (search last-filled, search needs)
 
 pub fill-last-spec : {M : Type 1} → statement M
-fill-last-spec =
-    tie.close (tie.spec (λ c. search needs) (λ c. search needs) (λ c. search needs) (λ c. search needs) returns)
+fill-last-spec = tie.close (tie.spec (λ c. search needs) (λ c. search needs) (λ c. search needs) returns)

@@ -1,6 +1,6 @@
 -- With what is left at hand, the ride that is chosen is the one to take.
-use Rattle.showing.proofs.WayLaws.{stand-few, stand-calls, head-taken}
 use borrow.Author.Needs.{needs}
+use Rattle.showing.proofs.WayLaws.{stand-few, stand-calls, head-taken}
 use Rattle.showing.proofs.take_ride.Statement.{statement}
 use Rattle.showing.proofs.take_ride.Tie as tie
 
@@ -8,15 +8,9 @@ choose-requires : tie.Need-choose-requires
 choose-requires c κs = (search needs, search stand-few, search stand-calls)
 
 returns : tie.Need-returns
-returns c = (search head-taken, search needs)
+returns c = ((search head-taken, search needs, search needs, search needs), search needs)
 
 pub take-ride-spec : {M : Type 1} → statement M
 take-ride-spec =
     tie.close
-    (tie.spec
-    (λ c. search needs)
-    (λ c. search needs)
-    (λ c. search needs)
-    (λ c. search needs)
-    choose-requires
-    returns)
+    (tie.spec (λ c. search needs) (λ c. search needs) choose-requires (λ c. search needs) (λ c. search needs) returns)
