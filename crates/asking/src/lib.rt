@@ -1,15 +1,18 @@
 // The query from a store: what a rider is shown.
 ghost use mathlib.Core.Path.{_≡_};
 ghost use mathlib.Core.List.{_∷_};
-ghost use Prim.Native.Nat.{_+_, _-_, _*_, _≤_, _<_};
-ghost use lib.ListN.{length, take};
+ghost use Prim.Native.Nat.{_+_, _-_, _*_, _≤_, _<_, min};
+ghost use lib.ListN.{length, getD, take, set};
 ghost use Rattle.words.specs.Put.{put};
 ghost use Rattle.lists.specs.Lists.{before};
 ghost use Rattle.wellmade.specs.Entries.{arcCount, arcTarget};
 ghost use Rattle.asking.specs.Asking.{kept, rows, rowWords, askReply, askWords};
 ghost use Rattle.asking.specs.Keys.{keyWords};
 ghost use Rattle.asking.specs.Rowed.{LeastKept};
-ghost use Rattle.asking.specs.Arcs.{Noted};
+ghost use Rattle.direct.specs.Choosing.{noPoints, blank};
+ghost use Rattle.asking.specs.Merged.{unnamed, soleOf, Bound, Outside, Merged};
+ghost use Rattle.asking.specs.Arcs.{NotedAll};
+ghost use Rattle.asking.specs.Leader.{AllNamed};
 ghost use Rattle.asking.specs.Granted.{Granted, Leading, Winning, Counted, Written, Room};
 ghost use Rattle.asking.specs.Trying.{Sized, winsTest, ArcTried, Tried};
 ghost use Rattle.asking.specs.Shown.{shownReply, shownWords};
@@ -84,7 +87,80 @@ fn goes_before(g: Winner, tried: &[u32], f: Winner, shown: &[u32]) -> bool
     words_before(tried, shown, 3 * g.rides)
 }
 
-// Lowers the least penalties to those of the connections of arc k.
+// The word of the arc that alone reaches a minute for the least penalty, once arc k reaches it for some points: that of
+// arc k if it pays less than those before, their own if it pays more, and none if it pays the same.
+fn sole_arc(k: usize, best: u32, named: u16, points: u32) -> u16
+    requires { ⌜ k + 1 < 65536 ⌝ }
+    ensures { λ r. ⌜ r ≡ soleOf k best named points ⌝ }
+{
+    if points < best {
+        return (k + 1) as u16;
+    }
+    if best < points {
+        return named;
+    }
+    0
+}
+
+// Merges what arc k alone pays in minute m into the least penalties, and blanks it.
+fn merge_minute(k: usize, m: usize, mine: &mut [u32], best: &mut [u32], who: &mut [u16])
+    requires { ⌜ (k + 1 < 65536)
+        × (m < length (now mine))
+        × (m < length (now best))
+        × (m < length (now who)) ⌝ }
+    ensures { λ _. ⌜ (now (mine .exit) ≡ set (now (mine .entry)) m noPoints)
+        × (now (best .exit)
+        ≡ set (now (best .entry)) m (min (getD (now (best .entry)) m 0) (getD (now (mine .entry)) m 0)))
+        × (now (who .exit)
+        ≡ set
+        (now (who .entry))
+        m
+        (soleOf k (getD (now (best .entry)) m 0) (getD (now (who .entry)) m 0) (getD (now (mine .entry)) m 0))) ⌝ }
+{
+    let points = mine[m];
+    let least = best[m];
+    let named = who[m];
+    who[m] = sole_arc(k, least, named, points);
+    best[m] = direct::lesser(least, points);
+    mine[m] = NO_POINTS;
+}
+
+// Merges the least penalties of arc k alone into those of the arcs before it, and blanks them. The arc reaches no
+// minute before `from`, and none from `to` on.
+fn merge(k: usize, from: usize, to: usize, mine: &mut [u32], best: &mut [u32], who: &mut [u16])
+    requires { ⌜ (k + 1 < 65536)
+        × (from ≤ to)
+        × (to ≤ 2880)
+        × Outside from to (now mine)
+        × Bound (now best) (now who)
+        × (length (now mine) ≡ 2880)
+        × (length (now best) ≡ 2880)
+        × (length (now who) ≡ 2880) ⌝ }
+    ensures { λ _. ⌜ Merged
+        k
+        (now (mine .entry))
+        (now (best .entry))
+        (now (who .entry))
+        (now (best .exit))
+        (now (who .exit))
+        × (now (mine .exit) ≡ blank) ⌝ }
+    ensures { λ _. ⌜ (length (now (mine .exit)) ≡ length (now (mine .entry)))
+        × (length (now (best .exit)) ≡ length (now (best .entry)))
+        × (length (now (who .exit)) ≡ length (now (who .entry))) ⌝ }
+{
+    let mut m = from;
+    'minutes: while m < to {
+        let here = m;
+        m += 1;
+        if mine[here] == NO_POINTS {
+            continue 'minutes;
+        }
+        merge_minute(k, here, mine, best, who);
+    }
+}
+
+// Lowers the least penalties to those of the connections of arc k, and notes the minutes that it alone reaches for the
+// least penalty. The array for its own penalties is blank before and after.
 fn note_arc(
     words: &[u16],
     lines: &[u16],
@@ -93,27 +169,42 @@ fn note_arc(
     to: usize,
     minute: usize,
     k: usize,
+    mine: &mut [u32],
     best: &mut [u32],
+    who: &mut [u16],
 )
     requires { ⌜ Granted (now words) (now lines) (now store) from to minute
         × (k < arcCount (now store))
-        × (length (now best) ≡ 2880) ⌝ }
-    ensures { λ _. ⌜ Noted
+        × (arcTarget (now store) k ≡ to)
+        × (now mine ≡ blank)
+        × Bound (now best) (now who)
+        × NotedAll (now words) (now store) from to minute k (now best) (now who)
+        × (length (now mine) ≡ 2880)
+        × (length (now best) ≡ 2880)
+        × (length (now who) ≡ 2880) ⌝ }
+    ensures { λ _. ⌜ (now (mine .exit) ≡ blank)
+        × Bound (now (best .exit)) (now (who .exit))
+        × NotedAll
         (now (words .entry))
         (now (store .entry))
         from
+        to
         minute
-        k
-        (now (best .entry))
-        (now (best .exit)) ⌝ }
-    ensures { λ _. ⌜ length (now (best .exit)) ≡ length (now (best .entry)) ⌝ }
+        (k + 1)
+        (now (best .exit))
+        (now (who .exit)) ⌝ }
+    ensures { λ _. ⌜ (length (now (mine .exit)) ≡ length (now (mine .entry)))
+        × (length (now (best .exit)) ≡ length (now (best .entry)))
+        × (length (now (who .exit)) ≡ length (now (who .entry))) ⌝ }
 {
     let mut path = [0u16; STATIONS_MOST];
     let r = wellmade::arc_pattern(store, k, &mut path);
-    layers::note_pattern(words, lines, from, minute, &path, r, best);
+    layers::note_pattern(words, lines, from, minute, &path, r, mine);
+    merge(k, 0, MINUTES, mine, best, who);
 }
 
-// Notes the least penalty for each minute of arrival, of all connections whose pattern is stored.
+// Notes the least penalty for each minute of arrival, of all connections whose pattern is stored, and the arc that
+// alone has it.
 fn note_arcs(
     words: &[u16],
     lines: &[u16],
@@ -122,12 +213,19 @@ fn note_arcs(
     to: usize,
     minute: usize,
     best: &mut [u32],
+    who: &mut [u16],
 )
-    requires { ⌜ Granted (now words) (now lines) (now store) from to minute × (length (now best) ≡ 2880) ⌝ }
+    requires { ⌜ Granted (now words) (now lines) (now store) from to minute
+        × (length (now best) ≡ 2880)
+        × (now who ≡ unnamed)
+        × (length (now who) ≡ 2880) ⌝ }
     ensures { λ _. ⌜ LeastKept minute (kept (now (words .entry)) (now (store .entry)) from to minute) (now (best .exit))
-        × (length (now (best .exit)) ≡ 2880) ⌝ }
+        × AllNamed (now (words .entry)) (now (store .entry)) from to minute (now (best .exit)) (now (who .exit))
+        × (length (now (best .exit)) ≡ 2880)
+        × (length (now (who .exit)) ≡ 2880) ⌝ }
 {
     direct::fill_blank(best);
+    let mut mine = [NO_POINTS; MINUTES];
     let arcs = wellmade::arc_count(store);
     let mut k = 0;
     'arcs: while k < arcs {
@@ -136,7 +234,18 @@ fn note_arcs(
         if wellmade::arc_target(store, arc) != to {
             continue 'arcs;
         }
-        note_arc(words, lines, store, from, to, minute, arc, best);
+        note_arc(
+            words,
+            lines,
+            store,
+            from,
+            to,
+            minute,
+            arc,
+            &mut mine,
+            best,
+            who,
+        );
     }
 }
 
@@ -524,7 +633,8 @@ fn show(
     ensures { λ _. ⌜ now (answer .exit)
         ≡ shownWords (now (words .entry)) (now (store .entry)) from to minute (now (answer .entry)) ⌝ }
 {
-    note_arcs(words, lines, store, from, to, minute, best);
+    let mut who = [0u16; MINUTES];
+    note_arcs(words, lines, store, from, to, minute, best, &mut who);
     let count = direct::count_rows(best);
     if count < 1 {
         return Reply::Refused { number: 14 };
