@@ -10,7 +10,7 @@ use Rattle.results.specs.Results.{row}
 use Rattle.asking.specs.Asking.{kept}
 use Rattle.asking.specs.Rowed.{RowFor}
 use Rattle.asking.specs.Leading.{row-words}
-use Rattle.asking.specs.Granted.{costOf, Winning, Counted, Written, Room}
+use Rattle.asking.specs.Granted.{costOf, Winning, Written, Room}
 use Rattle.asking.specs.declared.Winner.{Winner}
 
 -- ---- two words, one, and the rest
@@ -53,9 +53,6 @@ module _ (w s shown : List ℕ) (a b u m p : ℕ) (x : Winner) (z : Winning w s 
 
   told-long : length told ≡ 3 + 3 * x .rides
   told-long = omega (arith, length-take-le (3 * x .rides) shown (omega (arith, z .few, z .long)))
-
-  pub row-counted : Counted w s a b u m p (3 + 3 * x .rides)
-  row-counted = record { row = told; is = row-told; long = told-long }
 
   pub row-room : (at : ℕ) (old : List ℕ) → Room w s a b u m p at old → at + (3 + 3 * x .rides) ≤ length old
   row-room at old h = omega (arith, h .room told row-told, told-long)

@@ -16,7 +16,7 @@ use Rattle.tables.specs.Spelled.{within}
 use Rattle.wellmade.specs.Entries.{nodeCount, arcCount, arcTarget, arcBefore}
 use Rattle.wellmade.specs.Paths.{nodePath, arcPath, arc-path, length-readable}
 use Rattle.wellmade.specs.Made.{Made}
-use Rattle.wellmade.specs.Granted.{arc-within, made}
+use Rattle.wellmade.specs.Granted.{arc-within, few-arcs, made}
 use Rattle.direct.specs.Choosing.{blank}
 use Rattle.layers.specs.Lowered.{Lowered}
 use Rattle.layers.specs.Patterns.{changesTo}
@@ -24,6 +24,8 @@ use Rattle.layers.specs.Onward.{Listed, Stations}
 use Rattle.asking.specs.Asking.{kept}
 use Rattle.asking.specs.Rowed.{LeastKept}
 use Rattle.asking.specs.Collected.{Collected, collected-first, collected-skip, collected-more, collected-all}
+use Rattle.asking.specs.Merged.{unnamed, Bound, Merged, lowered-merged}
+use Rattle.asking.specs.Sole.{Sole, sole-first, sole-skip, sole-more}
 use Rattle.asking.specs.Granted.{Granted, is-sound}
 
 turned : (l m n : List ℕ) → reverseAux (reverseAux l m) n ≡ reverseAux m (l ++ n)
@@ -91,38 +93,21 @@ module _ (w v s : List ℕ) (a b u : ℕ) (g : Granted w v s a b u) where
   pub store-present : 2 + 2 * nodeCount s + 2 * arcCount s ≤ length s
   store-present = store-made .present
 
+  -- the number of an arc and one more is a word
+  pub arc-few : (k : ℕ) → k < arcCount s → k + 1 < 65536
+  arc-few k h = omega (arith, few-arcs (length ((timetableOf w) .stations)) s (g .made))
+
   pub source-listed : Listed w a
   source-listed = record { some = g .some; inside = g .inside }
 
--- ---- one arc noted
-pub record Noted (w s : List ℕ) (a u k : ℕ) (old new : List ℕ) : Type 0 where
-  pub rev : List ℕ
-  pub is : arcPath s k ≡ reverseAux rev (arcTarget s k ∷ [])
-  pub lowered : Lowered (net (timetableOf w)) a u rev (arcTarget s k) old new
-
-pub arc-noted : (w s path : List ℕ) (a u k r : ℕ) (old new : List ℕ)
-    → k < arcCount s
-    → take r path ≡ arcPath s k
-    → r ≡ length (arcPath s k)
-    → 1 ≤ r
-    → Lowered (net (timetableOf w)) a u (changesTo path (r - 1)) (getD path (r - 1) 0) old new
-    → Noted w s a u k old new
-arc-noted w s path a u k r old new inside is count some l =
-    record {
-      rev = changesTo path (r - 1);
-      is = changes-are s path k r inside is count some;
-      lowered =
-          subst (λ y. Lowered (net (timetableOf w)) a u (changesTo path (r - 1)) y old new)
-          (target-is s path k r inside is count some)
-          l;
-    }
-
--- the first k arcs noted
-pub record NotedAll (w s : List ℕ) (a b u k : ℕ) (best : List ℕ) : Type 0 where
+-- ---- the first k arcs noted
+pub record NotedAll (w s : List ℕ) (a b u k : ℕ) (best who : List ℕ) : Type 0 where
   pub collected : (ok : Sound (net (timetableOf w))) → Collected (net (timetableOf w)) ok s a u b k best
+  pub sole : (ok : Sound (net (timetableOf w))) → Sole (net (timetableOf w)) ok s a u b k best who
 
-pub noted-first : (w s : List ℕ) (a b u : ℕ) (best : List ℕ) → best ≡ blank → NotedAll w s a b u 0 best
-noted-first w s a b u best e =
+pub noted-first : (w s : List ℕ) (a b u : ℕ) (best who : List ℕ) → best ≡ blank → who ≡ unnamed
+    → NotedAll w s a b u 0 best who
+noted-first w s a b u best who e f =
     record {
       collected =
           λ ok.
@@ -130,9 +115,16 @@ noted-first w s a b u best e =
           (Collected (net (timetableOf w)) ok s a u b 0)
           (sym e)
           (collected-first (net (timetableOf w)) ok s a u b);
+      sole =
+          λ ok.
+          subst
+          (Sole (net (timetableOf w)) ok s a u b 0 best)
+          (sym f)
+          (sole-first (net (timetableOf w)) ok s a u b best);
     }
 
-module _ (w s best : List ℕ) (a b u k arcs : ℕ) (all : arcs ≡ arcCount s) (so-far : NotedAll w s a b u k best) where
+module _ (w s best who : List ℕ) (a b u k arcs : ℕ) (all : arcs ≡ arcCount s)
+    (so-far : NotedAll w s a b u k best who) where
   module _ (t : ℕ) (target : t ≡ arcTarget s k) (more : k < arcs) where
     in-arcs : k < arcCount s
     in-arcs = omega arith
@@ -140,39 +132,80 @@ module _ (w s best : List ℕ) (a b u k arcs : ℕ) (all : arcs ≡ arcCount s) 
     inside : k < length (readable s)
     inside = omega (arith, length-readable s)
 
-    next : (new : List ℕ)
-        → ((ok : Sound (net (timetableOf w))) → Collected (net (timetableOf w)) ok s a u b (suc k) new)
-        → NotedAll w s a b u (k + 1) new
-    next new f =
-        record {
-          collected =
-              λ ok. subst (λ j. Collected (net (timetableOf w)) ok s a u b j new) (sym (add-one k)) (f ok);
-        }
-
-    pub noted-skip : (t ≡ b → ⊥) → NotedAll w s a b u (k + 1) best
+    pub noted-skip : (t ≡ b → ⊥) → NotedAll w s a b u (k + 1) best who
     unfolding arcPath
     noted-skip other =
-        next best
-        (λ ok.
-        collected-skip (net (timetableOf w)) ok s a u b k best inside (so-far .collected ok)
-        (reverseAux (nodePath s (arcBefore s k)) [])
-        (arcTarget s k)
-        (arc-turned s k in-arcs)
-        (λ e. other (target ∙ e)))
-
-    pub noted-more : (new : List ℕ) → t ≡ b → Noted w s a u k best new → NotedAll w s a b u (k + 1) new
-    unfolding arcPath
-    noted-more new f z =
-        let e : arcTarget s k ≡ b = sym target ∙ f in
-        next new
-        (λ ok.
-        collected-more (net (timetableOf w)) ok s a u b k best inside (so-far .collected ok)
-        (z .rev)
-        (z .is ∙ ap (λ y. reverseAux (z .rev) (y ∷ [])) e)
-        new
-        (subst (λ y. Lowered (net (timetableOf w)) a u (z .rev) y best new) e (z .lowered)))
+        let rev = reverseAux (nodePath s (arcBefore s k)) [] in
+        subst (λ j. NotedAll w s a b u j best who) (sym (add-one k))
+        (record {
+          collected =
+              λ ok.
+              collected-skip (net (timetableOf w)) ok s a u b k best inside (so-far .collected ok) rev
+              (arcTarget s k)
+              (arc-turned s k in-arcs)
+              (λ e. other (target ∙ e));
+          sole =
+              λ ok.
+              sole-skip (net (timetableOf w)) ok s a u b k best who inside (so-far .sole ok) rev
+              (arcTarget s k)
+              (arc-turned s k in-arcs)
+              (λ e. other (target ∙ e));
+        })
 
   pub noted-all : (v : List ℕ) → Granted w v s a b u → arcs ≤ k → LeastKept u (kept w s a b u) best
   noted-all v g past =
       let ok = is-sound w v s a b u g in
       collected-all (net (timetableOf w)) ok s a u b k best (omega (arith, length-readable s)) (so-far .collected ok)
+
+-- one arc more: its own least penalties are merged into those of the arcs before it
+module _ (w s path : List ℕ) (a b u k r : ℕ) (old mine best who best′ who′ : List ℕ)
+    (merged : Merged k mine best who best′ who′)
+    (bound : Bound best who)
+    (so-far : NotedAll w s a b u k best who)
+    (lowered : Lowered (net (timetableOf w)) a u (changesTo path (r - 1)) (getD path (r - 1) 0) old mine)
+    (fresh : old ≡ blank)
+    (inside : k < arcCount s)
+    (target : arcTarget s k ≡ b)
+    (is : take r path ≡ arcPath s k)
+    (count : r ≡ length (arcPath s k))
+    (some : 1 ≤ r)
+    (long : length best′ ≡ length best)
+  where
+    abbrev rev : List ℕ
+    rev = changesTo path (r - 1)
+
+    own : Lowered (net (timetableOf w)) a u (changesTo path (r - 1)) b blank mine
+    own =
+        subst (λ y. Lowered (net (timetableOf w)) a u (changesTo path (r - 1)) y blank mine)
+        (target-is s path k r inside is count some ∙ target)
+        (subst
+        (λ o. Lowered (net (timetableOf w)) a u (changesTo path (r - 1)) (getD path (r - 1) 0) o mine)
+        fresh
+        lowered)
+
+    ends : arcPath s k ≡ reverseAux (changesTo path (r - 1)) (b ∷ [])
+    ends =
+        changes-are s path k r inside is count some
+        ∙ ap (λ y. reverseAux (changesTo path (r - 1)) (y ∷ [])) target
+
+    in-readable : k < length (readable s)
+    in-readable = omega (arith, length-readable s)
+
+    pub noted-more : NotedAll w s a b u (k + 1) best′ who′
+    unfolding arcPath
+    noted-more =
+        subst (λ j. NotedAll w s a b u j best′ who′) (sym (add-one k))
+        (record {
+          collected =
+              λ ok.
+              collected-more (net (timetableOf w)) ok s a u b k best in-readable (so-far .collected ok) rev ends best′
+              (lowered-merged k mine best who best′ who′ bound merged (net (timetableOf w)) a u rev b long own);
+          sole =
+              λ ok.
+              sole-more (net (timetableOf w)) ok s a u b k best who in-readable (so-far .sole ok) mine best′ who′ rev
+              ends
+              target
+              (so-far .collected ok)
+              own
+              merged;
+        })

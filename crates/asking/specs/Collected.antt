@@ -33,9 +33,20 @@ pub sequence-end : (n : Net) (x u b : ℕ) (c : Connection) (rev : List ℕ) (y 
 sequence-end n x u b c rev y f e =
     sym (stations-end n x u b c [] f) ∙ ap (λ q. lead (reverseAux q [])) e ∙ ap lead (reverse-twice rev (y ∷ []))
 
-arrives-in-time : (n : Net) → Sound n → (x u b : ℕ) (c : Connection) → Feasible n x u b c → arrival c < 2880
+pub arrives-in-time : (n : Net) → Sound n → (x u b : ℕ) (c : Connection) → Feasible n x u b c → arrival c < 2880
 arrives-in-time n ok x u b (direct r) f = omega (arith, ok .bounded r (f .0 .listed))
 arrives-in-time n ok x u b (onward r z c) f = arrives-in-time n ok (z .to) (ready r z) b c (f .2)
+
+-- the first k + 1 sequences are the first k and the one at place k
+module _ (s : List ℕ) (k : ℕ) (inside : k < length (readable s)) where
+  pub next-sequence : take (suc k) (readable s) ≡ take k (readable s) ++ (getD (readable s) k [] ∷ [])
+  next-sequence = take-suc (readable s) k [] inside
+
+  pub sequence-cases : {G : Type 0} (q : List ℕ) → q ∈ take (suc k) (readable s) → (q ∈ take k (readable s) → G)
+      → (q ≡ getD (readable s) k [] → G) → G
+  sequence-cases q i f g =
+      append-cases (take k (readable s)) (subst (λ l. q ∈ l) next-sequence i) f
+      (λ j. cons-cases j g (λ z. none z))
 
 -- for a query from a at minute u to b
 module _ (n : Net) (ok : Sound n) (s : List ℕ) (a u b : ℕ) where
@@ -71,7 +82,7 @@ module _ (n : Net) (ok : Sound n) (s : List ℕ) (a u b : ℕ) where
     this = getD (readable s) k []
 
     next : take (suc k) (readable s) ≡ take k (readable s) ++ (this ∷ [])
-    next = take-suc (readable s) k [] inside
+    next = next-sequence s k inside
 
     earlier : (q : List ℕ) → q ∈ take k (readable s) → q ∈ take (suc k) (readable s)
     earlier q i = subst (λ l. q ∈ l) (sym next) (Memᴰ·append-left (this ∷ []) i)
@@ -86,11 +97,6 @@ module _ (n : Net) (ok : Sound n) (s : List ℕ) (a u b : ℕ) where
           pays = h .pays;
         }
 
-    cases : {G : Type 0} (q : List ℕ) → q ∈ take (suc k) (readable s) → (q ∈ take k (readable s) → G)
-        → (q ≡ this → G) → G
-    cases q i f g =
-        append-cases (take k (readable s)) (subst (λ l. q ∈ l) next i) f (λ j. cons-cases j g (λ z. none z))
-
     -- a sequence that ends elsewhere has no connection to b
     pub collected-skip : (rev : List ℕ) (y : ℕ) → this ≡ reverseAux rev (y ∷ []) → y ≢ b → Collected (suc k) w
     collected-skip rev y e other =
@@ -99,7 +105,7 @@ module _ (n : Net) (ok : Sound n) (s : List ℕ) (a u b : ℕ) where
           attained = λ m h g. keep m (getD w m 0) (so-far .attained m h g);
           low =
               λ c f i.
-              cases (stations c) i (so-far .low c f)
+              sequence-cases s k inside (stations c) i (so-far .low c f)
               (λ z. absurd (other (sym (sequence-end n a u b c rev y f (z ∙ e)))));
         }
 
@@ -142,7 +148,7 @@ module _ (n : Net) (ok : Sound n) (s : List ℕ) (a u b : ℕ) where
               → getD new (arrival c) 0 ≤ penalty c
           low c f i =
               let h = arrives-in-time n ok a u b c f in
-              cases (stations c) i
+              sequence-cases s k inside (stations c) i
               (λ z.
               omega (
                 arith,

@@ -1,5 +1,5 @@
 -- What is found along one arc for an arrival minute and a penalty, as its own array tells it.
-use mathlib.Core.Path.{_≡_, ap, subst, _∙_}
+use mathlib.Core.Path.{_≡_, refl, ap, subst, _∙_}
 use mathlib.Core.Bool.{Bool, true, false}
 use mathlib.Core.List.{List}
 use Prim.Native.Nat.{ℕ, _*_, _≤_, _<_}
@@ -23,8 +23,8 @@ use Rattle.asking.specs.Granted.{Granted, is-sound, costOf, Leading}
 use Rattle.asking.specs.Trying.{Sized, ArcWon, ArcTried}
 use Rattle.asking.specs.declared.Winner.{Winner}
 
-abbrev pub winnerOf : (found : Bool) (depart rides : ℕ) → Winner
-winnerOf found depart rides = record { found = found; depart = depart; rides = rides }
+abbrev pub winnerOf : (found : Bool) (arc depart rides : ℕ) → Winner
+winnerOf found arc depart rides = record { found = found; arc = arc; depart = depart; rides = rides }
 
 module _
     (w v s path : List ℕ)
@@ -79,7 +79,7 @@ module _
         shown : f .found ≡ true → Shown (timetableOf w) b m (arcPath s k) a u p (take (3 * r) tried) (f .depart)
         shown e = subst Here e here
 
-        pub found-sized : Sized (winnerOf (f .found) (f .depart) r)
+        pub found-sized : Sized (winnerOf (f .found) k (f .depart) r)
         found-sized =
             record {
               few = few;
@@ -91,8 +91,8 @@ module _
                   omega (arith, y .departs, departs-in-time (net (timetableOf w)) ok a u b (y .connection) h);
             }
 
-        pub found-arc : Leading w s a b u m p → ArcTried w s a b u m p k (winnerOf (f .found) (f .depart) r) tried
-        found-arc l = record { none = none; won = won }
+        pub found-arc : Leading w s a b u m p → ArcTried w s a b u m p k (winnerOf (f .found) k (f .depart) r) tried
+        found-arc l = record { arc = refl; none = none; won = won }
           where
             none : f .found ≡ false → (ok : Sound (net (timetableOf w))) (e : Connection)
                 → ¬ By (net (timetableOf w)) ok s a u b (costOf m p) (arcPath s k) e
@@ -102,7 +102,7 @@ module _
                 (arcPath s k)
                 (subst Here e here)
 
-            won : f .found ≡ true → ArcWon w s a b u m p k (winnerOf (f .found) (f .depart) r) tried
+            won : f .found ≡ true → ArcWon w s a b u m p k (winnerOf (f .found) k (f .depart) r) tried
             won e =
                 let y = shown e in
                 let size = length-take-le (3 * r) tried (omega (arith, few, long, same)) in

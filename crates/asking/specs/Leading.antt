@@ -39,7 +39,7 @@ module _ (u : ℕ) (d : List Connection) where
     ls = leads noPoints 0 w
 
     -- the connection that is shown for a cost that leads
-    row-of : (c : Cost) → c ∈ ls → (r : List ℕ) × RowFor u d c r
+    pub row-of : (c : Cost) → c ∈ ls → (r : List ℕ) × RowFor u d c r
     row-of c i =
         let k = led-leads u d bounds w least c i in
         let x = led-cost u d bounds w least (c .minutes - u) (c .points) .0 (k .1) in

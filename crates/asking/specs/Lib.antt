@@ -1,6 +1,8 @@
 pub mod Asking
 pub mod Rowed
+pub mod Merged
 pub mod Collected
+pub mod Sole
 pub mod Won
 pub mod Keys
 pub mod Leading
@@ -8,4 +10,5 @@ pub mod Granted
 pub mod Arcs
 pub mod Shown
 pub mod Trying
+pub mod Leader
 pub mod Found

@@ -14,7 +14,7 @@ use Rattle.words.specs.Put.{put, take-put}
 use Rattle.lists.specs.Lists.{before}
 use Rattle.timetable.specs.Words.{timetableOf}
 use Rattle.results.specs.Results.{Cost}
-use Rattle.connections.specs.Connections.{Net, net, Connection}
+use Rattle.connections.specs.Connections.{Net, net, Connection, stations}
 use Rattle.connections.specs.Planner.{tieKey}
 use Rattle.connections.specs.Sound.{Sound}
 use Rattle.stores.specs.Words.{readable}
@@ -22,9 +22,9 @@ use Rattle.wellmade.specs.Entries.{arcCount, arcTarget, arcBefore}
 use Rattle.wellmade.specs.Paths.{nodePath, arcPath, length-readable}
 use Rattle.asking.specs.Keys.{keyWords, key-is}
 use Rattle.asking.specs.Won.{By, Own, Won, None, none-first, none-more, won-skip, won-new, won-better, won-keep}
-use Rattle.asking.specs.Won.{none-elsewhere, won-all, none-never}
+use Rattle.asking.specs.Won.{none-elsewhere}
 use Rattle.asking.specs.Arcs.{arc-turned}
-use Rattle.asking.specs.Granted.{Granted, is-sound, costOf, Leading, Holds, Winning}
+use Rattle.asking.specs.Granted.{costOf, Holds}
 use Rattle.asking.specs.declared.Winner.{Winner}
 
 -- its numbers fit the arrays, and its departure is a minute
@@ -35,7 +35,7 @@ pub record Sized (x : Winner) : Type 0 where
 pub in-time : (x : Winner) → Sized x → not (x .found) ≡ false → x .depart ≤ 2879
 in-time x s e = s .timely (not-false (x .found) e)
 
-pub first-sized : Sized (record { found = false; depart = 0; rides = 0 })
+pub first-sized : Sized (record { found = false; arc = 0; depart = 0; rides = 0 })
 first-sized = record { few = omega arith; timely = λ e. omega arith }
 
 pub target-of : (s : List ℕ) (k b t : ℕ) → t ≡ arcTarget s k → t ≡ b → arcTarget s k ≡ b
@@ -91,13 +91,17 @@ module _ (w s : List ℕ) (a b u m p : ℕ) where
     pub own : (ok : Sound (net (timetableOf w))) → Own (net (timetableOf w)) ok s a u b (costOf m p) (arcPath s k) one
 
   pub record ArcTried (k : ℕ) (x : Winner) (tried : List ℕ) : Type 0 where
+    pub arc : x .arc ≡ k
     pub none : x .found ≡ false → (ok : Sound (net (timetableOf w))) (e : Connection)
         → ¬ By (net (timetableOf w)) ok s a u b (costOf m p) (arcPath s k) e
     pub won : x .found ≡ true → ArcWon k x tried
 
-  -- the winner of the first k arcs
+  -- the winner of the first k arcs goes by its own arc
   pub record WonSo (k : ℕ) (x : Winner) (shown : List ℕ) : Type 0 where
+    pub inside : x .arc < arcCount s
+    pub target : arcTarget s (x .arc) ≡ b
     pub one : Connection
+    pub by : (ok : Sound (net (timetableOf w))) → stations one ≡ arcPath s (x .arc)
     pub holds : Holds x shown one
     pub won : (ok : Sound (net (timetableOf w))) → Won (net (timetableOf w)) ok s a u b (costOf m p) k one
 
@@ -109,7 +113,7 @@ module _ (w s : List ℕ) (a b u m p : ℕ) where
   unknown : (x : Winner) → x .found ≡ false → {G : Type 0} → x .found ≡ true → G
   unknown x e f = let z : false ≡ true = sym e ∙ f in absurd (subst (λ t. T (not t)) z tt)
 
-  pub tried-first : (shown : List ℕ) → Tried 0 (record { found = false; depart = 0; rides = 0 }) shown
+  pub tried-first : (shown : List ℕ) → Tried 0 (record { found = false; arc = 0; depart = 0; rides = 0 }) shown
   tried-first shown =
       record {
         none = λ e ok. none-first (net (timetableOf w)) ok s a u b (costOf m p);
@@ -135,7 +139,10 @@ module _ (w s : List ℕ) (a b u m p : ℕ) where
                 λ f.
                 let z = so-far .won f in
                 record {
+                  inside = z .inside;
+                  target = z .target;
                   one = z .one;
+                  by = z .by;
                   holds = z .holds;
                   won = λ ok. won-skip n ok s a u b c k inside (z .one) (z .won ok) (gone ok);
                 };
@@ -190,7 +197,10 @@ module _ (w s : List ℕ) (a b u m p : ℕ) where
                   won =
                       λ i.
                       record {
+                        inside = o .inside;
+                        target = o .target;
                         one = o .one;
+                        by = o .by;
                         holds = o .holds;
                         won =
                             λ ok.
@@ -205,7 +215,11 @@ module _ (w s : List ℕ) (a b u m p : ℕ) where
           -- it wins, and its words are copied
           module _ (best : not r ≡ false) (sized : Sized f) (was new : List ℕ) (long : length was ≡ 192)
               (same : length tried ≡ length was) (copied : new ≡ put 0 (take (3 * f .rides) tried) shown)
+              (target : arcTarget s k ≡ b)
             where
+              by : (y : ArcWon k f tried) (ok : Sound n) → stations (y .one) ≡ arcPath s (f .arc)
+              by y ok = y .own ok .by .is ∙ ap (arcPath s) (sym (z .arc))
+
               same-words : take (3 * f .rides) new ≡ take (3 * f .rides) tried
               same-words =
                   let ws : List ℕ = take (3 * f .rides) tried in
@@ -232,7 +246,10 @@ module _ (w s : List ℕ) (a b u m p : ℕ) where
                     won =
                         λ i.
                         record {
+                          inside = omega (arith, more, z .arc);
+                          target = ap (arcTarget s) (z .arc) ∙ target;
                           one = y .one;
+                          by = by y;
                           holds = held y;
                           won = λ ok. won-new n ok s a u b c k inside (y .one) (so-far .none g ok) (y .own ok);
                         };
@@ -248,7 +265,10 @@ module _ (w s : List ℕ) (a b u m p : ℕ) where
                     won =
                         λ i.
                         record {
+                          inside = omega (arith, more, z .arc);
+                          target = ap (arcTarget s) (z .arc) ∙ target;
                           one = y .one;
+                          by = by y;
                           holds = held y;
                           won =
                               λ ok.
@@ -263,27 +283,3 @@ module _ (w s : List ℕ) (a b u m p : ℕ) where
     pub tried-skip : (arcs t : ℕ) → arcs ≡ arcCount s → t ≡ arcTarget s k → k < arcs → (t ≡ b → ⊥)
         → Tried (k + 1) x shown
     tried-skip arcs t all target more other = elsewhere (omega arith) (λ e. other (target ∙ e))
-
-    -- all arcs are tried
-    pub tried-all : (v : List ℕ) (arcs : ℕ) → arcs ≡ arcCount s → Granted w v s a b u → Leading w s a b u m p
-        → Sized x → length shown ≡ 192 → arcs ≤ k
-        → Winning w s a b u m p x shown
-    tried-all v arcs all g l sized long past = go (x .found) refl
-      where
-        ok : Sound n
-        ok = is-sound w v s a b u g
-
-        every : length (readable s) ≤ k
-        every = omega (arith, length-readable s)
-
-        go : (h : Bool) → x .found ≡ h → Winning w s a b u m p x shown
-        go false e = absurd (none-never n ok s a u b c k every (l .best) (l .least) (l .leads) (so-far .none e ok))
-        go true e =
-            let o = so-far .won e in
-            record {
-              one = o .one;
-              shows = won-all n ok s a u b c k every (o .one) (o .won ok);
-              holds = o .holds;
-              few = sized .few;
-              long = long;
-            }

@@ -27,7 +27,7 @@ use Rattle.asking.specs.Rowed.{LeastKept, Shows}
 use Rattle.asking.specs.Collected.{sequence-end}
 
 -- the order is total: what does not go before is as good or behind
-not-before-trans : (x y z : List ℕ) → ¬ T (before x y) → ¬ T (before y z) → ¬ T (before x z)
+pub not-before-trans : (x y z : List ℕ) → ¬ T (before x y) → ¬ T (before y z) → ¬ T (before x z)
 not-before-trans x y z p q t = either (before y x) earlier equal
   where
     earlier : T (before y x) → ⊥

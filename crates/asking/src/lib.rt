@@ -1,16 +1,21 @@
 // The query from a store: what a rider is shown.
 ghost use mathlib.Core.Path.{_≡_};
 ghost use mathlib.Core.List.{_∷_};
-ghost use Prim.Native.Nat.{_+_, _-_, _*_, _≤_, _<_};
-ghost use lib.ListN.{length, take};
+ghost use Prim.Native.Nat.{_+_, _-_, _*_, _≤_, _<_, min};
+ghost use lib.ListN.{length, getD, take, set};
 ghost use Rattle.words.specs.Put.{put};
 ghost use Rattle.lists.specs.Lists.{before};
 ghost use Rattle.wellmade.specs.Entries.{arcCount, arcTarget};
+ghost use Rattle.wellmade.specs.Paths.{arcPath};
+ghost use Rattle.wellmade.specs.Made.{Made};
 ghost use Rattle.asking.specs.Asking.{kept, rows, rowWords, askReply, askWords};
 ghost use Rattle.asking.specs.Keys.{keyWords};
 ghost use Rattle.asking.specs.Rowed.{LeastKept};
-ghost use Rattle.asking.specs.Arcs.{Noted};
-ghost use Rattle.asking.specs.Granted.{Granted, Leading, Winning, Counted, Written, Room};
+ghost use Rattle.direct.specs.Choosing.{noPoints, blank, leads};
+ghost use Rattle.asking.specs.Merged.{unnamed, soleOf, Bound, Outside, Merged};
+ghost use Rattle.asking.specs.Arcs.{NotedAll};
+ghost use Rattle.asking.specs.Leader.{Leader, Named, NamedRow, AllNamed, AllLed};
+ghost use Rattle.asking.specs.Granted.{Granted, Leading, Winning, Written, Room};
 ghost use Rattle.asking.specs.Trying.{Sized, winsTest, ArcTried, Tried};
 ghost use Rattle.asking.specs.Shown.{shownReply, shownWords};
 use replies::Reply;
@@ -30,10 +35,11 @@ const STATIONS_MOST: usize = 64;
 // Room for the numbers of all rides of a connection: a pattern has at most 63 stations behind its source.
 const NUMBERS_MOST: usize = 192;
 
-// The connection that goes before all others tried so far: whether there is one, when it departs, and how many rides it
-// has. The numbers of its rides stand in an array beside it.
+// The connection that goes before all others tried so far: whether there is one, its arc, when it departs, and how many
+// rides it has. The numbers of its rides stand in an array beside it.
 pub struct Winner {
     pub found: bool,
+    pub arc: usize,
     pub depart: usize,
     pub rides: usize,
 }
@@ -84,7 +90,80 @@ fn goes_before(g: Winner, tried: &[u32], f: Winner, shown: &[u32]) -> bool
     words_before(tried, shown, 3 * g.rides)
 }
 
-// Lowers the least penalties to those of the connections of arc k.
+// The word of the arc that alone reaches a minute for the least penalty, once arc k reaches it for some points: that of
+// arc k if it pays less than those before, their own if it pays more, and none if it pays the same.
+fn sole_arc(k: usize, best: u32, named: u16, points: u32) -> u16
+    requires { ⌜ k + 1 < 65536 ⌝ }
+    ensures { λ r. ⌜ r ≡ soleOf k best named points ⌝ }
+{
+    if points < best {
+        return (k + 1) as u16;
+    }
+    if best < points {
+        return named;
+    }
+    0
+}
+
+// Merges what arc k alone pays in minute m into the least penalties, and blanks it.
+fn merge_minute(k: usize, m: usize, mine: &mut [u32], best: &mut [u32], who: &mut [u16])
+    requires { ⌜ (k + 1 < 65536)
+        × (m < length (now mine))
+        × (m < length (now best))
+        × (m < length (now who)) ⌝ }
+    ensures { λ _. ⌜ (now (mine .exit) ≡ set (now (mine .entry)) m noPoints)
+        × (now (best .exit)
+        ≡ set (now (best .entry)) m (min (getD (now (best .entry)) m 0) (getD (now (mine .entry)) m 0)))
+        × (now (who .exit)
+        ≡ set
+        (now (who .entry))
+        m
+        (soleOf k (getD (now (best .entry)) m 0) (getD (now (who .entry)) m 0) (getD (now (mine .entry)) m 0))) ⌝ }
+{
+    let points = mine[m];
+    let least = best[m];
+    let named = who[m];
+    who[m] = sole_arc(k, least, named, points);
+    best[m] = direct::lesser(least, points);
+    mine[m] = NO_POINTS;
+}
+
+// Merges the least penalties of arc k alone into those of the arcs before it, and blanks them. The arc reaches no
+// minute before `from`, and none from `to` on.
+fn merge(k: usize, from: usize, to: usize, mine: &mut [u32], best: &mut [u32], who: &mut [u16])
+    requires { ⌜ (k + 1 < 65536)
+        × (from ≤ to)
+        × (to ≤ 2880)
+        × Outside from to (now mine)
+        × Bound (now best) (now who)
+        × (length (now mine) ≡ 2880)
+        × (length (now best) ≡ 2880)
+        × (length (now who) ≡ 2880) ⌝ }
+    ensures { λ _. ⌜ Merged
+        k
+        (now (mine .entry))
+        (now (best .entry))
+        (now (who .entry))
+        (now (best .exit))
+        (now (who .exit))
+        × (now (mine .exit) ≡ blank) ⌝ }
+    ensures { λ _. ⌜ (length (now (mine .exit)) ≡ length (now (mine .entry)))
+        × (length (now (best .exit)) ≡ length (now (best .entry)))
+        × (length (now (who .exit)) ≡ length (now (who .entry))) ⌝ }
+{
+    let mut m = from;
+    'minutes: while m < to {
+        let here = m;
+        m += 1;
+        if mine[here] == NO_POINTS {
+            continue 'minutes;
+        }
+        merge_minute(k, here, mine, best, who);
+    }
+}
+
+// Lowers the least penalties to those of the connections of arc k, and notes the minutes that it alone reaches for the
+// least penalty. The array for its own penalties is blank before and after.
 fn note_arc(
     words: &[u16],
     lines: &[u16],
@@ -93,27 +172,42 @@ fn note_arc(
     to: usize,
     minute: usize,
     k: usize,
+    mine: &mut [u32],
     best: &mut [u32],
+    who: &mut [u16],
 )
     requires { ⌜ Granted (now words) (now lines) (now store) from to minute
         × (k < arcCount (now store))
-        × (length (now best) ≡ 2880) ⌝ }
-    ensures { λ _. ⌜ Noted
+        × (arcTarget (now store) k ≡ to)
+        × (now mine ≡ blank)
+        × Bound (now best) (now who)
+        × NotedAll (now words) (now store) from to minute k (now best) (now who)
+        × (length (now mine) ≡ 2880)
+        × (length (now best) ≡ 2880)
+        × (length (now who) ≡ 2880) ⌝ }
+    ensures { λ _. ⌜ (now (mine .exit) ≡ blank)
+        × Bound (now (best .exit)) (now (who .exit))
+        × NotedAll
         (now (words .entry))
         (now (store .entry))
         from
+        to
         minute
-        k
-        (now (best .entry))
-        (now (best .exit)) ⌝ }
-    ensures { λ _. ⌜ length (now (best .exit)) ≡ length (now (best .entry)) ⌝ }
+        (k + 1)
+        (now (best .exit))
+        (now (who .exit)) ⌝ }
+    ensures { λ _. ⌜ (length (now (mine .exit)) ≡ length (now (mine .entry)))
+        × (length (now (best .exit)) ≡ length (now (best .entry)))
+        × (length (now (who .exit)) ≡ length (now (who .entry))) ⌝ }
 {
     let mut path = [0u16; STATIONS_MOST];
     let r = wellmade::arc_pattern(store, k, &mut path);
-    layers::note_pattern(words, lines, from, minute, &path, r, best);
+    layers::note_pattern(words, lines, from, minute, &path, r, mine);
+    merge(k, 0, MINUTES, mine, best, who);
 }
 
-// Notes the least penalty for each minute of arrival, of all connections whose pattern is stored.
+// Notes the least penalty for each minute of arrival, of all connections whose pattern is stored, and the arc that
+// alone has it.
 fn note_arcs(
     words: &[u16],
     lines: &[u16],
@@ -122,12 +216,19 @@ fn note_arcs(
     to: usize,
     minute: usize,
     best: &mut [u32],
+    who: &mut [u16],
 )
-    requires { ⌜ Granted (now words) (now lines) (now store) from to minute × (length (now best) ≡ 2880) ⌝ }
+    requires { ⌜ Granted (now words) (now lines) (now store) from to minute
+        × (length (now best) ≡ 2880)
+        × (now who ≡ unnamed)
+        × (length (now who) ≡ 2880) ⌝ }
     ensures { λ _. ⌜ LeastKept minute (kept (now (words .entry)) (now (store .entry)) from to minute) (now (best .exit))
-        × (length (now (best .exit)) ≡ 2880) ⌝ }
+        × AllNamed (now (words .entry)) (now (store .entry)) from to minute (now (best .exit)) (now (who .exit))
+        × (length (now (best .exit)) ≡ 2880)
+        × (length (now (who .exit)) ≡ 2880) ⌝ }
 {
     direct::fill_blank(best);
+    let mut mine = [NO_POINTS; MINUTES];
     let arcs = wellmade::arc_count(store);
     let mut k = 0;
     'arcs: while k < arcs {
@@ -136,7 +237,18 @@ fn note_arcs(
         if wellmade::arc_target(store, arc) != to {
             continue 'arcs;
         }
-        note_arc(words, lines, store, from, to, minute, arc, best);
+        note_arc(
+            words,
+            lines,
+            store,
+            from,
+            to,
+            minute,
+            arc,
+            &mut mine,
+            best,
+            who,
+        );
     }
 }
 
@@ -179,6 +291,7 @@ fn find_arc(
     let f = showing::first_of_pattern(words, lines, from, minute, &path, r, arrive, points, tried);
     Winner {
         found: f.found,
+        arc: k,
         depart: f.depart,
         rides: r,
     }
@@ -256,7 +369,7 @@ fn try_arc(
     f
 }
 
-// The connection that is shown for an arrival minute and a penalty. The numbers of its rides are written.
+// The arc of the connection that is shown for an arrival minute and a penalty: all arcs are tried.
 fn choose(
     words: &[u16],
     lines: &[u16],
@@ -266,26 +379,17 @@ fn choose(
     minute: usize,
     arrive: usize,
     points: u32,
-    shown: &mut [u32],
-) -> Winner
+) -> usize
     requires { ⌜ Granted (now words) (now lines) (now store) from to minute
         × Leading (now words) (now store) from to minute arrive points
-        × (arrive < 2880)
-        × (length (now shown) ≡ 192) ⌝ }
-    ensures { λ r. ⌜ Winning
-        (now (words .entry))
-        (now (store .entry))
-        from
-        to
-        minute
-        arrive
-        points
-        r
-        (now (shown .exit)) ⌝ }
+        × (arrive < 2880) ⌝ }
+    ensures { λ r. ⌜ Leader (now (words .entry)) (now (store .entry)) from to minute arrive points r ⌝ }
 {
     let mut tried = [0u32; NUMBERS_MOST];
+    let mut shown = [0u32; NUMBERS_MOST];
     let mut x = Winner {
         found: false,
+        arc: 0,
         depart: 0,
         rides: 0,
     };
@@ -309,14 +413,15 @@ fn choose(
             points,
             x,
             &mut tried,
-            shown,
+            &mut shown,
         );
     }
-    x
+    x.arc
 }
 
-// How many words the row for an arrival minute and a penalty has.
-fn row_length(
+// The arc of the connection that is shown for an arrival minute and a penalty. It is known where the minute has its
+// word, which is one more; else it is looked for.
+fn leading_arc(
     words: &[u16],
     lines: &[u16],
     store: &[u16],
@@ -325,28 +430,71 @@ fn row_length(
     minute: usize,
     arrive: usize,
     points: u32,
+    named: usize,
 ) -> usize
     requires { ⌜ Granted (now words) (now lines) (now store) from to minute
         × Leading (now words) (now store) from to minute arrive points
+        × Named (now words) (now store) from to minute arrive points named
+        × (named < 65536)
         × (arrive < 2880) ⌝ }
-    ensures { λ r. ⌜ Counted (now (words .entry)) (now (store .entry)) from to minute arrive points r × (r ≤ 192) ⌝ }
+    ensures { λ r. ⌜ Leader (now (words .entry)) (now (store .entry)) from to minute arrive points r
+        × (r + 1 < 65536) ⌝ }
 {
-    let mut shown = [0u32; NUMBERS_MOST];
-    let x = choose(
-        words,
-        lines,
-        store,
-        from,
-        to,
-        minute,
-        arrive,
-        points,
-        &mut shown,
-    );
-    ROW_WORDS + 3 * x.rides
+    if named == 0 {
+        return choose(words, lines, store, from, to, minute, arrive, points);
+    }
+    named - 1
 }
 
-// How many words all rows have. best has the least penalty for each minute of arrival.
+// How many words the row of a connection that goes by arc k has.
+fn row_length(store: &[u16], k: usize) -> usize
+    requires { ⌜ Made (now store) × (k < arcCount (now store)) ⌝ }
+    ensures { λ r. ⌜ (r ≡ 3 + 3 * length (arcPath (now (store .entry)) k)) × (r ≤ 192) ⌝ }
+{
+    let mut path = [0u16; STATIONS_MOST];
+    let r = wellmade::arc_pattern(store, k, &mut path);
+    ROW_WORDS + 3 * r
+}
+
+// Names the arc of the connection that is shown for an arrival minute and a penalty, and answers how many words its row
+// has.
+fn name_arc(
+    words: &[u16],
+    lines: &[u16],
+    store: &[u16],
+    from: usize,
+    to: usize,
+    minute: usize,
+    arrive: usize,
+    points: u32,
+    who: &mut [u16],
+) -> usize
+    requires { ⌜ Granted (now words) (now lines) (now store) from to minute
+        × Leading (now words) (now store) from to minute arrive points
+        × Named (now words) (now store) from to minute arrive points (getD (now who) arrive 0)
+        × (arrive < 2880)
+        × (length (now who) ≡ 2880) ⌝ }
+    ensures { λ r. ⌜ NamedRow
+        (now (words .entry))
+        (now (store .entry))
+        from
+        to
+        minute
+        arrive
+        points
+        r
+        (now (who .entry))
+        (now (who .exit))
+        × (r ≤ 192) ⌝ }
+    ensures { λ _. ⌜ length (now (who .exit)) ≡ length (now (who .entry)) ⌝ }
+{
+    let named = words::word(who, arrive) as usize;
+    let arc = leading_arc(words, lines, store, from, to, minute, arrive, points, named);
+    who[arrive] = (arc + 1) as u16;
+    row_length(store, arc)
+}
+
+// How many words all rows have. best has the least penalty for each minute of arrival; the arc of each row is named.
 fn measure(
     words: &[u16],
     lines: &[u16],
@@ -355,11 +503,16 @@ fn measure(
     to: usize,
     minute: usize,
     best: &[u32],
+    who: &mut [u16],
 ) -> usize
     requires { ⌜ Granted (now words) (now lines) (now store) from to minute
         × LeastKept minute (kept (now words) (now store) from to minute) (now best)
-        × (length (now best) ≡ 2880) ⌝ }
-    ensures { λ r. ⌜ r ≡ length (rowWords (rows (now (words .entry)) (now (store .entry)) from to minute)) ⌝ }
+        × AllNamed (now words) (now store) from to minute (now best) (now who)
+        × (length (now best) ≡ 2880)
+        × (length (now who) ≡ 2880) ⌝ }
+    ensures { λ r. ⌜ (r ≡ length (rowWords (rows (now (words .entry)) (now (store .entry)) from to minute)))
+        × AllLed (now (words .entry)) (now (store .entry)) from to minute (now (best .entry)) (now (who .exit)) ⌝ }
+    ensures { λ _. ⌜ length (now (who .exit)) ≡ length (now (who .entry)) ⌝ }
 {
     let mut count = 0;
     let mut least = NO_POINTS;
@@ -372,7 +525,7 @@ fn measure(
             continue 'minutes;
         }
         least = points;
-        count += row_length(words, lines, store, from, to, minute, arrive, points);
+        count += name_arc(words, lines, store, from, to, minute, arrive, points, who);
     }
     count
 }
@@ -409,7 +562,52 @@ fn put_row(
     at + (ROW_WORDS + 3 * rides)
 }
 
-// Writes the row for an arrival minute and a penalty, from index at on. Answers the index behind it.
+// The connection that is shown for an arrival minute and a penalty, found along its arc. The numbers of its rides are
+// written.
+fn find_shown(
+    words: &[u16],
+    lines: &[u16],
+    store: &[u16],
+    from: usize,
+    to: usize,
+    minute: usize,
+    k: usize,
+    arrive: usize,
+    points: u32,
+    shown: &mut [u32],
+) -> Winner
+    requires { ⌜ Granted (now words) (now lines) (now store) from to minute
+        × Leading (now words) (now store) from to minute arrive points
+        × Leader (now words) (now store) from to minute arrive points k
+        × (arrive < 2880)
+        × (length (now shown) ≡ 192) ⌝ }
+    ensures { λ r. ⌜ Winning
+        (now (words .entry))
+        (now (store .entry))
+        from
+        to
+        minute
+        arrive
+        points
+        r
+        (now (shown .exit)) ⌝ }
+{
+    find_arc(
+        words,
+        lines,
+        store,
+        from,
+        to,
+        minute,
+        k,
+        arrive,
+        points,
+        shown,
+    )
+}
+
+// Writes the row for an arrival minute and a penalty, from index at on. Answers the index behind it. who has the arc of
+// its connection.
 fn write_row(
     words: &[u16],
     lines: &[u16],
@@ -417,6 +615,7 @@ fn write_row(
     from: usize,
     to: usize,
     minute: usize,
+    who: &[u16],
     arrive: usize,
     points: u32,
     answer: &mut [u32],
@@ -424,7 +623,10 @@ fn write_row(
 ) -> usize
     requires { ⌜ Granted (now words) (now lines) (now store) from to minute
         × Leading (now words) (now store) from to minute arrive points
+        × Leader (now words) (now store) from to minute arrive points (getD (now who) arrive 0 - 1)
+        × (1 ≤ getD (now who) arrive 0)
         × (arrive < 2880)
+        × (length (now who) ≡ 2880)
         × Room (now words) (now store) from to minute arrive points at (now answer) ⌝ }
     ensures { λ r. ⌜ Written
         (now (words .entry))
@@ -440,14 +642,16 @@ fn write_row(
         (now (answer .exit)) ⌝ }
     ensures { λ r. ⌜ length (now (answer .exit)) ≡ length (now (answer .entry)) ⌝ }
 {
+    let k = words::word(who, arrive) as usize - 1;
     let mut shown = [0u32; NUMBERS_MOST];
-    let x = choose(
+    let x = find_shown(
         words,
         lines,
         store,
         from,
         to,
         minute,
+        k,
         arrive,
         points,
         &mut shown,
@@ -457,6 +661,7 @@ fn write_row(
 }
 
 // Writes all rows, in rising duration: one for each arrival minute whose penalty is below those of all earlier minutes.
+// who has the arc of each of them.
 fn write_rows(
     words: &[u16],
     lines: &[u16],
@@ -465,11 +670,14 @@ fn write_rows(
     to: usize,
     minute: usize,
     best: &[u32],
+    who: &[u16],
     answer: &mut [u32],
 )
     requires { ⌜ Granted (now words) (now lines) (now store) from to minute
         × LeastKept minute (kept (now words) (now store) from to minute) (now best)
+        × AllLed (now words) (now store) from to minute (now best) (now who)
         × (length (now best) ≡ 2880)
+        × (length (now who) ≡ 2880)
         × (length (rowWords (rows (now words) (now store) from to minute)) ≤ length (now answer)) ⌝ }
     ensures { λ _. ⌜ now (answer .exit)
         ≡ put 0 (rowWords (rows (now (words .entry)) (now (store .entry)) from to minute)) (now (answer .entry)) ⌝ }
@@ -493,6 +701,7 @@ fn write_rows(
             from,
             to,
             minute,
+            who,
             arrive,
             points,
             answer,
@@ -501,7 +710,49 @@ fn write_rows(
     }
 }
 
-// Answers a query from a store that is well made. The answer is measured before a word is written.
+// Writes the rows, of which there are some, if the answer has room for them: it is measured before a word is written.
+fn show_rows(
+    words: &[u16],
+    lines: &[u16],
+    store: &[u16],
+    from: usize,
+    to: usize,
+    minute: usize,
+    best: &[u32],
+    who: &mut [u16],
+    count: usize,
+    answer: &mut [u32],
+) -> Reply
+    requires { ⌜ Granted (now words) (now lines) (now store) from to minute
+        × LeastKept minute (kept (now words) (now store) from to minute) (now best)
+        × AllNamed (now words) (now store) from to minute (now best) (now who)
+        × (length (now best) ≡ 2880)
+        × (length (now who) ≡ 2880)
+        × (count ≡ length (leads noPoints 0 (now best)))
+        × (1 ≤ count)
+        × (count ≤ 2880) ⌝ }
+    ensures { λ r. ⌜ r
+        ≡ shownReply
+        (now (words .entry))
+        (now (store .entry))
+        from
+        to
+        minute
+        (length (now (answer .entry))) ⌝ }
+    ensures { λ _. ⌜ now (answer .exit)
+        ≡ shownWords (now (words .entry)) (now (store .entry)) from to minute (now (answer .entry)) ⌝ }
+{
+    let long = measure(words, lines, store, from, to, minute, best, who);
+    if answer.len() < long {
+        return Reply::Refused { number: 15 };
+    }
+    write_rows(words, lines, store, from, to, minute, best, who, answer);
+    Reply::Done {
+        count: count as u32,
+    }
+}
+
+// Answers a query from a store that is well made.
 fn show(
     words: &[u16],
     lines: &[u16],
@@ -524,19 +775,24 @@ fn show(
     ensures { λ _. ⌜ now (answer .exit)
         ≡ shownWords (now (words .entry)) (now (store .entry)) from to minute (now (answer .entry)) ⌝ }
 {
-    note_arcs(words, lines, store, from, to, minute, best);
+    let mut who = [0u16; MINUTES];
+    note_arcs(words, lines, store, from, to, minute, best, &mut who);
     let count = direct::count_rows(best);
     if count < 1 {
         return Reply::Refused { number: 14 };
     }
-    let long = measure(words, lines, store, from, to, minute, best);
-    if answer.len() < long {
-        return Reply::Refused { number: 15 };
-    }
-    write_rows(words, lines, store, from, to, minute, best, answer);
-    Reply::Done {
-        count: count as u32,
-    }
+    show_rows(
+        words,
+        lines,
+        store,
+        from,
+        to,
+        minute,
+        best,
+        &mut who,
+        count,
+        answer,
+    )
 }
 
 // The query from a store: from one station to another at a minute. Working space may hold any words afterwards.

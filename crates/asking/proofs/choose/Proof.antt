@@ -3,13 +3,14 @@ use mathlib.Core.Path.{_≡_}
 use Prim.Native.Nat.{_≤_, _-_}
 use lib.ListN.{length}
 use Rattle.asking.specs.Arcs.{store-words, store-present}
-use Rattle.asking.specs.Trying.{Sized, Tried, first-sized, tried-first, tried-skip, target-of, tried-all}
+use Rattle.asking.specs.Trying.{Sized, Tried, first-sized, tried-first, tried-skip, target-of}
+use Rattle.asking.specs.Leader.{tried-leader}
 use borrow.Author.Needs.{needs}
 use Rattle.asking.proofs.choose.Statement.{statement}
 use Rattle.asking.proofs.choose.Tie as tie
 
 abbrev Inv-arcs : tie.InvT-arcs
-Inv-arcs words lines store from to minute arrive points shown₀ tried₀ x₀ arcs k₀ shown tried x k =
+Inv-arcs words lines store from to minute arrive points tried₀ shown₀ x₀ arcs k₀ tried shown x k =
     (k ≤ arcs)
     × (length tried ≡ 192)
     × (length shown ≡ 192)
@@ -17,7 +18,7 @@ Inv-arcs words lines store from to minute arrive points shown₀ tried₀ x₀ a
     × Tried words store from to minute arrive points k x shown
 
 abbrev μ-arcs : tie.MeasureT-arcs
-μ-arcs words lines store from to minute arrive points shown₀ tried₀ x₀ arcs k₀ shown tried x k = arcs - k
+μ-arcs words lines store from to minute arrive points tried₀ shown₀ x₀ arcs k₀ tried shown x k = arcs - k
 
 arc-count-requires : tie.Need-arc-count-requires Inv-arcs μ-arcs
 arc-count-requires c κs = search store-words
@@ -48,7 +49,7 @@ arcs-again-2 : tie.Need-arcs-again-2 Inv-arcs μ-arcs
 arcs-again-2 c = (search needs, search needs, search needs, search needs, search needs)
 
 returns : tie.Need-returns Inv-arcs μ-arcs
-returns c = search tried-all
+returns c = search tried-leader
 
 pub choose-spec : {M : Type 1} → statement M
 choose-spec =
@@ -63,8 +64,8 @@ choose-spec =
     (λ c. search needs)
     arcs-again
     (λ c. search needs)
+    (λ c. search needs)
     try-arc-requires
     (λ c. search needs)
     arcs-again-2
-    (λ c. search needs)
     returns)

@@ -1,5 +1,6 @@
--- The first words of the array are the stations of the arc.
-use Rattle.asking.specs.Arcs.{store-made, source-listed, stations-are, arc-noted}
+-- The first words of the array are the stations of the arc; its own least penalties are merged into those of the others.
+use Rattle.asking.specs.Merged.{outside-all, bound-more}
+use Rattle.asking.specs.Arcs.{store-made, source-listed, stations-are, arc-few, noted-more}
 use borrow.Author.Needs.{needs}
 use Rattle.asking.proofs.note_arc.Statement.{statement}
 use Rattle.asking.proofs.note_arc.Tie as tie
@@ -13,8 +14,20 @@ note-pattern-requires c κs = (
   ((search source-listed, search needs), ((search needs, search needs, search stations-are), search needs)),
 )
 
+merge-requires : tie.Need-merge-requires
+merge-requires c κs = (
+  search arc-few,
+  search needs,
+  search needs,
+  search outside-all,
+  search needs,
+  search needs,
+  search needs,
+  search needs,
+)
+
 returns : tie.Need-returns
-returns c = (search arc-noted, search needs)
+returns c = ((search needs, search bound-more, search noted-more), (search needs, search needs, search needs))
 
 pub note-arc-spec : {M : Type 1} → statement M
 note-arc-spec =
@@ -24,5 +37,8 @@ note-arc-spec =
     arc-pattern-requires
     (λ c. search needs)
     note-pattern-requires
+    merge-requires
+    (λ c. search needs)
+    (λ c. search needs)
     (λ c. search needs)
     returns)

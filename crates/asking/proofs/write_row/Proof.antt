@@ -1,8 +1,12 @@
--- The row is that of the winner.
+-- The row is that of what is found along the arc named.
+use Rattle.asking.specs.Leader.{leader-read}
 use Rattle.asking.proofs.RowLaws.{row-room, row-written}
 use borrow.Author.Needs.{needs}
 use Rattle.asking.proofs.write_row.Statement.{statement}
 use Rattle.asking.proofs.write_row.Tie as tie
+
+find-shown-requires : tie.Need-find-shown-requires
+find-shown-requires c κs = (search needs, search needs, search leader-read, search needs, search needs)
 
 put-row-requires : tie.Need-put-row-requires
 put-row-requires c κs = (search needs, search needs, search row-room)
@@ -16,6 +20,9 @@ write-row-spec =
     (tie.spec
     (λ c. search needs)
     (λ c. search needs)
+    (λ c. search needs)
+    (λ c. search needs)
+    find-shown-requires
     (λ c. search needs)
     (λ c. search needs)
     put-row-requires

@@ -1,0 +1,31 @@
+-- Each of the three words is stored as the callees tell it.
+use Rattle.asking.specs.Merged.{stored}
+use borrow.Author.Needs.{needs}
+use Rattle.asking.proofs.merge_minute.Statement.{statement}
+use Rattle.asking.proofs.merge_minute.Tie as tie
+
+returns : tie.Need-returns
+returns c = (search needs, search stored, search stored)
+
+pub merge-minute-spec : {M : Type 1} → statement M
+merge-minute-spec =
+    tie.close
+    (tie.spec
+    (λ c. search needs)
+    (λ c. search needs)
+    (λ c. search needs)
+    (λ c. search needs)
+    (λ c. search needs)
+    (λ c. search needs)
+    (λ c. search needs)
+    (λ c. search needs)
+    (λ c. search needs)
+    (λ c. search needs)
+    (λ c. search needs)
+    (λ c. search needs)
+    (λ c. search needs)
+    (λ c. search needs)
+    (λ c. search needs)
+    (λ c. search needs)
+    (λ c. search needs)
+    returns)
