@@ -17,15 +17,6 @@ use timetable::Stop;
 // More than anyone on the way has paid.
 pub const UNREACHED: u32 = 3166901;
 
-fn lesser(a: u32, b: u32) -> u32
-    ensures { λ r. ⌜ r ≡ min a b ⌝ }
-{
-    if a <= b {
-        return a;
-    }
-    b
-}
-
 // The word at index k becomes x, if it is higher.
 fn lower(a: &mut [u32], k: usize, x: u32)
     ensures { λ _. ⌜ now (a .exit) ≡ lowered k x (now (a .entry)) ⌝ }
@@ -61,7 +52,7 @@ fn boarding(source: usize, c: usize, stay: u32, change: u32) -> u32
     if c == source {
         return 0;
     }
-    lesser(stay, change)
+    words::lesser(stay, change)
 }
 
 // Who has caught departure i, at station c, can board there from now on. Answers the least that one has paid who boards
@@ -102,7 +93,7 @@ fn arrive(words: &[u16], catches: &[u16], j: usize, p: u32, v: &mut [u32], q: &m
     ensures { λ _. ⌜ (length (now (v .exit)) ≡ length (now (v .entry)))
         × (length (now (q .exit)) ≡ length (now (q .entry))) ⌝ }
 {
-    let u = lesser(UNREACHED, p);
+    let u = words::lesser(UNREACHED, p);
     v[j] = u;
     let f = words::word(catches, j) as usize;
     let cost = change_points(words, j);

@@ -1,7 +1,7 @@
 // Two passes of a store call: which arrivals are on the frontier, and who can still end well.
 ghost use mathlib.Core.Path.{_≡_};
 ghost use mathlib.Core.Bool.{true};
-ghost use Prim.Native.Nat.{_+_, _-_, _≤_, _<_, min, max};
+ghost use Prim.Native.Nat.{_+_, _-_, _≤_, _<_, max};
 ghost use lib.ListN.{length, getD, drop};
 ghost use Rattle.timetable.specs.Words.{stationCount, isTimetable};
 ghost use Rattle.stopwise.specs.Stopwise.{station, arrive, nowhere};
@@ -23,15 +23,6 @@ const NOWHERE: usize = 65535;
 const UNREACHED: u32 = 3166901;
 
 // ---- which arrivals are on the frontier
-
-fn lesser(a: u32, b: u32) -> u32
-    ensures { λ r. ⌜ r ≡ min a b ⌝ }
-{
-    if b < a {
-        return b;
-    }
-    a
-}
 
 // The minute of the arrival at place r.
 fn minute_at(words: &[u16], arrivals: &[u16], r: usize) -> u32
@@ -77,7 +68,7 @@ fn least(arrivals: &[u16], p: usize, q: usize, v: &[u32], top: u32) -> u32
     let mut r = p;
     while r < q {
         let j = words::word(arrivals, r) as usize;
-        low = lesser(low, v[j]);
+        low = words::lesser(low, v[j]);
         r += 1;
     }
     low
