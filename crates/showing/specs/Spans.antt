@@ -1,7 +1,7 @@
 -- The words of what is left behind a station, one for each minute. Only the minutes from the query's minute to the
 -- row's can matter: nobody arrives before the query, and who arrives behind the row's minute is late. All other words
 -- say that nothing is left.
-use mathlib.Core.Path.{_≡_, refl, sym, ap, _∙_}
+use mathlib.Core.Path.{_≡_, refl, sym, _∙_}
 use mathlib.Core.Bool.{not}
 use mathlib.Core.List.{List}
 use Prim.Native.Nat.{ℕ, _+_, _≤_, _<_}
@@ -12,7 +12,7 @@ use lib.ListN.{length, getD, set, length-replicate}
 use lib.Seq.{ext-getD, getD-set-same, getD-set-other}
 use Rattle.lists.specs.Tests.{either}
 use Rattle.direct.specs.Choosing.{noPoints, blank}
-use Rattle.direct.specs.Noted.{getD-any, getD-blank}
+use Rattle.direct.specs.Noted.{getD-blank}
 
 -- z has a word for each minute, and something is left only for minutes from t to v
 pub record Spans (t v : ℕ) (z : List ℕ) : Type 0 where

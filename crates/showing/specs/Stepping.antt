@@ -3,11 +3,11 @@
 -- what is left behind it.
 use mathlib.Core.Path.{_≡_, refl, sym, ap, _∙_}
 use mathlib.Core.Bool.{Bool, not, _&&_}
-use mathlib.Core.Logic.{_⊎_, inl, inr, _↔_}
+use mathlib.Core.Logic.{inl, inr, _↔_}
 use mathlib.Core.List.{List, [], _∷_, map, Memᴰ·map, Memᴰ·of-map}
 use Prim.Native.Nat.{ℕ, _+_, _-_, _≤_, _<_, min}
 use native.Mathlib.Omega.{arith}
-use lib.Dec.{T, leb, ltb, ltb→lt, leb→le, nleb→lt, nltb→le}
+use lib.Dec.{T, leb, ltb, ltb→lt, nltb→le}
 use lib.ListN.{length, getD, length-set}
 use Rattle.timetable.specs.Timetable.{Timetable, valid}
 use Rattle.lists.specs.Lists.{_∈_, filter}

@@ -1,5 +1,4 @@
 -- Behind station j of the path all is known; a step makes it so behind the station before.
-use Prim.Native.Nat.{_≤_, _<_}
 use borrow.Author.Needs.{needs}
 use Rattle.showing.specs.Spans.{Spans}
 use Rattle.showing.proofs.PatternLaws.{Back, given-part, rest-begins, rest-more, rest-done}
