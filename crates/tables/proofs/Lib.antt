@@ -5,6 +5,8 @@ pub mod BlockLaws
 pub mod HoldLaws
 pub mod SectionLaws
 pub mod BlocksLaws
+pub mod FillLaws
+pub mod PlaceLaws
 pub mod CallLaws
 pub mod StationLaws
 pub mod PairLaws

@@ -4,5 +4,6 @@ pub mod Spelled
 pub mod Same
 pub mod Sums
 pub mod Fits
+pub mod Filling
 pub mod Narrow
 pub mod Building
