@@ -99,17 +99,15 @@ module _
             (enough (length old) room)
 
 -- working space is as long as the questions asked for
-module _ (w v work after : List ℕ) (a b u number : ℕ)
-    (is : number ≡ queryNumber w v (length work) a b u) (none-denied : number ≡ 0) (same : length after ≡ length work)
-  where
-    pub work-room : 16384 ≤ length after
-    work-room = omega (arith, yes-all w v (length work) a b u (sym is ∙ none-denied) .slices .work)
+module _ (w v work : List ℕ) (a b u : ℕ) (all : queryNumber w v (length work) a b u ≡ 0) where
+  pub work-room : 16384 ≤ length work
+  work-room = yes-all w v (length work) a b u all .slices .work
 
-    pub words-long : 1 ≤ length w
-    words-long = omega (arith, yes-all w v (length work) a b u (sym is ∙ none-denied) .slices .words)
+  pub words-long : 1 ≤ length w
+  words-long = omega (arith, yes-all w v (length work) a b u all .slices .words)
 
-    pub minutes-room : (last : List ℕ) → length last ≡ length after → 2880 ≤ length last
-    minutes-room last e = omega (arith, work-room)
+  pub minutes-room : (after : List ℕ) → length after ≡ length work → 2880 ≤ length after
+  minutes-room after e = omega (arith, work-room)
 
-    pub minutes-part : (last : List ℕ) → length last ≡ length after → length (take 2880 last) ≡ 2880
-    minutes-part last e = length-take-le 2880 last (minutes-room last e)
+  pub minutes-part : (after : List ℕ) → length after ≡ length work → length (take 2880 after) ≡ 2880
+  minutes-part after e = length-take-le 2880 after (minutes-room after e)

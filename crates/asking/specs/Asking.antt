@@ -1,6 +1,7 @@
 -- What the query from a store answers and writes. Document 01: "Given any well-made store, a query's rows are the
 -- undominated costs among the feasible connections whose pattern it holds, and ties are settled among those."; "An
 -- answer is in 32-bit words, rows in rising duration [..]. The row count is returned."
+use mathlib.Core.Path.{_≡_}
 use mathlib.Core.List.{List, [], _∷_, _++_}
 use Prim.Native.Nat.{ℕ}
 use lib.Dec.{leb}
@@ -8,7 +9,7 @@ use lib.ListN.{length}
 use Rattle.lists.specs.Lists.{concatMap}
 use Rattle.questions.specs.Question.{Question, ask, firstNo}
 use Rattle.replies.specs.declared.Reply.{Reply}
-use Rattle.replies.specs.Replies.{replyOf, wordsAfter}
+use Rattle.replies.specs.Replies.{replyOf, valuesOf, valuesFor, wordsAfter, reply-values}
 use Rattle.timetable.specs.Words.{timetableOf}
 use Rattle.connections.specs.Connections.{net, Connection}
 use Rattle.stores.specs.Words.{wellMade, keptList, answer}
@@ -39,6 +40,15 @@ askNumber w v s n a b u m = firstNo (queryQuestions w v n a b u ++ lastQuestions
 
 unfoldable pub askReply : (w v s : List ℕ) (n a b u m : ℕ) → Reply
 askReply w v s n a b u m = replyOf (askNumber w v s n a b u m) (length (rows w s a b u))
+
+-- its number and count
+unfoldable pub askValues : (w v s : List ℕ) (n a b u m : ℕ) → List ℕ
+askValues w v s n a b u m = valuesFor (askNumber w v s n a b u m) (length (rows w s a b u))
+
+pub ask-values : (w v s : List ℕ) (n a b u m : ℕ) (r : Reply) → r ≡ askReply w v s n a b u m
+    → valuesOf r ≡ askValues w v s n a b u m
+unfolding askReply askValues
+ask-values w v s n a b u m r e = reply-values (askNumber w v s n a b u m) (length (rows w s a b u)) r e
 
 -- the words of the answer slice after the call
 unfoldable pub askWords : (w v s : List ℕ) (n a b u : ℕ) (old : List ℕ) → List ℕ

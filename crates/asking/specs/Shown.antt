@@ -68,28 +68,41 @@ module _ (w v s : List ℕ) (n a b u number : ℕ) (is : number ≡ queryNumber 
       go zero e h = absurd (h refl)
       go (suc k) e h = out-words w v s n a b u old k (first-out (length old) k e)
 
--- ---- all have their yes: question 13, of which the code was told r for so many stations
+-- ---- all have their yes, with working space as long as it was before they were asked
+module _ (w v work after : List ℕ) (a b u : ℕ) (same : length after ≡ length work) where
+  pub none-denied : (number : ℕ) → number ≡ queryNumber w v (length work) a b u → number ≡ 0
+      → queryNumber w v (length after) a b u ≡ 0
+  none-denied number is e = ap (λ n. queryNumber w v n a b u) same ∙ sym is ∙ e
+
+  pub later-reply : (s : List ℕ) (m : ℕ) (z : Reply) → z ≡ askReply w v s (length after) a b u m
+      → z ≡ askReply w v s (length work) a b u m
+  later-reply s m z e = e ∙ ap (λ n. askReply w v s n a b u m) same
+
+  pub later-words : (s old new : List ℕ) → new ≡ askWords w v s (length after) a b u old
+      → new ≡ askWords w v s (length work) a b u old
+  later-words s old new e = e ∙ ap (λ n. askWords w v s n a b u old) same
+
+-- ---- question 13: the stations are counted, and the code is told r
+pub made-for : (w s : List ℕ) (stations : ℕ) (r : Bool) → stations ≡ stationCount w → r ≡ wellMade stations s
+    → r ≡ wellMade (length ((timetableOf w) .stations)) s
+made-for w s stations r count made = made ∙ ap (λ k. wellMade k s) (count ∙ sym (length-stations w))
+
 module _
     (w v s : List ℕ)
-    (n a b u number stations : ℕ)
+    (n a b u : ℕ)
     (r : Bool)
-    (is : number ≡ queryNumber w v n a b u)
-    (none-denied : number ≡ 0)
-    (count : stations ≡ stationCount w)
-    (made : r ≡ wellMade stations s)
+    (all : queryNumber w v n a b u ≡ 0)
+    (made : r ≡ wellMade (length ((timetableOf w) .stations)) s)
   where
     all-yes : firstNo (queryQuestions w v n a b u) ≡ 0
     unfolding queryNumber
-    all-yes = sym is ∙ none-denied
-
-    made-is : wellMade (length ((timetableOf w) .stations)) s ≡ r
-    made-is = ap (λ k. wellMade k s) (length-stations w ∙ sym count) ∙ sym made
+    all-yes = all
 
     last-number : (m : ℕ) → askNumber w v s n a b u m ≡ firstNo (ask 13 r ∷ twoQuestions w s a b u m)
     unfolding askNumber
     last-number m =
         asked-on (queryQuestions w v n a b u) (lastQuestions w s a b u m) (query-asked w v n a b u) all-yes
-        ∙ ap (λ t. firstNo (ask 13 t ∷ twoQuestions w s a b u m)) made-is
+        ∙ ap (λ t. firstNo (ask 13 t ∷ twoQuestions w s a b u m)) (sym made)
 
     module _ (denied : not r ≡ true) where
       no : r ≡ false
@@ -109,7 +122,7 @@ module _
       good = not-false r given
 
       answers : Yes w v n a b u
-      answers = yes-all w v n a b u (sym is ∙ none-denied)
+      answers = yes-all w v n a b u all
 
       pub granted : Granted w v s a b u
       granted =
@@ -117,7 +130,7 @@ module _
             long = answers .slices .words;
             accepted = answers .accepted;
             own = answers .own;
-            made = made-is ∙ good;
+            made = sym made ∙ good;
             some = answers .some;
             inside = omega (arith, answers .inside, length-stations w);
             minute = answers .minute;

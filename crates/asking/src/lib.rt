@@ -5,10 +5,14 @@ ghost use Prim.Native.Nat.{_+_, _-_, _*_, _≤_, _<_, min};
 ghost use lib.ListN.{length, getD, take, set};
 ghost use Rattle.words.specs.Put.{put};
 ghost use Rattle.lists.specs.Lists.{before};
+ghost use Rattle.timetable.specs.Words.{timetableOf};
+ghost use Rattle.stores.specs.Words.{wellMade};
+ghost use Rattle.checking.specs.Asked.{queryNumber};
 ghost use Rattle.wellmade.specs.Entries.{arcCount, arcTarget};
 ghost use Rattle.wellmade.specs.Paths.{arcPath};
 ghost use Rattle.wellmade.specs.Made.{Made};
-ghost use Rattle.asking.specs.Asking.{kept, rows, rowWords, askReply, askWords};
+ghost use Rattle.replies.specs.Replies.{valuesOf};
+ghost use Rattle.asking.specs.Asking.{kept, rows, rowWords, askReply, askValues, askWords};
 ghost use Rattle.asking.specs.Keys.{keyWords};
 ghost use Rattle.asking.specs.Rowed.{LeastKept};
 ghost use Rattle.direct.specs.Choosing.{noPoints, blank, leads};
@@ -795,6 +799,103 @@ fn show(
     )
 }
 
+// Whether the store is well made for the stations of the timetable.
+fn is_made(words: &[u16], store: &[u16], work: &mut [u32]) -> bool
+    requires { ⌜ (1 ≤ length (now words)) × (16384 ≤ length (now work)) ⌝ }
+    ensures { λ r. ⌜ r ≡ wellMade (length ((timetableOf (now (words .entry))) .stations)) (now (store .entry)) ⌝ }
+{
+    let stations = words::word(words, 0) as usize;
+    wellmade::is_well_made(store, stations, work)
+}
+
+// Answers the query if the store is well made; the questions of every query have their yes.
+fn query_stored(
+    words: &[u16],
+    lines: &[u16],
+    store: &[u16],
+    work: &mut [u32],
+    from: u32,
+    to: u32,
+    minute: u32,
+    answer: &mut [u32],
+) -> Reply
+    requires { ⌜ queryNumber (now words) (now lines) (length (now work)) from to minute ≡ 0 ⌝ }
+    ensures { λ r. ⌜ r
+        ≡ askReply
+        (now (words .entry))
+        (now (lines .entry))
+        (now (store .entry))
+        (length (now (work .entry)))
+        from
+        to
+        minute
+        (length (now (answer .entry))) ⌝ }
+    ensures { λ _. ⌜ now (answer .exit)
+        ≡ askWords
+        (now (words .entry))
+        (now (lines .entry))
+        (now (store .entry))
+        (length (now (work .entry)))
+        from
+        to
+        minute
+        (now (answer .entry)) ⌝ }
+{
+    if !is_made(words, store, work) {
+        return Reply::Refused { number: 13 };
+    }
+    let best = &mut work[0..MINUTES];
+    show(
+        words,
+        lines,
+        store,
+        best,
+        from as usize,
+        to as usize,
+        minute as usize,
+        answer,
+    )
+}
+
+// Answers the query if no question is in the way.
+fn query_asked(
+    words: &[u16],
+    lines: &[u16],
+    store: &[u16],
+    work: &mut [u32],
+    from: u32,
+    to: u32,
+    minute: u32,
+    answer: &mut [u32],
+) -> Reply
+    ensures { λ r. ⌜ r
+        ≡ askReply
+        (now (words .entry))
+        (now (lines .entry))
+        (now (store .entry))
+        (length (now (work .entry)))
+        from
+        to
+        minute
+        (length (now (answer .entry))) ⌝ }
+    ensures { λ _. ⌜ now (answer .exit)
+        ≡ askWords
+        (now (words .entry))
+        (now (lines .entry))
+        (now (store .entry))
+        (length (now (work .entry)))
+        from
+        to
+        minute
+        (now (answer .entry)) ⌝ }
+{
+    let number = checking::query_number(words, lines, work, from, to, minute);
+    if number != 0 {
+        return Reply::Refused { number };
+    }
+    query_stored(words, lines, store, work, from, to, minute, answer)
+}
+
 // The query from a store: from one station to another at a minute. Working space may hold any words afterwards.
 pub fn query(
     words: &[u16],
@@ -816,6 +917,16 @@ pub fn query(
         to
         minute
         (length (now (answer .entry))) ⌝ }
+    ensures values { λ r. ⌜ valuesOf r
+        ≡ askValues
+        (now (words .entry))
+        (now (lines .entry))
+        (now (store .entry))
+        (length (now (work .entry)))
+        from
+        to
+        minute
+        (length (now (answer .entry))) ⌝ }
     ensures words { λ _. ⌜ now (answer .exit)
         ≡ askWords
         (now (words .entry))
@@ -827,23 +938,5 @@ pub fn query(
         minute
         (now (answer .entry)) ⌝ }
 {
-    let number = checking::query_number(words, lines, work, from, to, minute);
-    if number != 0 {
-        return Reply::Refused { number };
-    }
-    let stations = words::word(words, 0) as usize;
-    if !wellmade::is_well_made(store, stations, work) {
-        return Reply::Refused { number: 13 };
-    }
-    let best = &mut work[0..MINUTES];
-    show(
-        words,
-        lines,
-        store,
-        best,
-        from as usize,
-        to as usize,
-        minute as usize,
-        answer,
-    )
+    query_asked(words, lines, store, work, from, to, minute, answer)
 }
