@@ -22,6 +22,7 @@ use Rattle.prospects.specs.Front.{
   least-more,
   marked-more,
   fronting-none,
+  fronting-over,
 }
 
 pub minute-is : (w arrivals : List ℕ) (r j : ℕ) (s : Stop) → j ≡ getD arrivals r 0 → s ≡ stopAt w j
@@ -119,6 +120,24 @@ run-ordered w arrivals begin end r = r .held .ordered
 pub front-first : (w arrivals : List ℕ) (begin end top : ℕ) (v : List ℕ) → Run w arrivals begin end
     → Fronting w arrivals begin end top v begin top v
 front-first w arrivals begin end top v r = fronting-none w arrivals begin end top v (r .held .ordered)
+
+-- ---- an arrival that is passed over
+module _ (w arrivals : List ℕ) (begin end p : ℕ) (run : Run w arrivals begin end) (on : p < end) where
+  pub arrival-inside : p < length arrivals
+  arrival-inside = omega (arith, run .held .inside)
+
+  module _ (v v′ : List ℕ) (j : ℕ) (long : length v ≡ 2048) (same : length v′ ≡ length v)
+      (is-j : j ≡ getD arrivals p 0) where
+    pub arrival-stop : begin ≤ p → j < length v′
+    arrival-stop a = omega (arith, run .held .stop p a on)
+
+    pub front-over : (top low : ℕ) → Fronting w arrivals begin end top v p low v′ → low ≤ getD v′ j 0
+        → Fronting w arrivals begin end top v (p + 1) low (set v′ j 0)
+    front-over top low f dear =
+        subst
+        (λ k. Fronting w arrivals begin end top v (p + 1) low (set v′ k 0))
+        (sym is-j)
+        (fronting-over w arrivals begin end top v run p low v′ on f (rw is-j at dear) (same ∙ long))
 
 -- ---- all stations
 module _

@@ -1,5 +1,6 @@
 -- The arrivals of one station, minute by minute: one is on the frontier if it has paid less than all of earlier
--- minutes, and no more than those of its own minute. So the least before the minute and the least with it decide.
+-- minutes, and no more than those of its own minute. So the least before the minute and the least with it decide. Who
+-- has paid no less than the least before the minute is not on the frontier, whoever else arrives then.
 use mathlib.Core.Path.{_≡_, refl, sym, ap, subst, _∙_}
 use mathlib.Core.Bool.{cond, _&&_}
 use mathlib.Core.Logic.{_↔_, _≢_}
@@ -190,14 +191,17 @@ module _ (w arrivals : List ℕ) (from end top : ℕ) (v : List ℕ) where
     pub off : (k : ℕ) → ((r : ℕ) → from ≤ r → r < p → k ≢ getD arrivals r 0) → getD v′ k 0 ≡ getD v k 0
     pub long : length v′ ≡ length v
 
-  -- all minutes up to place p are done
+  -- All places up to p are done. A minute may be cut there: those of it that are done have paid no less than low, so
+  -- that low is still the least of the minutes before it.
   pub record Fronting (p low : ℕ) (v′ : List ℕ) : Type 0 where
     pub begun : from ≤ p
     pub most : p ≤ end
     pub fronted : Fronted p v′
     pub least : Least arrivals v top from p low
-    pub earlier : (r s : ℕ) → from ≤ r → r < p → p ≤ s → s < end
-        → arrive w (getD arrivals r 0) < arrive w (getD arrivals s 0)
+    pub strict : (s : ℕ) → p ≤ s → s < end → (y : ℕ) → y ≤ top
+        → ((r : ℕ) → from ≤ r → r < p → arrive w (getD arrivals r 0) < arrive w (getD arrivals s 0)
+        → y ≤ getD v (getD arrivals r 0) 0)
+        → y ≤ low
 
   pub fronting-none : from ≤ end → Fronting from top v
   fronting-none h =
@@ -207,7 +211,7 @@ module _ (w arrivals : List ℕ) (from end top : ℕ) (v : List ℕ) where
         fronted =
             record { at = (λ r x h g. absurd (omega arith)); off = (λ k h. refl); long = refl };
         least = least-none arrivals v top from;
-        earlier = (λ r s h g. absurd (omega arith));
+        strict = (λ s h g y most all. most);
       }
 
   pub fronting-all : (p low : ℕ) (v′ : List ℕ) → end ≤ p → Fronting p low v′ → Fronted end v′
@@ -215,9 +219,7 @@ module _ (w arrivals : List ℕ) (from end top : ℕ) (v : List ℕ) where
       let e : p ≡ end = omega (arith, f .most) in
       subst (λ q. Fronted q v′) e (f .fronted)
 
-  module _ (run : Run w arrivals from end) (p q low low′ : ℕ) (v′ v″ : List ℕ) (more : p < end)
-      (f : Fronting p low v′) (m : MinuteEnd w arrivals p end q) (l : Least arrivals v′ low p q low′)
-      (k : Marked arrivals low low′ p q v′ v″) where
+  module _ (run : Run w arrivals from end) (p low : ℕ) (v′ : List ℕ) (more : p < end) (f : Fronting p low v′) where
     abbrev at : ℕ → ℕ
     at r = getD arrivals r 0
 
@@ -229,122 +231,185 @@ module _ (w arrivals : List ℕ) (from end top : ℕ) (v : List ℕ) where
           | no h ↦ run .held .once s r c (omega arith) b z
         ]
 
-    within : q ≤ end
-    within = m .most
-
-    -- minutes behind
-    behind : (s : ℕ) → q ≤ s → s < end → arrive w (at p) < arrive w (at s)
-    behind s h g =
-        let a = f .begun in
-        let b = m .minute .later in
-        let step : arrive w (at p) < arrive w (at q) =
-        omega (arith, run .rising p q a b (omega arith), m .next (omega arith)) in
-        elim (ℕ-discrete s q) [
-          | yes z ↦ omega (arith, ap (λ i. arrive w (at i)) z)
-          | no z ↦ omega (arith, run .rising q s (omega arith) (omega arith) g)
-        ]
-
     still : (r : ℕ) → p ≤ r → r < end → getD v′ (at r) 0 ≡ getD v (at r) 0
     still r h g =
         let a = f .begun in
         f .fronted .off (at r) (λ s i j. differ r s (omega arith) g i (omega arith) (omega arith))
 
-    low-now : Least arrivals v top from q low′
-    low-now =
-        least-join arrivals v′ v top from p q low low′ (f .begun) (omega (arith, m .minute .later)) (f .least) l
-        (λ r h g. still r h (omega (arith, within)))
+    -- one that has paid no less than low is passed over
+    module _ (dear : low ≤ getD v′ (at p) 0) (long : length v′ ≡ 2048) where
+      not-front : Front (at p) → ⊥
+      not-front g =
+          let up : suc (getD v (at p) 0) ≤ low =
+          f .strict p (omega arith) more (suc (getD v (at p) 0)) (g .below)
+          (λ s i j. g .first s i (omega (arith, f .most))) in
+          omega (arith, up, dear, still p (omega arith) more)
 
-    -- an arrival of this minute
-    module _ (r : ℕ) (a : p ≤ r) (b : r < q) where
-      u : ℕ
-      u = getD v (at r) 0
+      other : (r : ℕ) → from ≤ r → r < p → at p ≢ at r
+      other r h g = differ p r (f .begun) more h (omega arith) (omega arith)
 
-      to-front : u < low → u ≡ low′ → Front (at r)
-      unfolding u
-      to-front h g =
+      none-over : (x : ℕ) → (x < getD (set v′ (at p) 0) (at p) 0) ↔ (Front (at p) × (x ≤ getD v (at p) 0))
+      none-over x =
+          rw
+          (getD-set-same v′ (at p) 0 0 (omega (arith, long, run .held .stop p (f .begun) more)))
+          (λ h. absurd (omega arith), λ h. absurd (not-front (h .0)))
+
+      pub fronting-over : Fronting (p + 1) low (set v′ (at p) 0)
+      fronting-over =
           record {
-            below = omega (arith, f .least .most);
+            begun = omega (arith, f .begun);
+            most = omega arith;
+            fronted =
+                record {
+                  at =
+                      (λ r x h g.
+                      elim (ℕ-discrete r p) [
+                        | yes z ↦ rw z (none-over x)
+                        | no z ↦
+                            rw
+                            (getD-set-other v′ (at p) (at r) 0 0 (λ e. other r h (omega arith) (sym e)))
+                            (f .fronted .at r x h (omega arith))
+                      ]);
+                  off =
+                      (λ j h.
+                      getD-set-other v′ (at p) j 0 0 (h p (f .begun) (omega arith))
+                      ∙ f .fronted .off j (λ r a b. h r a (omega arith)));
+                  long = length-set v′ (at p) 0 ∙ f .fronted .long;
+                };
             least =
-                (λ s i j e.
-                let s-before : s < q =
-                elim (decLt s q) [
-                  | yes z ↦ z
-                  | no z ↦ absurd (omega (arith, behind s (omega arith) j, m .minute .same r a b))
-                ] in
-                omega (arith, low-now .below s i s-before));
-            first =
-                (λ s i j e.
-                let s-before : s < p =
-                elim (decLt s p) [
-                  | yes z ↦ z
-                  | no z ↦
-                      elim (decLt s q) [
-                        | yes y ↦
-                            absurd (omega (arith, m .minute .same s (omega arith) y, m .minute .same r a b))
-                        | no y ↦ absurd (omega (arith, behind s (omega arith) j, m .minute .same r a b))
-                      ]
-                ] in
-                omega (arith, f .least .below s i s-before));
+                record {
+                  most = f .least .most;
+                  below =
+                      (λ r h g.
+                      elim (ℕ-discrete r p) [
+                        | yes z ↦
+                            omega (arith, dear, still p (omega arith) more, ap (λ i. getD v (at i) 0) z)
+                        | no z ↦ f .least .below r h (omega arith)
+                      ]);
+                  greatest = (λ y h g. f .least .greatest y h (λ r a b. g r a (omega arith)));
+                };
+            strict =
+                (λ s h g y most all. f .strict s (omega arith) g y most (λ r a b. all r a (omega arith)));
           }
 
-      from-front : Front (at r) → (u < low) × (u ≡ low′)
-      unfolding u
-      from-front g =
-          let room : r < end = omega (arith, within) in
-          let on = f .begun in
-          let up : suc (getD v (at r) 0) ≤ low =
-          f .least .greatest (suc (getD v (at r) 0)) (g .below)
-          (λ s i j. g .first s i (omega (arith, f .most)) (f .earlier s r i j a room)) in
-          let down : getD v (at r) 0 ≤ low′ =
-          low-now .greatest (getD v (at r) 0) (omega (arith, g .below))
-          (λ s i j.
-          g .least s i (omega (arith, within))
-          (elim (decLt s p) [
-            | yes z ↦ omega (arith, f .earlier s r i z a room)
-            | no z ↦ omega (arith, m .minute .same s (omega arith) j, m .minute .same r a b)
-          ])) in
-          (up, omega (arith, down, low-now .below r (omega arith) b))
+    -- a minute, or what is left of it
+    module _ (q low′ : ℕ) (v″ : List ℕ) (m : MinuteEnd w arrivals p end q) (l : Least arrivals v′ low p q low′)
+        (k : Marked arrivals low low′ p q v′ v″) where
+      within : q ≤ end
+      within = m .most
 
-      this-minute : (x : ℕ) → (x < getD v″ (at r) 0) ↔ (Front (at r) × (x ≤ getD v (at r) 0))
-      unfolding u
-      this-minute x =
-          rw (k .at r a b, still r a (omega (arith, within))) (
-            λ h. let g = mark-some low low′ (getD v (at r) 0) x h in (to-front (g .0) (g .1), g .2),
-            λ h.
-                let g = from-front (h .0) in
-                omega (arith, mark-low low low′ (getD v (at r) 0) (g .0) (g .1), h .1),
-          )
+      -- minutes behind
+      behind : (s : ℕ) → q ≤ s → s < end → arrive w (at p) < arrive w (at s)
+      behind s h g =
+          let a = f .begun in
+          let b = m .minute .later in
+          let step : arrive w (at p) < arrive w (at q) =
+          omega (arith, run .rising p q a b (omega arith), m .next (omega arith)) in
+          elim (ℕ-discrete s q) [
+            | yes z ↦ omega (arith, ap (λ i. arrive w (at i)) z)
+            | no z ↦ omega (arith, run .rising q s (omega arith) (omega arith) g)
+          ]
 
-    pub fronting-more : Fronting q low′ v″
-    fronting-more =
-        record {
-          begun = omega (arith, f .begun, m .minute .later);
-          most = within;
-          fronted =
-              record {
-                at =
-                    (λ r x h g.
-                    elim (decLt r p) [
-                      | yes z ↦
-                          rw
-                          (k .off (at r)
-                          (λ s i j.
-                          differ r s h (omega (arith, within)) (omega (arith, f .begun)) (omega (arith, within))
-                          (omega arith)))
-                          (f .fronted .at r x h z)
-                      | no z ↦ this-minute r (omega arith) g x
-                    ]);
-                off =
-                    (λ j h.
-                    k .off j (λ r a b. h r (omega (arith, f .begun)) b)
-                    ∙ f .fronted .off j (λ r a b. h r a (omega (arith, m .minute .later))));
-                long = k .long ∙ f .fronted .long;
-              };
-          least = low-now;
-          earlier =
-              (λ r s h g i j.
-              elim (decLt r p) [
-                | yes z ↦ omega (arith, f .earlier r p h z (omega arith) more, behind s i j)
-                | no z ↦ omega (arith, m .minute .same r (omega arith) g, behind s i j)
-              ]);
-        }
+      low-now : Least arrivals v top from q low′
+      low-now =
+          least-join arrivals v′ v top from p q low low′ (f .begun) (omega (arith, m .minute .later)) (f .least) l
+          (λ r h g. still r h (omega (arith, within)))
+
+      -- an arrival of this minute
+      module _ (r : ℕ) (a : p ≤ r) (b : r < q) where
+        u : ℕ
+        u = getD v (at r) 0
+
+        to-front : u < low → u ≡ low′ → Front (at r)
+        unfolding u
+        to-front h g =
+            record {
+              below = omega (arith, f .least .most);
+              least =
+                  (λ s i j e.
+                  let s-before : s < q =
+                  elim (decLt s q) [
+                    | yes z ↦ z
+                    | no z ↦ absurd (omega (arith, behind s (omega arith) j, m .minute .same r a b))
+                  ] in
+                  omega (arith, low-now .below s i s-before));
+              first =
+                  (λ s i j e.
+                  let s-before : s < p =
+                  elim (decLt s p) [
+                    | yes z ↦ z
+                    | no z ↦
+                        elim (decLt s q) [
+                          | yes y ↦
+                              absurd (omega (arith, m .minute .same s (omega arith) y, m .minute .same r a b))
+                          | no y ↦ absurd (omega (arith, behind s (omega arith) j, m .minute .same r a b))
+                        ]
+                  ] in
+                  omega (arith, f .least .below s i s-before));
+            }
+
+        from-front : Front (at r) → (u < low) × (u ≡ low′)
+        unfolding u
+        from-front g =
+            let room : r < end = omega (arith, within) in
+            let on = f .begun in
+            let up : suc (getD v (at r) 0) ≤ low =
+            f .strict r a room (suc (getD v (at r) 0)) (g .below) (λ s i j. g .first s i (omega (arith, f .most))) in
+            let down : getD v (at r) 0 ≤ low′ =
+            low-now .greatest (getD v (at r) 0) (omega (arith, g .below))
+            (λ s i j.
+            g .least s i (omega (arith, within))
+            (elim (decLt s p) [
+              | yes z ↦ run .rising s r i (omega arith) room
+              | no z ↦ omega (arith, m .minute .same s (omega arith) j, m .minute .same r a b)
+            ])) in
+            (up, omega (arith, down, low-now .below r (omega arith) b))
+
+        this-minute : (x : ℕ) → (x < getD v″ (at r) 0) ↔ (Front (at r) × (x ≤ getD v (at r) 0))
+        unfolding u
+        this-minute x =
+            rw (k .at r a b, still r a (omega (arith, within))) (
+              λ h. let g = mark-some low low′ (getD v (at r) 0) x h in (to-front (g .0) (g .1), g .2),
+              λ h.
+                  let g = from-front (h .0) in
+                  omega (arith, mark-low low low′ (getD v (at r) 0) (g .0) (g .1), h .1),
+            )
+
+      pub fronting-more : Fronting q low′ v″
+      fronting-more =
+          record {
+            begun = omega (arith, f .begun, m .minute .later);
+            most = within;
+            fronted =
+                record {
+                  at =
+                      (λ r x h g.
+                      elim (decLt r p) [
+                        | yes z ↦
+                            rw
+                            (k .off (at r)
+                            (λ s i j.
+                            differ r s h (omega (arith, within)) (omega (arith, f .begun)) (omega (arith, within))
+                            (omega arith)))
+                            (f .fronted .at r x h z)
+                        | no z ↦ this-minute r (omega arith) g x
+                      ]);
+                  off =
+                      (λ j h.
+                      k .off j (λ r a b. h r (omega (arith, f .begun)) b)
+                      ∙ f .fronted .off j (λ r a b. h r a (omega (arith, m .minute .later))));
+                  long = k .long ∙ f .fronted .long;
+                };
+            least = low-now;
+            strict =
+                (λ s h g y most all.
+                l .greatest y
+                (f .strict p (omega arith) more y most
+                (λ r a b e. all r a (omega (arith, m .minute .later)) (omega (arith, behind s h g))))
+                (λ r a b.
+                omega (
+                  arith,
+                  all r (omega (arith, f .begun)) b (omega (arith, m .minute .same r a b, behind s h g)),
+                  still r a (omega (arith, within)),
+                )));
+          }

@@ -115,7 +115,15 @@ fn allow_station(words: &[u16], arrivals: &[u16], begin: usize, end: usize, top:
 {
     let mut low = top;
     let mut p = begin;
-    while p < end {
+    'arrivals: while p < end {
+        let j = words::word(arrivals, p) as usize;
+        // Most are not reached or have paid no less than someone earlier: whoever else arrives in their minute, they
+        // are not on the frontier.
+        if low <= v[j] {
+            v[j] = 0;
+            p += 1;
+            continue 'arrivals;
+        }
         let q = minute_end(words, arrivals, p, end);
         let before = low;
         low = least(arrivals, p, q, v, before);

@@ -1,4 +1,5 @@
--- Minute by minute: the arrivals of whole minutes up to place p are marked, and low is the least among them.
+-- The arrivals up to place p are marked, and low is the least among them: one is passed over alone, or what is left of
+-- its minute is marked with it.
 use mathlib.Core.Path.{_≡_}
 use Prim.Native.Nat.{_≤_, _-_}
 use borrow.Author.Needs.{needs}
@@ -12,25 +13,37 @@ use Rattle.prospects.proofs.FrontLaws.{
   minute-held,
   run-ordered,
   front-first,
+  front-over,
+  arrival-inside,
+  arrival-stop,
 }
 use Rattle.prospects.proofs.allow_station.Statement.{statement}
 use Rattle.prospects.proofs.allow_station.Tie as tie
 
-abbrev Inv-loop : tie.InvT-loop
-Inv-loop words arrivals begin end top v₀ low₀ p₀ v low p =
+abbrev Inv-arrivals : tie.InvT-arrivals
+Inv-arrivals words arrivals begin end top v₀ low₀ p₀ v low p =
     (begin ≤ p)
     × ((p ≤ end) × ((length v ≡ length v₀) × Fronting words arrivals begin end top v₀ p low v))
 
-abbrev μ-loop : tie.MeasureT-loop
-μ-loop words arrivals begin end top v₀ low₀ p₀ v low p = end - p
+abbrev μ-arrivals : tie.MeasureT-arrivals
+μ-arrivals words arrivals begin end top v₀ low₀ p₀ v low p = end - p
 
 pub allow-station-spec : {M : Type 1} → statement M
 allow-station-spec =
     tie.close
     (tie.spec
-    Inv-loop
-    μ-loop
+    Inv-arrivals
+    μ-arrivals
     (λ c. (search needs, (search run-ordered, (search needs, search front-first))))
+    (λ c κs. search arrival-inside)
+    (λ c. search needs)
+    (λ c. search needs)
+    (λ c. search arrival-stop)
+    (λ c. search needs)
+    (λ c. search arrival-stop)
+    (λ c. search needs)
+    (λ c. search needs)
+    (λ c. (search needs, (search needs, (search needs, search front-over))))
     (λ c κs. (search needs, search needs, search run-from, search needs))
     (λ c κs. (search minute-held, search needs))
     (λ c κs. (search minute-held, search needs))
