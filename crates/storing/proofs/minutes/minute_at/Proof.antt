@@ -1,0 +1,15 @@
+-- The stop that stands at the place, and its departure.
+use borrow.Author.Needs.{needs}
+use Rattle.storing.proofs.ChunkLaws.{few-stations, minute-is}
+use Rattle.storing.proofs.minutes.minute_at.Statement.{statement}
+use Rattle.storing.proofs.minutes.minute_at.Tie as tie
+
+stop-at-requires : tie.Need-stop-at-requires
+stop-at-requires c κs = (search needs, search few-stations, search needs)
+
+returns : tie.Need-returns
+returns c = search minute-is
+
+pub minute-at-spec : {M : Type 1} → statement M
+minute-at-spec =
+    tie.close (tie.spec (λ c. search needs) (λ c. search needs) stop-at-requires (λ c. search needs) returns)
