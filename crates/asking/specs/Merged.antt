@@ -10,7 +10,7 @@ use native.Mathlib.Omega.{arith, min-cases}
 use native.Mathlib.Decide.{ℕ-discrete}
 use borrow.Author.Tests.{lt-ltb, le-ltb}
 use lib.Dec.{ltb, ltb→lt, nltb→le}
-use lib.ListN.{length, getD, set, replicate, length-replicate, List·getD-eq-default}
+use lib.ListN.{length, getD, set, replicate, length-replicate}
 use lib.Seq.{getD-set-same, getD-set-other, ext-getD}
 use Rattle.lists.specs.Tests.{either}
 use Rattle.connections.specs.Connections.{Net}
@@ -18,6 +18,8 @@ use Rattle.reckoning.specs.Along.{Ends}
 use Rattle.direct.specs.Choosing.{noPoints, blank}
 use Rattle.direct.specs.Noted.{getD-any, getD-blank}
 use Rattle.layers.specs.Lowered.{Lowered}
+use Rattle.layers.specs.Spans.{Within}
+use Rattle.layers.specs.declared.Span.{Span}
 
 -- no minute has an arc yet
 abbrev pub unnamed : List ℕ
@@ -90,12 +92,19 @@ pub record Outside (from to : ℕ) (mine : List ℕ) : Type 0 where
   pub early : (m : ℕ) → m < from → getD mine m noPoints ≡ noPoints
   pub late : (m : ℕ) → to ≤ m → getD mine m noPoints ≡ noPoints
 
-pub outside-all : (old mine : List ℕ) → length mine ≡ length old → length old ≡ 2880 → Outside 0 2880 mine
-outside-all old mine same long =
-    record {
-      early = λ m h. absurd (omega arith);
-      late = λ m h. List·getD-eq-default mine noPoints {n = m} (omega arith);
-    }
+module _ (s : Span) (old mine : List ℕ) (within : Within s old mine) where
+  pub span-short : s .to ≤ 2880
+  span-short = within .short
+
+  pub outside-span : old ≡ blank → Outside (s .from) (s .to) mine
+  outside-span e =
+      record {
+        early = λ m h. within .below m h ∙ blank-at m;
+        late = λ m h. within .above m h ∙ blank-at m;
+      }
+    where
+      blank-at : (m : ℕ) → getD old m noPoints ≡ noPoints
+      blank-at m = ap (λ l. getD l m noPoints) e ∙ getD-blank 2880 noPoints m
 
 pub bound-first : (best who : List ℕ) → best ≡ blank → who ≡ unnamed → Bound best who
 bound-first best who e f =

@@ -136,7 +136,6 @@ fn merge_minute(k: usize, m: usize, mine: &mut [u32], best: &mut [u32], who: &mu
 // minute before `from`, and none from `to` on.
 fn merge(k: usize, from: usize, to: usize, mine: &mut [u32], best: &mut [u32], who: &mut [u16])
     requires { ⌜ (k + 1 < 65536)
-        × (from ≤ to)
         × (to ≤ 2880)
         × Outside from to (now mine)
         × Bound (now best) (now who)
@@ -206,8 +205,8 @@ fn note_arc(
 {
     let mut path = [0u16; STATIONS_MOST];
     let r = wellmade::arc_pattern(store, k, &mut path);
-    layers::note_pattern(words, lines, from, minute, &path, r, mine);
-    merge(k, 0, MINUTES, mine, best, who);
+    let reached = layers::note_pattern(words, lines, from, minute, &path, r, mine);
+    merge(k, reached.from, reached.to, mine, best, who);
 }
 
 // Notes the least penalty for each minute of arrival, of all connections whose pattern is stored, and the arc that

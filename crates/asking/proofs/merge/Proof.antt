@@ -1,6 +1,6 @@
 -- The minutes before m are merged, and those from m on are as they were.
 use mathlib.Core.Path.{_≡_}
-use Prim.Native.Nat.{_≤_, _-_}
+use Prim.Native.Nat.{_-_}
 use lib.ListN.{length}
 use Rattle.asking.specs.Merged.{Merging, merging-first, merging-skip, merging-turn, merging-all, merging-blank}
 use borrow.Author.Needs.{needs}
@@ -9,8 +9,7 @@ use Rattle.asking.proofs.merge.Tie as tie
 
 abbrev Inv-minutes : tie.InvT-minutes
 Inv-minutes k from to mine₀ best₀ who₀ m₀ mine best who m =
-    (m ≤ to)
-    × (length mine ≡ 2880)
+    (length mine ≡ 2880)
     × (length best ≡ 2880)
     × (length who ≡ 2880)
     × Merging k m mine₀ best₀ who₀ mine best who
@@ -19,16 +18,16 @@ abbrev μ-minutes : tie.MeasureT-minutes
 μ-minutes k from to mine₀ best₀ who₀ m₀ mine best who m = to - m
 
 minutes-holds : tie.Need-minutes-holds Inv-minutes μ-minutes
-minutes-holds c = (search needs, search needs, search needs, search needs, search merging-first)
+minutes-holds c = (search needs, search needs, search needs, search merging-first)
 
 minutes-again : tie.Need-minutes-again Inv-minutes μ-minutes
-minutes-again c = (search needs, search needs, search needs, search needs, search merging-skip)
+minutes-again c = (search needs, search needs, search needs, search merging-skip)
 
 merge-minute-requires : tie.Need-merge-minute-requires Inv-minutes μ-minutes
 merge-minute-requires c κs = (search needs, search needs, search needs, search needs)
 
 minutes-again-2 : tie.Need-minutes-again-2 Inv-minutes μ-minutes
-minutes-again-2 c = (search needs, search needs, search needs, search needs, search merging-turn)
+minutes-again-2 c = (search needs, search needs, search needs, search merging-turn)
 
 returns : tie.Need-returns Inv-minutes μ-minutes
 returns c = ((search merging-all, search merging-blank), (search needs, search needs, search needs))

@@ -1,5 +1,5 @@
 -- The first words of the array are the stations of the arc; its own least penalties are merged into those of the others.
-use Rattle.asking.specs.Merged.{outside-all, bound-more}
+use Rattle.asking.specs.Merged.{span-short, outside-span, bound-more}
 use Rattle.asking.specs.Arcs.{store-made, source-listed, stations-are, arc-few, noted-more}
 use borrow.Author.Needs.{needs}
 use Rattle.asking.proofs.note_arc.Statement.{statement}
@@ -17,9 +17,8 @@ note-pattern-requires c κs = (
 merge-requires : tie.Need-merge-requires
 merge-requires c κs = (
   search arc-few,
-  search needs,
-  search needs,
-  search outside-all,
+  search span-short,
+  search outside-span,
   search needs,
   search needs,
   search needs,
