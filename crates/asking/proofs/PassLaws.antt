@@ -2,10 +2,10 @@
 -- minutes that are left are the rest.
 use mathlib.Core.Path.{_≡_, refl, sym, ap, subst, _∙_}
 use mathlib.Core.List.{List, [], _∷_, _++_, List·Memᴰ·head as here-first, Memᴰ·append-right}
-use Prim.Native.Nat.{ℕ, _+_, _-_, _≤_, _<_, min}
-use native.Mathlib.Nat.{add-zero, zero-add}
+use Prim.Native.Nat.{ℕ, zero, suc, _+_, _-_, _≤_, _<_, min}
+use native.Mathlib.Nat.{le-refl, add-zero, zero-add}
 use native.Mathlib.Numerals.{add-one}
-use native.Mathlib.Omega.{arith}
+use native.Mathlib.Omega.{arith, by-contra}
 use native.Mathlib.Decide.{ℕ-discrete}
 use lib.ListN.{length, getD, set, take, drop, length-append, length-drop, take-append-drop, drop-of-length-le}
 use lib.Seq.{drop-cons, drop-drop, getD-drop, take-suc, take-all, getD-set-same, getD-set-other}
@@ -17,6 +17,7 @@ use Rattle.results.specs.Results.{Cost}
 use Rattle.connections.specs.Planner.{rowsOf}
 use Rattle.stores.specs.Words.{answer}
 use Rattle.direct.specs.Choosing.{noPoints, leads}
+use Rattle.direct.specs.Noted.{getD-any}
 use Rattle.direct.proofs.LeadLaws.{leads-here, leads-not}
 use Rattle.asking.specs.Asking.{kept, rows, rowWords}
 use Rattle.asking.specs.Rowed.{LeastKept, RowFor}
@@ -47,7 +48,7 @@ pub record Going (best : List ℕ) (rs : List (List ℕ)) (here least m : ℕ) :
   pub within : here ≤ length (rowWords rs)
   pub rest : drop here (rowWords rs) ≡ rowWords (drop place rs)
 
-pub going-first : (best : List ℕ) (rs : List (List ℕ)) → Going best rs 0 noPoints 0
+going-first : (best : List ℕ) (rs : List (List ℕ)) → Going best rs 0 noPoints 0
 going-first best rs = record { place = 0; left = refl; within = omega arith; rest = refl }
 
 pub rows-are : (w s : List ℕ) (a b u : ℕ) → rows w s a b u ≡ rowsOf u (kept w s a b u)
@@ -204,7 +205,7 @@ pub record Counting (best who : List ℕ) (rs : List (List ℕ)) (here least m :
   pub going : Going best rs here least m
   pub some : (c : Cost) → c ∈ take (going .place) (leads noPoints 0 best) → 1 ≤ getD who (c .minutes) 0
 
-pub counting-first : (best who : List ℕ) (rs : List (List ℕ)) → Counting best who rs 0 noPoints 0
+counting-first : (best who : List ℕ) (rs : List (List ℕ)) → Counting best who rs 0 noPoints 0
 unfolding going-first
 counting-first best who rs = record { going = going-first best rs; some = λ c i. none i }
 
@@ -300,6 +301,33 @@ module _
           (take-all (k .going .place) (leads noPoints 0 best)
           (all-past w v s best a b u here least m g is-least long (k .going) done)))
           i))
+
+-- ---- no minute before that of the query leads
+module _ (w v s best who : List ℕ) (a b u : ℕ) (g : Granted w v s a b u)
+    (is-least : LeastKept u (kept w s a b u) best) (long : length best ≡ 2880) where
+  early : (m : ℕ) → m < u → noPoints ≤ getD best m 0
+  early m h = by-contra noPoints (getD best m 0) nobody
+    where
+      nobody : getD best m 0 < noPoints → ⊥
+      nobody f =
+          let same = getD-any best m noPoints 0 (omega (arith, g .minute)) in
+          let z = is-least .attained m (omega (arith, same)) in
+          omega (arith, z .arrives, all-bounds w v s a b u g (z .one) (z .listed) .from)
+
+  counting-to : (m : ℕ) → m ≤ u → Counting best who (rows w s a b u) 0 noPoints m
+  counting-to zero h = counting-first best who (rows w s a b u)
+  counting-to (suc m) h =
+      subst (Counting best who (rows w s a b u) 0 noPoints) (add-one m)
+      (counting-skip w v s best who a b u 0 noPoints m g is-least long (counting-to m (omega arith))
+      (omega (arith, g .minute))
+      (early m (omega arith)))
+
+  pub counting-begin : Counting best who (rows w s a b u) 0 noPoints u
+  counting-begin = counting-to u (le-refl u)
+
+pub going-begin : (w v s best : List ℕ) (a b u : ℕ) → Granted w v s a b u → LeastKept u (kept w s a b u) best
+    → length best ≡ 2880 → Going best (rows w s a b u) 0 noPoints u
+going-begin w v s best a b u g is-least long = counting-begin w v s best [] a b u g is-least long .going
 
 pub put-nothing : (old whole : List ℕ) → old ≡ put 0 (take 0 whole) old
 put-nothing old whole = sym (put-none 0 old)

@@ -519,7 +519,8 @@ fn measure(
 {
     let mut count = 0;
     let mut least = NO_POINTS;
-    let mut m = 0;
+    // No connection arrives before the minute of the query.
+    let mut m = minute;
     'minutes: while m < MINUTES {
         let arrive = m;
         let points = best[m];
@@ -688,7 +689,8 @@ fn write_rows(
 {
     let mut here = 0;
     let mut least = NO_POINTS;
-    let mut m = 0;
+    // No connection arrives before the minute of the query.
+    let mut m = minute;
     'minutes: while m < MINUTES {
         let arrive = m;
         let points = best[m];

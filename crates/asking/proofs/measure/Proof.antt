@@ -4,7 +4,7 @@ use Prim.Native.Nat.{_≤_, _*_, _-_}
 use lib.ListN.{length}
 use Rattle.asking.specs.Asking.{rows}
 use Rattle.asking.specs.Leader.{AllNamed, named-kept}
-use Rattle.asking.proofs.PassLaws.{Counting, counting-first, counting-skip, count-leading, count-named}
+use Rattle.asking.proofs.PassLaws.{Counting, counting-begin, counting-skip, count-leading, count-named}
 use Rattle.asking.proofs.PassLaws.{counting-row, all-counted, all-led-now}
 use borrow.Author.Needs.{needs}
 use Rattle.asking.proofs.measure.Statement.{statement}
@@ -22,7 +22,7 @@ abbrev μ-minutes : tie.MeasureT-minutes
 μ-minutes words lines store from to minute best who₀ count₀ least₀ m₀ who count least m = 2880 - m
 
 minutes-holds : tie.Need-minutes-holds Inv-minutes μ-minutes
-minutes-holds c = (search needs, search needs, search needs, search needs, search counting-first)
+minutes-holds c = (search needs, search needs, search needs, search needs, search counting-begin)
 
 minutes-again : tie.Need-minutes-again Inv-minutes μ-minutes
 minutes-again c = (search needs, search needs, search needs, search needs, search counting-skip)

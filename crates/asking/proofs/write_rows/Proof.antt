@@ -4,7 +4,7 @@ use Prim.Native.Nat.{_≤_, _-_}
 use lib.ListN.{length, take}
 use Rattle.words.specs.Put.{put}
 use Rattle.asking.specs.Asking.{rows, rowWords}
-use Rattle.asking.proofs.PassLaws.{Going, going-first, going-skip, now-leading, now-some, now-leader, now-room}
+use Rattle.asking.proofs.PassLaws.{Going, going-begin, going-skip, now-leading, now-some, now-leader, now-room}
 use Rattle.asking.proofs.PassLaws.{going-written, held-written, all-written, put-nothing}
 use borrow.Author.Needs.{needs}
 use Rattle.asking.proofs.write_rows.Statement.{statement}
@@ -21,7 +21,7 @@ abbrev μ-minutes : tie.MeasureT-minutes
 μ-minutes words lines store from to minute best who answer₀ here₀ least₀ m₀ answer here least m = 2880 - m
 
 minutes-holds : tie.Need-minutes-holds Inv-minutes μ-minutes
-minutes-holds c = (search needs, search needs, search going-first, search put-nothing)
+minutes-holds c = (search needs, search needs, search going-begin, search put-nothing)
 
 minutes-again : tie.Need-minutes-again Inv-minutes μ-minutes
 minutes-again c = (search needs, search needs, search going-skip, search needs)
