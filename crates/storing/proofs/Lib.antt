@@ -1,3 +1,3 @@
 pub mod PathLaws
-pub mod ChunkLaws
+pub mod MinuteLaws
 pub mod MakeLaws

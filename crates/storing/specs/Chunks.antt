@@ -1,12 +1,11 @@
 -- The tree grows chunk by chunk: the flags of the nodes of a chunk are found in one go, and then the nodes are taken
 -- one after the other.
 use mathlib.Core.Path.{_≡_, sym, ap, subst, _∙_}
-use mathlib.Core.Bool.{true, false, not}
+use mathlib.Core.Bool.{true, false, not, true≢false}
 use mathlib.Core.List.{List, _++_}
 use Prim.Native.Nat.{ℕ, suc, _+_, _-_, _*_, _≤_, _<_}
 use native.Mathlib.Omega.{arith}
 use borrow.Author.Tests.{not-true, not-false}
-use lib.Dec.{T}
 use lib.ListN.{length, take, drop, length-append}
 use lib.Seq.{take-add}
 use Rattle.lists.specs.Lists.{concatMap}
@@ -21,9 +20,6 @@ use Rattle.storing.specs.Nodes.{made}
 use Rattle.storing.specs.Standing.{StandingTo}
 use Rattle.storing.specs.Chunk.{partOf, shown-flags}
 use Rattle.storing.specs.Seeking.{Chunked}
-
-true-is-not-false : true ≡ false → ⊥
-true-is-not-false e = subst T e tt
 
 -- nodes lo up to hi of the tree of ps are to be taken, and flags tell their arcs and kids
 pub record Chunk
@@ -149,7 +145,7 @@ module _ (work₀ targets₀ : List ℕ) (n₀ m₀ lo hi : ℕ) (arcs kids : Li
               reached =
                   (λ ps source c.
                   record {
-                    taken = (λ f. absurd (true-is-not-false (sym f ∙ e)));
+                    taken = (λ f. absurd (true≢false (sym f ∙ e)));
                     refused = (λ f. took ps source (next ps source c) .refused e);
                   });
             }
@@ -163,7 +159,7 @@ module _ (work₀ targets₀ : List ℕ) (n₀ m₀ lo hi : ℕ) (arcs kids : Li
               (λ ps source c.
               record {
                 taken = (λ f. subst (Grown ps source work targets n m) e (u .grown ps source c));
-                refused = (λ f. absurd (true-is-not-false f));
+                refused = (λ f. absurd (true≢false f));
               });
         }
 
@@ -222,12 +218,12 @@ module _ (ps : List (List ℕ)) (source : ℕ) (work targets : List ℕ) where
     pub whole-refused : not (r .fits) ≡ true → Whole ps source work targets r
     whole-refused t =
         let e = not-true (r .fits) t in
-        record { taken = (λ f. absurd (true-is-not-false (sym f ∙ e))); refused = (λ f. reached .refused e) }
+        record { taken = (λ f. absurd (true≢false (sym f ∙ e))); refused = (λ f. reached .refused e) }
 
   pub whole-taken : (n m lo : ℕ) → Grown ps source work targets n m lo → n < lo
       → Whole ps source work targets (record { n = n; m = m; fits = true })
   whole-taken n m lo g h =
       record {
         taken = (λ f. grown-end ps source work targets n m lo g h);
-        refused = (λ f. absurd (true-is-not-false f));
+        refused = (λ f. absurd (true≢false f));
       }

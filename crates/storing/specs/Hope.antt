@@ -4,12 +4,12 @@
 use mathlib.Core.Path.{_≡_, refl, sym, ap, subst, _∙_}
 use mathlib.Core.Bool.{Bool, true, false, not, false≢true}
 use mathlib.Core.Logic.{_≢_, inl, inr, _↔_}
-use mathlib.Core.List.{List, [], _∷_, _++_, append-assoc, reverseAux-append}
-use Prim.Native.Nat.{ℕ, zero, suc, _+_, _-_, _*_, _≤_, _<_}
+use mathlib.Core.List.{List, [], _∷_, _++_, append-assoc}
+use Prim.Native.Nat.{ℕ, _+_, _-_, _*_, _≤_, _<_}
 use native.Mathlib.Omega.{arith}
 use borrow.Author.Tests.{eqb-true, not-false}
 use lib.Dec.{eqb}
-use lib.ListN.{length, getD, replicate, length-append}
+use lib.ListN.{length, getD, length-append}
 use lib.Seq.{getD-append-add}
 use Rattle.timetable.specs.Words.{stationCount, isTimetable}
 use Rattle.timetable.specs.Access.{stations-few}
@@ -23,7 +23,7 @@ use Rattle.marks.specs.Marking.{Marked, ArcsMarked, KidsMarked}
 use Rattle.growing.specs.Tree.{rooted, nodeAt, stationIn, parentIn}
 use Rattle.growing.specs.Says.{says-below, says-node, says-station}
 use Rattle.storing.specs.Storing.{sequences}
-use Rattle.storing.specs.Minutes.{ArcAt, KidAt, backwards}
+use Rattle.storing.specs.Minutes.{backwards, backwards-more}
 use Rattle.storing.specs.Nodes.{made}
 use Rattle.storing.specs.Standing.{Standing, StandingTo, standing, NodeLabels, Judged, ArcsAt, KidsAt}
 use Rattle.storing.specs.Standing.{boards-final, named, arcs-at, kids-at}
@@ -51,44 +51,27 @@ pub record Stays (w : List ℕ) (c : ℕ) (hope x y : List ℕ) : Type 0 where
   pub kept : (a d p : ℕ) → Ahead w a d p c x hope → Ahead w a d p c y hope
 
 -- ---- what the parent says
--- who has the sequence s and then e begins with s and goes on with e
-module _ (w : List ℕ) (a d : ℕ) (s : List ℕ) (e b : ℕ) where
-  arc-begins : ArcAt w a d (s ++ (e ∷ [])) b → KidAt w a d s e
-  arc-begins h =
-      record {
-        rest = b ∷ [];
-        target = b;
-        some = (λ q. omega (arith, ap length q));
-        other = h .other;
-        way = subst (Way (netOf w) a d b) (append-assoc s (e ∷ []) (b ∷ [])) (h .way);
-      }
-
-  kid-begins : KidAt w a d (s ++ (e ∷ [])) b → KidAt w a d s e
-  kid-begins h =
-      record {
-        rest = b ∷ h .rest;
-        target = h .target;
-        some = (λ q. omega (arith, ap length q));
-        other = h .other;
-        way = subst (Way (netOf w) a d (h .target)) (append-assoc s (e ∷ []) (b ∷ h .rest)) (h .way);
-      }
-
+-- who has the sequence of the kid and then more begins with that of the parent and goes on with the kid's station
 module _ (w : List ℕ) (a d p e v : ℕ) (below : Below w a p e v) (b : ℕ) where
-  pub arc-hoped : ArcsAt w a d v b → KidsAt w a d p e
-  arc-hoped h =
-      arc-begins w a d (nodeAt (sequences w a) p) e b (subst (λ s. ArcAt w a d s b) (sym (below .is)) h)
+  begins : (rest : List ℕ) (target : ℕ) → target ≢ a
+      → Way (netOf w) a d target (nodeAt (sequences w a) v ++ (b ∷ rest)) → KidsAt w a d p e
+  begins rest target other way =
+      let s = nodeAt (sequences w a) p in
+      record {
+        rest = b ∷ rest;
+        target = target;
+        some = (λ q. omega (arith, ap length q));
+        other = other;
+        way =
+            subst (Way (netOf w) a d target)
+            (ap (λ s. s ++ (b ∷ rest)) (sym (below .is)) ∙ append-assoc s (e ∷ []) (b ∷ rest)) way;
+      }
 
-  pub kid-hoped : KidsAt w a d v b → KidsAt w a d p e
-  kid-hoped h =
-      kid-begins w a d (nodeAt (sequences w a) p) e b (subst (λ s. KidAt w a d s b) (sym (below .is)) h)
+  arc-hoped : ArcsAt w a d v b → KidsAt w a d p e
+  arc-hoped h = begins [] b (h .other) (h .way)
 
-pub down-fresh : (n : ℕ) → Down (replicate n 0)
-down-fresh n = record { none = zeros n }
-  where
-    zeros : (n i : ℕ) → getD (replicate {A = ℕ} n 0) i 0 ≡ 0
-    zeros zero i = refl
-    zeros (suc n) zero = refl
-    zeros (suc n) (suc i) = zeros n i
+  kid-hoped : KidsAt w a d v b → KidsAt w a d p e
+  kid-hoped h = begins (h .rest) (h .target) (h .other) (h .way)
 
 ahead-of : (w : List ℕ) (a d p c : ℕ) (x none hope : List ℕ) → NodeLabels w a d p c x → Down none
     → Marked (KidsAt w a d p) none hope → Ahead w a d p c x hope
@@ -116,21 +99,20 @@ nobody Told lo v old none =
 
 module _ (w : List ℕ) (lo v c e : ℕ) (x hope allowed caught q old : List ℕ) (some : 1 ≤ e) (few : e ≤ 64)
     (down : getD hope (e - 1) 0 ≡ 1 → ⊥) where
-  pub arcs-none : Told (ArcsAt w) w lo v c e x hope allowed caught q old old
-  arcs-none =
+  none-told : (At : (a d v b : ℕ) → Type 0)
+      → ((a d p : ℕ) → Below w a p e v → (b : ℕ) → At a d v b → KidsAt w a d p e)
+      → Told At w lo v c e x hope allowed caught q old old
+  none-told At hoped =
       record {
         told = λ a d p from below judged.
-            nobody (ArcsAt w a d v) lo v old
-            (λ b h. down (from .kids e some few .1 (arc-hoped w a d p e v below b h)));
+            nobody (At a d v) lo v old (λ b h. down (from .kids e some few .1 (hoped a d p below b h)));
       }
 
+  pub arcs-none : Told (ArcsAt w) w lo v c e x hope allowed caught q old old
+  arcs-none = none-told (ArcsAt w) (λ a d p below. arc-hoped w a d p e v below)
+
   pub kids-none : Told (KidsAt w) w lo v c e x hope allowed caught q old old
-  kids-none =
-      record {
-        told = λ a d p from below judged.
-            nobody (KidsAt w a d v) lo v old
-            (λ b h. down (from .kids e some few .1 (kid-hoped w a d p e v below b h)));
-      }
+  kids-none = none-told (KidsAt w) (λ a d p below. kid-hoped w a d p e v below)
 
 pub stays-same : (w : List ℕ) (c : ℕ) (hope x : List ℕ) → Stays w c hope x x
 stays-same w c hope x = record { kept = λ a d p from. from }
@@ -140,10 +122,6 @@ pub stays-more : (w : List ℕ) (c : ℕ) (hope x y z : List ℕ) → Stays w c 
 stays-more w c hope x y z s t = record { kept = λ a d p from. t .kept a d p (s .kept a d p from) }
 
 -- ---- one with which it goes on
-backwards-more : (s : List ℕ) (e : ℕ) → backwards (s ++ (e ∷ [])) ≡ e ∷ backwards s
-unfolding backwards
-backwards-more s e = reverseAux-append s (e ∷ []) []
-
 module _ (w : List ℕ) (c e : ℕ) (x y : List ℕ) (step : Steps w c e x y) where
   next-labels : (a d p v : ℕ) → Below w a p e v → NodeLabels w a d p c x → NodeLabels w a d v e y
   next-labels a d p v below l =
@@ -172,25 +150,30 @@ module _ (w : List ℕ) (c e : ℕ) (x y : List ℕ) (step : Steps w c e x y) wh
 
   module _ (ok : isTimetable w ≡ true) (lo v : ℕ) (hope allowed caught q old part : List ℕ)
       (long : length old ≡ 2048) (low : lo ≤ v) (few : v < lo + 32) (part-is : length part ≡ 64) where
+    part-told : (At : (a d v b : ℕ) → Type 0)
+        → ((a d : ℕ) → NodeLabels w a d v e y → Judged w a d allowed caught q
+        → Marked (At a d v) (partOf (64 * (v - lo)) old) part)
+        → Told At w lo v c e x hope allowed caught q old (putPart (64 * (v - lo)) old part)
+    part-told At marked =
+        record {
+          told = λ a d p from below judged.
+              marked-at lo v old part long low few part-is (At a d v)
+              (marked a d (next-labels a d p v below (from .labels)) judged);
+        }
+
     pub arcs-told : ArcsMarked w e y allowed (partOf (64 * (v - lo)) old) part
         → Told (ArcsAt w) w lo v c e x hope allowed caught q old (putPart (64 * (v - lo)) old part)
     arcs-told h =
-        record {
-          told = λ a d p from below judged.
-              marked-at lo v old part long low few part-is (ArcsAt w a d v)
-              (arcs-at w ok a d v e y allowed caught q (next-labels a d p v below (from .labels)) judged
-              (partOf (64 * (v - lo)) old) part h);
-        }
+        part-told (ArcsAt w)
+        (λ a d labels judged.
+        arcs-at w ok a d v e y allowed caught q labels judged (partOf (64 * (v - lo)) old) part h)
 
     pub kids-told : KidsMarked w e y allowed caught q (partOf (64 * (v - lo)) old) part
         → Told (KidsAt w) w lo v c e x hope allowed caught q old (putPart (64 * (v - lo)) old part)
     kids-told h =
-        record {
-          told = λ a d p from below judged.
-              marked-at lo v old part long low few part-is (KidsAt w a d v)
-              (kids-at w ok a d v e y allowed caught q (next-labels a d p v below (from .labels)) judged
-              (partOf (64 * (v - lo)) old) part h);
-        }
+        part-told (KidsAt w)
+        (λ a d labels judged.
+        kids-at w ok a d v e y allowed caught q labels judged (partOf (64 * (v - lo)) old) part h)
 
 -- ---- the words of the nodes
 -- c is the station of node p in the tree for source a
@@ -204,6 +187,12 @@ pub record Siblings (w : List ℕ) (c : ℕ) (work : List ℕ) (p hi : ℕ) : Ty
   pub source : ℕ
   pub at : Stationed w source p c
   pub standing : StandingTo w source work hi
+
+-- e can come behind station c in a sequence
+pub record Onward (w : List ℕ) (c e : ℕ) : Type 0 where
+  pub some : 1 ≤ e
+  pub listed : e ≤ stationCount w
+  pub apart : c ≢ e
 
 -- the root tells the source
 pub root-source : (w : List ℕ) → isTimetable w ≡ true → (a : ℕ) → 1 ≤ a → a ≤ stationCount w → (work : List ℕ) (v : ℕ)
@@ -220,28 +209,17 @@ last-of a (b ∷ s) r = last-of b s r
 module _ (w : List ℕ) (ok : isTimetable w ≡ true) (a : ℕ) (first : 1 ≤ a) (inside : a ≤ stationCount w)
     (work : List ℕ) (hi : ℕ) (s : StandingTo w a work hi) where
   module _ (v : ℕ) (some : 1 ≤ v) (under : v < hi) (p : ℕ) (from : p ≡ parentIn (getD work v 0)) where
-    this : Standing w a work v
-    this = standing w a work hi v s under
-
     on : v ≤ s .n
     on = omega (arith, s .on)
 
     pub parent-standing : Standing w a work p
     parent-standing =
-        record {
-          targets = s .targets;
-          n = s .n;
-          m = s .m;
-          lo = s .lo;
-          grown = s .grown;
-          on =
-              omega (
-                arith,
-                on,
-                says-below (sequences w a) (stationCount w) (made w ok a first inside) a work (s .targets) (s .n)
-                    (s .m) (s .lo) (s .grown) v on some,
-              );
-        }
+        standing w a work hi p s
+        (omega (
+          arith,
+          says-below (sequences w a) (stationCount w) (made w ok a first inside) a work (s .targets) (s .n) (s .m)
+              (s .lo) (s .grown) v on some,
+        ))
 
     below-parent : Below w a p (stationIn (getD work v 0)) v
     below-parent =
@@ -264,24 +242,23 @@ module _ (w : List ℕ) (ok : isTimetable w ≡ true) (a : ℕ) (first : 1 ≤ a
         ∙ ap (λ k. getD (before ++ (stationIn (getD work v 0) ∷ [])) k 0) (omega arith)
         ∙ getD-append-add before (stationIn (getD work v 0) ∷ []) 0 0
 
-    station-some : 1 ≤ stationIn (getD work v 0)
-    station-some =
-        omega (arith, last, named w ok a first inside work v this v (this .on) .first (length before) longer)
-
-    station-listed : stationIn (getD work v 0) ≤ stationCount w
-    station-listed =
-        omega (arith, last, named w ok a first inside work v this v (this .on) .listed (length before) longer)
-
-    station-apart : (c : ℕ) → boardsAt a (backwards before) ≡ c → c ≢ stationIn (getD work v 0)
+    onward : (c : ℕ) → boardsAt a (backwards before) ≡ c → Onward w c (stationIn (getD work v 0))
     unfolding backwards
-    station-apart c boards same =
-        named w ok a first inside work v this v (this .on) .apart (length before) longer
-        (ap (λ q. getD (a ∷ q) (length before) 0) (sym (below-parent .is))
-        ∙ last-of a before (stationIn (getD work v 0) ∷ [])
-        ∙ sym (boards-final a before [])
-        ∙ boards
-        ∙ same
-        ∙ sym last)
+    onward c boards =
+        let this = standing w a work hi v s under in
+        let sequence = named w ok a first inside work v this v (this .on) in
+        record {
+          some = omega (arith, last, sequence .first (length before) longer);
+          listed = omega (arith, last, sequence .listed (length before) longer);
+          apart = λ same.
+              sequence .apart (length before) longer
+              (ap (λ q. getD (a ∷ q) (length before) 0) (sym (below-parent .is))
+              ∙ last-of a before (stationIn (getD work v 0) ∷ [])
+              ∙ sym (boards-final a before [])
+              ∙ boards
+              ∙ same
+              ∙ sym last);
+        }
 
 pub stationed : (w : List ℕ) (a d p c : ℕ) (x : List ℕ) → NodeLabels w a d p c x → 1 ≤ a → a ≤ stationCount w
     → Stationed w a p c
@@ -310,27 +287,23 @@ module _ (w : List ℕ) (c : ℕ) (work : List ℕ) (p hi : ℕ) (s : Siblings w
           (below-parent w ok (s .source) (s .at .first) (s .at .inside) work hi (s .standing) v o under p from)
 
       module _ (e : ℕ) (at : e ≡ stationIn (getD work v 0)) where
+        behind : Onward w c e
+        behind =
+            subst (Onward w c) (sym at)
+            (onward w ok (s .source) (s .at .first) (s .at .inside) work hi (s .standing) v o under p from c
+            (s .at .boards))
+
         pub sibling-some : 1 ≤ e
-        sibling-some =
-            omega (
-              arith,
-              station-some w ok (s .source) (s .at .first) (s .at .inside) work hi (s .standing) v o under p from,
-            )
+        sibling-some = behind .some
 
         pub sibling-listed : e ≤ stationCount w
-        sibling-listed =
-            omega (
-              arith,
-              station-listed w ok (s .source) (s .at .first) (s .at .inside) work hi (s .standing) v o under p from,
-            )
+        sibling-listed = behind .listed
 
         pub sibling-few : e ≤ 64
         sibling-few = omega (arith, sibling-listed, stations-few w ok)
 
         pub sibling-apart : c ≢ e
-        sibling-apart same =
-            station-apart w ok (s .source) (s .at .first) (s .at .inside) work hi (s .standing) v o under p from c
-            (s .at .boards) (same ∙ at)
+        sibling-apart = behind .apart
 
 -- ---- one sibling after the other
 -- the tree is that of source a, and this is what is known of node p at minute d

@@ -4,7 +4,8 @@
 use mathlib.Core.Path.{_≡_, refl, sym, ap, subst, _∙_}
 use mathlib.Core.Bool.{true}
 use mathlib.Core.Logic.{_≢_, _↔_}
-use mathlib.Core.List.{List, [], _∷_, _++_, reverseAux, reverseAux-eq, reverse-reverse, append-assoc}
+use mathlib.Core.List.{List, [], _∷_, _++_, reverseAux, reverseAux-eq, reverseAux-append, reverse-reverse}
+use mathlib.Core.List.{append-assoc}
 use Prim.Native.Nat.{ℕ}
 use lib.Dec.{T}
 use Rattle.lists.specs.Lists.{_∈_}
@@ -50,6 +51,10 @@ backwards s = reverseAux s []
 pub forwards : (s r : List ℕ) → reverseAux (backwards s) r ≡ s ++ r
 unfolding backwards
 forwards s r = reverseAux-eq (reverseAux s []) r ∙ ap (λ l. l ++ r) (reverse-reverse s)
+
+pub backwards-more : (s : List ℕ) (e : ℕ) → backwards (s ++ (e ∷ [])) ≡ e ∷ backwards s
+unfolding backwards
+backwards-more s e = reverseAux-append s (e ∷ []) []
 
 module _ (w : List ℕ) (yes : isTimetable w ≡ true) (timely : Timely w) (a : ℕ) (s : List ℕ) (b : ℕ) where
   -- ---- one minute: what the marks of the node say

@@ -7,7 +7,7 @@ use mathlib.Core.List.{List}
 use Prim.Native.Nat.{ℕ, _+_, _-_, _*_, _≤_, _<_}
 use native.Mathlib.Omega.{arith}
 use lib.Dec.{T, ltb, ltb→lt, nltb→le}
-use lib.ListN.{length, getD}
+use lib.ListN.{length, getD, replicate}
 use Rattle.lists.specs.Lists.{_∈_}
 use Rattle.lists.specs.Tests.{either}
 use Rattle.timetable.specs.Words.{stationCount, isTimetable}
@@ -18,7 +18,7 @@ use Rattle.chains.specs.Order.{waiting}
 use Rattle.chains.specs.Parts.{waiting-in, waiting-out}
 use Rattle.prospects.specs.Routes.{Routes}
 use Rattle.prospects.specs.Arrivals.{placed}
-use Rattle.prospects.specs.Zeros.{ZeroTo, zero-all, zero-each}
+use Rattle.prospects.specs.Zeros.{ZeroTo, zero-all, zero-each, zero-replicate}
 use Rattle.marks.specs.Held.{Departures, goes-few, part-ordered, part-most, part-is, part-in}
 use Rattle.growing.specs.Tree.{hasArc, hasKid, nodeAt}
 use Rattle.storing.specs.Storing.{sequences}
@@ -33,10 +33,14 @@ pub record Seen (w chained : List ℕ) (from p : ℕ) (At : ℕ → Type 0) : Ty
   pub inside : r < p
   pub at : At (depart w (getD chained r 0))
 
+-- those flags are up that the departures at these places tell, for arcs as for kids
+abbrev pub Up : (w chained : List ℕ) (from p : ℕ) (At : (d v b : ℕ) → Type 0) (lo hi : ℕ) (flags : List ℕ) → Type 0
+Up w chained from p At lo hi flags = Shown (λ v b. Seen w chained from p (λ d. At d v b)) lo hi flags
+
 -- the flags say this of the departures up to place p, of which the last was at that minute
 pub record Sought (w : List ℕ) (a : ℕ) (chained : List ℕ) (from p last lo hi : ℕ) (arcs kids : List ℕ) : Type 0 where
-  pub arcs-up : Shown (λ v b. Seen w chained from p (λ d. ArcsAt w a d v b)) lo hi arcs
-  pub kids-up : Shown (λ v b. Seen w chained from p (λ d. KidsAt w a d v b)) lo hi kids
+  pub arcs-up : Up w chained from p (ArcsAt w a) lo hi arcs
+  pub kids-up : Up w chained from p (KidsAt w a) lo hi kids
   pub seen-last : (last ≡ 2880) ⊎ Seen w chained from p (λ d. d ≡ last)
 
 -- no flag is up
@@ -45,6 +49,9 @@ pub record Down (flags : List ℕ) : Type 0 where
 
 pub down-all : (flags : List ℕ) (n i m : ℕ) → n ≡ m → length flags ≡ m → n ≤ i → ZeroTo i flags → Down flags
 down-all flags n i m e l h z = record { none = zero-each flags m l (zero-all flags n i m e h z) }
+
+pub down-fresh : (n : ℕ) → Down (replicate n 0)
+down-fresh n = record { none = zero-replicate n }
 
 -- the flags of the nodes from lo up to hi are those of their arcs and kids
 pub record Chunked (w : List ℕ) (a lo hi : ℕ) (arcs kids : List ℕ) : Type 0 where
@@ -88,30 +95,51 @@ module _ (w chained : List ℕ) (from p : ℕ) where
         to : Seen w chained from (p + 1) At → Seen w chained from p At
         to s = elim (seen-cases At s) [ inl z ↦ z | inr h ↦ earlier (subst At e h) ]
 
-shown-none : (Told : (v b : ℕ) → Type 0) (lo hi : ℕ) (flags : List ℕ) → ((i : ℕ) → getD flags i 0 ≡ 0)
-    → ((v b : ℕ) → ¬ Told v b) → Shown Told lo hi flags
-shown-none Told lo hi flags down n =
+  -- ---- the flags of one more departure
+  module _ (begun : from ≤ p) (lo hi : ℕ) (At : (d v b : ℕ) → Type 0) (flags : List ℕ)
+      (up : Up w chained from p At lo hi flags) where
+    up-again : (last : ℕ) → (last ≡ 2880) ⊎ Seen w chained from p (λ d. d ≡ last) → last ≤ 2879
+        → depart w (getD chained p 0) ≡ last → Up w chained from (p + 1) At lo hi flags
+    up-again last l few e =
+        shown-same lo hi
+        (λ v b. Seen w chained from p (λ d. At d v b))
+        (λ v b. Seen w chained from (p + 1) (λ d. At d v b))
+        flags
+        up
+        (λ v b. seen-again begun (λ d. At d v b) last l few e)
+
+    up-next : (d : ℕ) (flags′ : List ℕ) → d ≡ depart w (getD chained p 0) → Raised (At d) lo hi flags flags′
+        → Up w chained from (p + 1) At lo hi flags′
+    up-next d flags′ is raised =
+        shown-more lo hi
+        (λ v b. Seen w chained from p (λ d. At d v b))
+        (At (depart w (getD chained p 0)))
+        (λ v b. Seen w chained from (p + 1) (λ d. At d v b))
+        flags
+        flags′
+        up
+        (subst (λ d. Raised (At d) lo hi flags flags′) is raised)
+        (λ v b. seen-next begun (λ d. At d v b))
+
+up-none : (w chained : List ℕ) (from : ℕ) (At : (d v b : ℕ) → Type 0) (lo hi : ℕ) (flags : List ℕ) → Down flags
+    → Up w chained from from At lo hi flags
+up-none w chained from At lo hi flags down =
     record {
       here =
-          λ v b h g f t.
-          (λ e. absurd (omega (arith, down (64 * (v - lo) + (b - 1)))), λ e. absurd (n v b e));
+          λ v b h g f t. (
+            λ e. absurd (omega (arith, down .none (64 * (v - lo) + (b - 1)))),
+            λ s. absurd (omega (arith, s .begun, s .inside)),
+          );
     }
 
 pub sought-none : (w : List ℕ) (a : ℕ) (chained : List ℕ) (from lo hi : ℕ) (arcs kids : List ℕ) → Down arcs
     → Down kids → Sought w a chained from from 2880 lo hi arcs kids
 sought-none w a chained from lo hi arcs kids d e =
     record {
-      arcs-up =
-          shown-none (λ v b. Seen w chained from from (λ d. ArcsAt w a d v b)) lo hi arcs
-          (d .none) (λ v b. none);
-      kids-up =
-          shown-none (λ v b. Seen w chained from from (λ d. KidsAt w a d v b)) lo hi kids
-          (e .none) (λ v b. none);
+      arcs-up = up-none w chained from (ArcsAt w a) lo hi arcs d;
+      kids-up = up-none w chained from (KidsAt w a) lo hi kids e;
       seen-last = inl refl;
     }
-  where
-    none : {At : ℕ → Type 0} → ¬ Seen w chained from from At
-    none s = omega (arith, s .begun, s .inside)
 
 pub sought-first : (w : List ℕ) (a : ℕ) (chained : List ℕ) (from p last lo hi : ℕ) (arcs kids : List ℕ) → p ≡ from
     → Sought w a chained from from last lo hi arcs kids → Sought w a chained from p last lo hi arcs kids
@@ -146,48 +174,20 @@ module _ (w order : List ℕ) (n : ℕ) (caught : List ℕ) (routes : Routes w o
             let e : depart w (getD chained p 0) ≡ last = sym is ∙ same in
             record {
               arcs-up =
-                  shown-same lo hi
-                  (λ v b. Seen w chained from p (λ d. ArcsAt w a d v b))
-                  (λ v b. Seen w chained from (p + 1) (λ d. ArcsAt w a d v b))
-                  arcs
-                  (s .arcs-up)
-                  (λ v b. seen-again w chained from p begun (λ d. ArcsAt w a d v b) last (s .seen-last) in-time e);
+                  up-again w chained from p begun lo hi (ArcsAt w a) arcs (s .arcs-up) last (s .seen-last) in-time e;
               kids-up =
-                  shown-same lo hi
-                  (λ v b. Seen w chained from p (λ d. KidsAt w a d v b))
-                  (λ v b. Seen w chained from (p + 1) (λ d. KidsAt w a d v b))
-                  kids
-                  (s .kids-up)
-                  (λ v b. seen-again w chained from p begun (λ d. KidsAt w a d v b) last (s .seen-last) in-time e);
+                  up-again w chained from p begun lo hi (KidsAt w a) kids (s .kids-up) last (s .seen-last) in-time e;
               seen-last = inr (seen-here w chained from p begun (λ z. z ≡ d) (sym is));
             }
 
         pub sought-more : (d : ℕ) (arcs′ kids′ : List ℕ) → d ≡ depart w (getD chained p 0)
             → Raised (ArcsAt w a d) lo hi arcs arcs′ → Raised (KidsAt w a d) lo hi kids kids′
             → Sought w a chained (getD first a 0) (p + 1) d lo hi arcs′ kids′
-        sought-more d arcs′ kids′ is up raised =
+        sought-more d arcs′ kids′ is arcs-raised kids-raised =
             let from = getD first a 0 in
             record {
-              arcs-up =
-                  shown-more lo hi
-                  (λ v b. Seen w chained from p (λ d. ArcsAt w a d v b))
-                  (ArcsAt w a (depart w (getD chained p 0)))
-                  (λ v b. Seen w chained from (p + 1) (λ d. ArcsAt w a d v b))
-                  arcs
-                  arcs′
-                  (s .arcs-up)
-                  (subst (λ d. Raised (ArcsAt w a d) lo hi arcs arcs′) is up)
-                  (λ v b. seen-next w chained from p begun (λ d. ArcsAt w a d v b));
-              kids-up =
-                  shown-more lo hi
-                  (λ v b. Seen w chained from p (λ d. KidsAt w a d v b))
-                  (KidsAt w a (depart w (getD chained p 0)))
-                  (λ v b. Seen w chained from (p + 1) (λ d. KidsAt w a d v b))
-                  kids
-                  kids′
-                  (s .kids-up)
-                  (subst (λ d. Raised (KidsAt w a d) lo hi kids kids′) is raised)
-                  (λ v b. seen-next w chained from p begun (λ d. KidsAt w a d v b));
+              arcs-up = up-next w chained from p begun lo hi (ArcsAt w a) arcs (s .arcs-up) d arcs′ is arcs-raised;
+              kids-up = up-next w chained from p begun lo hi (KidsAt w a) kids (s .kids-up) d kids′ is kids-raised;
               seen-last = inr (seen-here w chained from p begun (λ z. z ≡ d) (sym is));
             }
 
@@ -234,6 +234,16 @@ module _ (w order : List ℕ) (n : ℕ) (caught : List ℕ) (routes : Routes w o
       let e : o .minute ≡ depart w (getD chained (k .r) 0) = sym (o .source .leaves) ∙ ap (depart w) (k .is) in
       record { r = k .r; begun = k .from; inside = k .to; at = subst At e (o .at) }
 
+  up-all : (At : (d v b : ℕ) → Type 0) (Has : (v b : ℕ) → Type 0) (lo hi : ℕ) (flags : List ℕ)
+      → ((v b : ℕ) → Has v b ↔ Once w a (λ d. At d v b)) → Up w chained from end At lo hi flags
+      → Shown Has lo hi flags
+  up-all At Has lo hi flags stored up =
+      shown-same lo hi (λ v b. Seen w chained from end (λ d. At d v b)) Has flags up
+      (λ v b. (
+        λ t. once-seen (λ d. At d v b) (stored v b .0 t),
+        λ t. stored v b .1 (seen-once (λ d. At d v b) t),
+      ))
+
   module _ (p last lo hi : ℕ) (arcs kids : List ℕ) (most : p ≤ getD first (a + 1) 0) (stop : ℕ)
       (is : stop ≡ getD first (a + 1) 0) (least : stop ≤ p)
       (s : Sought w a chained (getD first a 0) p last lo hi arcs kids) where
@@ -242,31 +252,13 @@ module _ (w order : List ℕ) (n : ℕ) (caught : List ℕ) (routes : Routes w o
         let e : p ≡ end = omega arith in
         subst (λ p. Sought w a chained from p last lo hi arcs kids) e s
 
-    sought-arcs : Shown (λ v b. T (hasArc (sequences w a) (nodeAt (sequences w a) v) b)) lo hi arcs
-    sought-arcs =
-        shown-same lo hi
-        (λ v b. Seen w chained from end (λ d. ArcsAt w a d v b))
-        (λ v b. T (hasArc (sequences w a) (nodeAt (sequences w a) v) b))
-        arcs
-        (all-places .arcs-up)
-        (λ v b.
-        let k = arc-stored w yes (timely w yes) a (nodeAt (sequences w a) v) b in (
-          λ t. once-seen (λ d. ArcsAt w a d v b) (k .0 t),
-          λ t. k .1 (seen-once (λ d. ArcsAt w a d v b) t),
-        ))
-
-    sought-kids : Shown (λ v b. T (hasKid (sequences w a) (nodeAt (sequences w a) v) b)) lo hi kids
-    sought-kids =
-        shown-same lo hi
-        (λ v b. Seen w chained from end (λ d. KidsAt w a d v b))
-        (λ v b. T (hasKid (sequences w a) (nodeAt (sequences w a) v) b))
-        kids
-        (all-places .kids-up)
-        (λ v b.
-        let k = kid-stored w yes (timely w yes) a (nodeAt (sequences w a) v) b in (
-          λ t. once-seen (λ d. KidsAt w a d v b) (k .0 t),
-          λ t. k .1 (seen-once (λ d. KidsAt w a d v b) t),
-        ))
-
     pub chunked : Chunked w a lo hi arcs kids
-    chunked = record { arcs-up = sought-arcs; kids-up = sought-kids }
+    chunked =
+        record {
+          arcs-up =
+              up-all (ArcsAt w a) (λ v b. T (hasArc (sequences w a) (nodeAt (sequences w a) v) b)) lo hi arcs
+              (λ v b. arc-stored w yes (timely w yes) a (nodeAt (sequences w a) v) b) (all-places .arcs-up);
+          kids-up =
+              up-all (KidsAt w a) (λ v b. T (hasKid (sequences w a) (nodeAt (sequences w a) v) b)) lo hi kids
+              (λ v b. kid-stored w yes (timely w yes) a (nodeAt (sequences w a) v) b) (all-places .kids-up);
+        }

@@ -1,5 +1,6 @@
 -- The labels of the parent lead to those of all its kids.
-use Rattle.storing.specs.Hope.{down-fresh, parent-standing, siblings, arcs-raised, kids-raised}
+use Rattle.storing.specs.Seeking.{down-fresh}
+use Rattle.storing.specs.Hope.{parent-standing, siblings, arcs-raised, kids-raised}
 use borrow.Author.Needs.{needs}
 use Rattle.storing.proofs.families.mark_siblings.Statement.{statement}
 use Rattle.storing.proofs.families.mark_siblings.Tie as tie

@@ -1,11 +1,12 @@
 -- The stop that stands at the place, and its departure.
 use borrow.Author.Needs.{needs}
-use Rattle.storing.proofs.ChunkLaws.{few-stations, minute-is}
+use Rattle.timetable.specs.Access.{stations-few}
+use Rattle.storing.proofs.MinuteLaws.{minute-is}
 use Rattle.storing.proofs.minutes.minute_at.Statement.{statement}
 use Rattle.storing.proofs.minutes.minute_at.Tie as tie
 
 stop-at-requires : tie.Need-stop-at-requires
-stop-at-requires c κs = (search needs, search few-stations, search needs)
+stop-at-requires c κs = (search needs, search stations-few, search needs)
 
 returns : tie.Need-returns
 returns c = search minute-is
