@@ -1,0 +1,26 @@
+-- The promises of the callees, one put into the other.
+use borrow.Author.Needs.{needs}
+use Rattle.showing.proofs.GatherLaws.{calls-same, gathered}
+use Rattle.showing.proofs.rests.gather_back.Statement.{statement}
+use Rattle.showing.proofs.rests.gather_back.Tie as tie
+
+gather-requires : tie.Need-gather-requires
+gather-requires c κs = (search needs, search needs, search calls-same)
+
+returns : tie.Need-returns
+returns c = (search gathered, search needs)
+
+pub gather-back-spec : {M : Type 1} → statement M
+gather-back-spec =
+    tie.close
+    (tie.spec
+    (λ c. search needs)
+    (λ c. search needs)
+    (λ c. search needs)
+    (λ c. search needs)
+    (λ c. search needs)
+    (λ c. search needs)
+    (λ c. search needs)
+    gather-requires
+    (λ c. search needs)
+    returns)

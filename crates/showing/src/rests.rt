@@ -1,0 +1,267 @@
+// What is left to pay behind each station of a path, station by station from the target back.
+//
+// There is a word for each minute of the two days, but only the minutes from the query's to the row's can matter, and
+// only their words are stored: all others say throughout that nothing is left.
+ghost use mathlib.Core.Path.{_≡_};
+ghost use Prim.Native.Nat.{_+_, _-_, _≤_, _<_, min};
+ghost use lib.ListN.{length, getD};
+ghost use Rattle.lookup.specs.Lookup.{callsPlace};
+ghost use Rattle.direct.specs.Candidates.{allRead};
+ghost use Rattle.direct.specs.Choosing.{noPoints, noteAll, blank};
+ghost use Rattle.direct.specs.Turns.{lowered};
+ghost use Rattle.showing.specs.Showing.{Given};
+ghost use Rattle.showing.specs.Rests.{RestsAt};
+ghost use Rattle.showing.specs.Settling.{settledFrom};
+ghost use Rattle.showing.specs.Spans.{Spans, Stored, Arrived};
+ghost use Rattle.showing.specs.Stepping.{catches};
+ghost use Rattle.showing.specs.Turns.{caughtBy, gatherBack, stepBack};
+use riding::Ride;
+use timetable::Station;
+
+// The penalty where nothing is left that arrives in time; all that does has less.
+pub const NO_POINTS: u32 = u32::MAX;
+
+// Stores x in the words from `from` to before `to`.
+fn fill(z: &mut [u32], from: usize, to: usize, x: u32)
+    requires { ⌜ (from ≤ to) × (to ≤ length (now z)) ⌝ }
+    ensures { λ _. ⌜ Stored (λ _. x) from to (now (z .entry)) (now (z .exit)) ⌝ }
+    ensures { λ _. ⌜ length (now (z .exit)) ≡ length (now (z .entry)) ⌝ }
+{
+    let mut i = from;
+    while i < to {
+        z[i] = x;
+        i += 1;
+    }
+}
+
+// The same number of points, wide enough for a sum of several.
+pub fn wide(x: u32) -> usize
+    ensures { λ r. ⌜ (r ≡ x) × (r ≤ 4294967295) ⌝ }
+{
+    x as usize
+}
+
+// What is left for one who arrives at minute m; no minute past the end is in time.
+pub fn rest_at(z: &[u32], m: usize) -> usize
+    ensures { λ r. ⌜ (r ≡ getD (now (z .entry)) m noPoints) × (r ≤ 4294967295) ⌝ }
+{
+    if m < z.len() {
+        return wide(z[m]);
+    }
+    wide(NO_POINTS)
+}
+
+// Notes s points for minute m, if that is less than what stands there.
+fn note(z: &mut [u32], m: usize, s: usize)
+    ensures { λ _. ⌜ now (z .exit) ≡ lowered (now (z .entry)) m s ⌝ }
+    ensures { λ _. ⌜ length (now (z .exit)) ≡ length (now (z .entry)) ⌝ }
+{
+    if m < z.len() {
+        if s < wide(z[m]) {
+            z[m] = s as u32;
+        }
+    }
+}
+
+// Notes one ride for the latest minute in which one can arrive before it and change: what the change and the ride cost,
+// and what is left behind it.
+fn catch_ride(z: &mut [u32], old: &[u32], ride: Ride, change: Station)
+    ensures { λ _. ⌜ now (z .exit)
+        ≡ caughtBy (change .minutes) (change .points) (now (old .entry)) (now (z .entry)) ride ⌝ }
+    ensures { λ _. ⌜ length (now (z .exit)) ≡ length (now (z .entry)) ⌝ }
+{
+    let left = rest_at(old, ride.arrive);
+    if left < wide(NO_POINTS) {
+        if change.minutes as usize <= ride.depart {
+            let points = change.points as usize + ride.points as usize + left;
+            note(z, ride.depart - change.minutes as usize, points);
+        }
+    }
+}
+
+// Notes all rides from one station to the next that leave at the minute or later.
+fn gather(
+    lines: &[u16],
+    from: usize,
+    to: usize,
+    minute: usize,
+    change: Station,
+    old: &[u32],
+    z: &mut [u32],
+)
+    requires { ⌜ (1 ≤ from) × (from ≤ 64) × (callsPlace (now lines) from ≤ length (now lines)) ⌝ }
+    ensures { λ _. ⌜ now (z .exit)
+        ≡ noteAll (now (z .entry))
+        (catches (change .minutes) (change .points) (now (old .entry))
+        (allRead (now (lines .entry)) from minute to)) ⌝ }
+    ensures { λ _. ⌜ length (now (z .exit)) ≡ length (now (z .entry)) ⌝ }
+{
+    let mut c = riding::begin(lines, from, to, minute);
+    while c.more {
+        let ride = riding::tell(lines, c);
+        catch_ride(z, old, ride, change);
+        c = riding::next(lines, from, to, minute, c);
+    }
+}
+
+// The lesser of two numbers of points.
+fn lesser(a: u32, b: u32) -> u32
+    ensures { λ r. ⌜ r ≡ min a b ⌝ }
+{
+    if b < a {
+        return b;
+    }
+    a
+}
+
+// Who arrives earlier can wait: each minute takes the least of its own and all later ones.
+fn settle(z: &mut [u32], minute: usize, v: usize)
+    requires { ⌜ (minute ≤ v) × (v ≤ 2879) × Spans minute v (now z) ⌝ }
+    ensures { λ _. ⌜ (now (z .exit) ≡ settledFrom noPoints minute (now (z .entry)))
+        × Spans minute v (now (z .exit)) ⌝ }
+    ensures { λ _. ⌜ length (now (z .exit)) ≡ length (now (z .entry)) ⌝ }
+{
+    let mut low = NO_POINTS;
+    let mut m = v + 1;
+    while minute < m {
+        m -= 1;
+        low = lesser(z[m], low);
+        z[m] = low;
+    }
+}
+
+// Station i of a path.
+pub fn station(path: &[u16], i: usize) -> usize
+    requires { ⌜ i < length (now path) ⌝ }
+    ensures { λ r. ⌜ (r ≡ getD (now (path .entry)) i 0) × (r < 65536) ⌝ }
+{
+    words::word(path, i) as usize
+}
+
+// Copies what is left, to go on from it.
+fn keep(old: &mut [u32], z: &[u32], minute: usize, v: usize)
+    requires { ⌜ (minute ≤ v) × (v ≤ 2879) × Spans minute v (now old) × Spans minute v (now z) ⌝ }
+    ensures { λ _. ⌜ now (old .exit) ≡ now (z .entry) ⌝ }
+    ensures { λ _. ⌜ length (now (old .exit)) ≡ length (now (old .entry)) ⌝ }
+{
+    let mut m = minute;
+    while m <= v {
+        old[m] = z[m];
+        m += 1;
+    }
+}
+
+// Nothing is noted yet.
+fn clear(z: &mut [u32], minute: usize, v: usize)
+    requires { ⌜ (minute ≤ v) × (v ≤ 2879) × Spans minute v (now z) ⌝ }
+    ensures { λ _. ⌜ now (z .exit) ≡ blank ⌝ }
+    ensures { λ _. ⌜ length (now (z .exit)) ≡ length (now (z .entry)) ⌝ }
+{
+    fill(z, minute, v + 1, NO_POINTS);
+}
+
+// Notes all rides from the station before station j of a path to station j, for one who arrives at the minute or later:
+// a ride that leaves before he can have changed is of no use.
+fn gather_back(
+    words: &[u16],
+    lines: &[u16],
+    minute: usize,
+    path: &[u16],
+    j: usize,
+    old: &[u32],
+    z: &mut [u32],
+)
+    requires { ⌜ (16384 ≤ length (now words))
+        × (minute ≤ 2879)
+        × (1 ≤ j)
+        × (j < length (now path))
+        × (1 ≤ getD (now path) (j - 1) 0)
+        × (getD (now path) (j - 1) 0 ≤ 64)
+        × (callsPlace (now lines) (getD (now path) (j - 1) 0) ≤ length (now lines)) ⌝ }
+    ensures { λ _. ⌜ now (z .exit)
+        ≡ gatherBack (now (words .entry)) (now (lines .entry)) minute (now (path .entry)) j (now (old .entry))
+        (now (z .entry)) ⌝ }
+    ensures { λ _. ⌜ length (now (z .exit)) ≡ length (now (z .entry)) ⌝ }
+{
+    let from = station(path, j - 1);
+    let to = station(path, j);
+    let change = timetable::station_at(words, from - 1);
+    gather(
+        lines,
+        from,
+        to,
+        minute + change.minutes as usize,
+        change,
+        old,
+        z,
+    );
+}
+
+// From what is left behind station j of a path to what is left behind the one before it.
+fn step(
+    words: &[u16],
+    lines: &[u16],
+    minute: usize,
+    path: &[u16],
+    j: usize,
+    v: usize,
+    z: &mut [u32],
+    old: &mut [u32],
+)
+    requires { ⌜ Given (now words) (now lines) (now path) (j + 1) v
+        × (1 ≤ j)
+        × (minute ≤ v)
+        × Spans minute v (now z)
+        × Spans minute v (now old) ⌝ }
+    ensures { λ _. ⌜ (now (z .exit)
+        ≡ stepBack (now (words .entry)) (now (lines .entry)) minute (now (path .entry)) j (now (z .entry)))
+        × Spans minute v (now (z .exit))
+        × Spans minute v (now (old .exit)) ⌝ }
+    ensures { λ _. ⌜ (length (now (z .exit)) ≡ length (now (z .entry)))
+        × (length (now (old .exit)) ≡ length (now (old .entry))) ⌝ }
+{
+    keep(old, z, minute, v);
+    clear(z, minute, v);
+    gather_back(words, lines, minute, path, j, old, z);
+    settle(z, minute, v);
+}
+
+// Behind the last station nothing is left to pay, by minute v.
+fn fill_last(z: &mut [u32], minute: usize, v: usize)
+    requires { ⌜ (minute ≤ v) × (v ≤ 2879) × Spans minute v (now z) ⌝ }
+    ensures { λ _. ⌜ Arrived minute v (now (z .exit)) ⌝ }
+    ensures { λ _. ⌜ length (now (z .exit)) ≡ length (now (z .entry)) ⌝ }
+{
+    fill(z, minute, v + 1, 0);
+}
+
+// What is left behind station i of a path of r stations, for one who is to arrive at the last by minute v.
+pub fn rest(
+    words: &[u16],
+    lines: &[u16],
+    minute: usize,
+    path: &[u16],
+    i: usize,
+    r: usize,
+    v: usize,
+    z: &mut [u32],
+    old: &mut [u32],
+)
+    requires { ⌜ Given (now words) (now lines) (now path) r v
+        × (i < r)
+        × (minute ≤ v)
+        × Spans minute v (now z)
+        × Spans minute v (now old) ⌝ }
+    ensures { λ _. ⌜ RestsAt (now (words .entry)) (now (path .entry)) r v minute i (now (z .exit))
+        × Spans minute v (now (z .exit))
+        × Spans minute v (now (old .exit)) ⌝ }
+    ensures { λ _. ⌜ (length (now (z .exit)) ≡ length (now (z .entry)))
+        × (length (now (old .exit)) ≡ length (now (old .entry))) ⌝ }
+{
+    fill_last(z, minute, v);
+    let mut j = r - 1;
+    while i < j {
+        step(words, lines, minute, path, j, v, z, old);
+        j -= 1;
+    }
+}
