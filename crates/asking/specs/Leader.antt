@@ -212,7 +212,9 @@ named-kept w s best who new a b u m n z all inside long long-who = record { lead
         this q =
             let arc : z .arc ≡ k = omega (arith, f, ap (λ j. getD new j 0) q, here) in
             let points : getD best m 0 ≡ p =
-            getD-any best m 0 noPoints (omega arith) ∙ ap (λ j. getD best j noPoints) (sym q) ∙ lead-points best e p i in
+            getD-any best m 0 noPoints (omega arith)
+            ∙ ap (λ j. getD best j noPoints) (sym q)
+            ∙ lead-points best e p i in
             subst (λ j. Leader w s a b u j p k) (sym q)
             (subst (λ j. Leader w s a b u m j k) points
             (subst (Leader w s a b u m (getD best m 0)) arc (z .leader)))

@@ -1,4 +1,4 @@
--- The first words of the array are the stations of the arc; its own least penalties are merged into those of the others.
+-- The first words of the array are the stations of the arc; its own least penalties are merged into those before it.
 use Rattle.asking.specs.Merged.{span-short, outside-span, bound-more}
 use Rattle.asking.specs.Arcs.{store-made, source-listed, stations-are, arc-few, noted-more}
 use borrow.Author.Needs.{needs}
