@@ -41,7 +41,7 @@ part-at o l j h = getD-take (o + 64 - o) (drop o l) j 0 (omega arith) ∙ getD-d
 pub part-long : (o : ℕ) (l : List ℕ) → o + 64 ≤ length l → length (partOf o l) ≡ 64
 part-long o l h = omega (arith, length-take (o + 64 - o) (drop o l), length-drop o l)
 
-pub part-64 : (lo v : ℕ) (l : List ℕ) → length l ≡ 2048 → lo ≤ v → v < lo + 32
+pub part-64 : (lo v : ℕ) (l : List ℕ) → length l ≡ 3072 → lo ≤ v → v < lo + 48
     → length (partOf (64 * (v - lo)) l) ≡ 64
 part-64 lo v l h low few = part-long (64 * (v - lo)) l (omega arith)
 
@@ -87,12 +87,12 @@ module _ (o : ℕ) (l part : List ℕ) (room : o + 64 ≤ length l) (long : leng
       ∙ getD-drop o l (o + 64 - o + j) 0
       ∙ ap (λ k. getD l k 0) f
 
-module _ (lo v : ℕ) (l part : List ℕ) (long : length l ≡ 2048) (low : lo ≤ v)
-    (few : v < lo + 32) (part-is : length part ≡ 64) where
+module _ (lo v : ℕ) (l part : List ℕ) (long : length l ≡ 3072) (low : lo ≤ v)
+    (few : v < lo + 48) (part-is : length part ≡ 64) where
   room : 64 * (v - lo) + 64 ≤ length l
   room = omega arith
 
-  pub marked-long : length (putPart (64 * (v - lo)) l part) ≡ 2048
+  pub marked-long : length (putPart (64 * (v - lo)) l part) ≡ 3072
   marked-long = put-long (64 * (v - lo)) l part room part-is ∙ long
 
   pub marked-at : (Told : (b : ℕ) → Type 0) → Marked Told (partOf (64 * (v - lo)) l) part

@@ -29,9 +29,9 @@ pub record Chunk
   pub grown : Grown ps source work targets n m lo
   pub ordered : lo ≤ hi
   pub on : hi ≤ suc n
-  pub few : hi ≤ lo + 32
-  pub long-arcs : length arcs ≡ 2048
-  pub long-kids : length kids ≡ 2048
+  pub few : hi ≤ lo + 48
+  pub long-arcs : length arcs ≡ 3072
+  pub long-kids : length kids ≡ 3072
   pub arc-flags : (v : ℕ) → lo ≤ v → v < hi → Flags (hasArc ps (nodeAt ps v)) (partOf (64 * (v - lo)) arcs)
   pub kid-flags : (v : ℕ) → lo ≤ v → v < hi → Flags (hasKid ps (nodeAt ps v)) (partOf (64 * (v - lo)) kids)
 
@@ -87,13 +87,13 @@ module _ (work₀ targets₀ : List ℕ) (n₀ m₀ lo hi : ℕ) (arcs kids : Li
   underway-none = record { grown = (λ ps source c. c .grown) }
 
   module _ (some : SomeChunk work₀ targets₀ n₀ m₀ lo hi arcs kids) where
-    pub chunk-arcs : length arcs ≡ 2048
+    pub chunk-arcs : length arcs ≡ 3072
     chunk-arcs = some .chunk .long-arcs
 
-    pub chunk-kids : length kids ≡ 2048
+    pub chunk-kids : length kids ≡ 3072
     chunk-kids = some .chunk .long-kids
 
-    pub chunk-few : hi ≤ lo + 32
+    pub chunk-few : hi ≤ lo + 48
     chunk-few = some .chunk .few
 
     pub chunk-ordered : lo ≤ hi
@@ -167,13 +167,13 @@ module _ (work₀ targets₀ : List ℕ) (n₀ m₀ lo hi : ℕ) (arcs kids : Li
 module _ (w order : List ℕ) (k : ℕ) (caught : List ℕ) (routes : Routes w order k caught) (a : ℕ) (some : 1 ≤ a)
     (listed : a ≤ stationCount w) (work targets : List ℕ) (n m lo hi : ℕ)
     (grown : Grown (sequences w a) a work targets n m lo) (ordered : lo ≤ hi) (on : hi ≤ n + 1)
-    (few : hi ≤ lo + 32) where
+    (few : hi ≤ lo + 48) where
   pub standing-to : StandingTo w a work hi
   standing-to =
       record { targets = targets; n = n; m = m; lo = lo; grown = grown; on = omega arith }
 
-  module _ (arcs kids : List ℕ) (chunked : Chunked w a lo hi arcs kids) (long-arcs : length arcs ≡ 2048)
-      (long-kids : length kids ≡ 2048) where
+  module _ (arcs kids : List ℕ) (chunked : Chunked w a lo hi arcs kids) (long-arcs : length arcs ≡ 3072)
+      (long-kids : length kids ≡ 3072) where
     chunk : Chunk (sequences w a) a work targets n m lo hi arcs kids
     chunk =
         record {

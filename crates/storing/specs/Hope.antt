@@ -149,7 +149,7 @@ module _ (w : List ℕ) (c e : ℕ) (x y : List ℕ) (step : Steps w c e x y) wh
       }
 
   module _ (ok : isTimetable w ≡ true) (lo v : ℕ) (hope allowed caught q old part : List ℕ)
-      (long : length old ≡ 2048) (low : lo ≤ v) (few : v < lo + 32) (part-is : length part ≡ 64) where
+      (long : length old ≡ 3072) (low : lo ≤ v) (few : v < lo + 48) (part-is : length part ≡ 64) where
     part-told : (At : (a d v b : ℕ) → Type 0)
         → ((a d : ℕ) → NodeLabels w a d v e y → Judged w a d allowed caught q
         → Marked (At a d v) (partOf (64 * (v - lo)) old) part)

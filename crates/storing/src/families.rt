@@ -173,10 +173,10 @@ fn mark_hoped(
         × (length (now x) ≡ 2048)
         × (length (now allowed) ≡ 2048)
         × (length (now q) ≡ 2048)
-        × (length (now arcs) ≡ 2048)
-        × (length (now kids) ≡ 2048)
+        × (length (now arcs) ≡ 3072)
+        × (length (now kids) ≡ 3072)
         × (lo ≤ node)
-        × (node < lo + 32) ⌝ }
+        × (node < lo + 48) ⌝ }
     ensures { λ _. ⌜ Told (ArcsAt (now (words .entry))) (now (words .entry)) lo node c e (now (x .entry))
         (now (hope .entry)) (now (allowed .entry)) (now (catch .entry)) (now (q .entry))
         (now (arcs .entry)) (now (arcs .exit))
@@ -185,8 +185,8 @@ fn mark_hoped(
         (now (kids .entry)) (now (kids .exit))
         × Stays (now (words .entry)) c (now (hope .entry)) (now (x .entry)) (now (x .exit))
         × (length (now (x .exit)) ≡ 2048)
-        × (length (now (arcs .exit)) ≡ 2048)
-        × (length (now (kids .exit)) ≡ 2048) ⌝ }
+        × (length (now (arcs .exit)) ≡ 3072)
+        × (length (now (kids .exit)) ≡ 3072) ⌝ }
 {
     if hope[e - 1] != 1 {
         return;
@@ -237,12 +237,12 @@ fn mark_sibling(
         × (length (now x) ≡ 2048)
         × (length (now allowed) ≡ 2048)
         × (length (now q) ≡ 2048)
-        × (length (now arcs) ≡ 2048)
-        × (length (now kids) ≡ 2048)
+        × (length (now arcs) ≡ 3072)
+        × (length (now kids) ≡ 3072)
         × (1 ≤ node)
         × (lo ≤ node)
         × (node < hi)
-        × (hi ≤ lo + 32) ⌝ }
+        × (hi ≤ lo + 48) ⌝ }
     ensures { λ r. ⌜ ToldOn (ArcsAt (now (words .entry))) (now (words .entry)) (now (work .entry)) parent lo node
         (node + 1) c (now (x .entry)) (now (hope .entry)) (now (allowed .entry)) (now (catch .entry)) (now (q .entry))
         (now (arcs .entry)) (now (arcs .exit))
@@ -252,8 +252,8 @@ fn mark_sibling(
         × Stays (now (words .entry)) c (now (hope .entry)) (now (x .entry)) (now (x .exit))
         × Sure (now (work .entry)) parent hi (node + 1) r
         × (length (now (x .exit)) ≡ 2048)
-        × (length (now (arcs .exit)) ≡ 2048)
-        × (length (now (kids .exit)) ≡ 2048) ⌝ }
+        × (length (now (arcs .exit)) ≡ 3072)
+        × (length (now (kids .exit)) ≡ 3072) ⌝ }
 {
     let e = station_of(work, node);
     mark_hoped(
@@ -306,12 +306,12 @@ fn mark_kids(
         × (length (now x) ≡ 2048)
         × (length (now allowed) ≡ 2048)
         × (length (now q) ≡ 2048)
-        × (length (now arcs) ≡ 2048)
-        × (length (now kids) ≡ 2048)
+        × (length (now arcs) ≡ 3072)
+        × (length (now kids) ≡ 3072)
         × (1 ≤ node)
         × (lo ≤ node)
         × (node < hi)
-        × (hi ≤ lo + 32) ⌝ }
+        × (hi ≤ lo + 48) ⌝ }
     ensures { λ r. ⌜ ToldOn (ArcsAt (now (words .entry))) (now (words .entry)) (now (work .entry)) parent lo node r c
         (now (x .entry)) (now (hope .entry)) (now (allowed .entry)) (now (catch .entry)) (now (q .entry))
         (now (arcs .entry)) (now (arcs .exit))
@@ -321,8 +321,8 @@ fn mark_kids(
         × (node < r)
         × (r ≤ hi)
         × (length (now (x .exit)) ≡ 2048)
-        × (length (now (arcs .exit)) ≡ 2048)
-        × (length (now (kids .exit)) ≡ 2048) ⌝ }
+        × (length (now (arcs .exit)) ≡ 3072)
+        × (length (now (kids .exit)) ≡ 3072) ⌝ }
 {
     let mut v = node;
     loop {
@@ -381,19 +381,19 @@ fn mark_siblings(
         × Judged (now words) source d (now allowed) (now catch) (now q)
         × (length (now allowed) ≡ 2048)
         × (length (now q) ≡ 2048)
-        × (length (now arcs) ≡ 2048)
-        × (length (now kids) ≡ 2048)
+        × (length (now arcs) ≡ 3072)
+        × (length (now kids) ≡ 3072)
         × (1 ≤ node)
         × (lo ≤ node)
         × (node < hi)
-        × (hi ≤ lo + 32) ⌝ }
+        × (hi ≤ lo + 48) ⌝ }
     ensures { λ r. ⌜ RaisedOn (ArcsAt (now (words .entry)) source d) lo node r (now (arcs .entry)) (now (arcs .exit))
         × RaisedOn (KidsAt (now (words .entry)) source d) lo node r (now (kids .entry)) (now (kids .exit))
         × (node < r)
         × (r ≤ hi)
         × (length (now (x .exit)) ≡ 2048)
-        × (length (now (arcs .exit)) ≡ 2048)
-        × (length (now (kids .exit)) ≡ 2048) ⌝ }
+        × (length (now (arcs .exit)) ≡ 3072)
+        × (length (now (kids .exit)) ≡ 3072) ⌝ }
 {
     let parent = parent_of(work, node);
     let mut hope = [0u8; NODE_FLAGS];
@@ -460,18 +460,18 @@ fn mark_family(
         × Judged (now words) source d (now allowed) (now catch) (now q)
         × (length (now allowed) ≡ 2048)
         × (length (now q) ≡ 2048)
-        × (length (now arcs) ≡ 2048)
-        × (length (now kids) ≡ 2048)
+        × (length (now arcs) ≡ 3072)
+        × (length (now kids) ≡ 3072)
         × (lo ≤ node)
         × (node < hi)
-        × (hi ≤ lo + 32) ⌝ }
+        × (hi ≤ lo + 48) ⌝ }
     ensures { λ r. ⌜ RaisedOn (ArcsAt (now (words .entry)) source d) lo node r (now (arcs .entry)) (now (arcs .exit))
         × RaisedOn (KidsAt (now (words .entry)) source d) lo node r (now (kids .entry)) (now (kids .exit))
         × (node < r)
         × (r ≤ hi)
         × (length (now (x .exit)) ≡ 2048)
-        × (length (now (arcs .exit)) ≡ 2048)
-        × (length (now (kids .exit)) ≡ 2048) ⌝ }
+        × (length (now (arcs .exit)) ≡ 3072)
+        × (length (now (kids .exit)) ≡ 3072) ⌝ }
 {
     if node == 0 {
         nodes::mark_at(
@@ -539,15 +539,15 @@ pub fn mark_nodes(
         × Judged (now words) source d (now allowed) (now catch) (now q)
         × (length (now allowed) ≡ 2048)
         × (length (now q) ≡ 2048)
-        × (length (now arcs) ≡ 2048)
-        × (length (now kids) ≡ 2048)
+        × (length (now arcs) ≡ 3072)
+        × (length (now kids) ≡ 3072)
         × (lo ≤ hi)
-        × (hi ≤ lo + 32) ⌝ }
+        × (hi ≤ lo + 48) ⌝ }
     ensures { λ _. ⌜ Raised (ArcsAt (now (words .entry)) source d) lo hi (now (arcs .entry)) (now (arcs .exit))
         × Raised (KidsAt (now (words .entry)) source d) lo hi (now (kids .entry)) (now (kids .exit))
         × (length (now (x .exit)) ≡ 2048)
-        × (length (now (arcs .exit)) ≡ 2048)
-        × (length (now (kids .exit)) ≡ 2048) ⌝ }
+        × (length (now (arcs .exit)) ≡ 3072)
+        × (length (now (kids .exit)) ≡ 3072) ⌝ }
 {
     let mut node = lo;
     while node < hi {

@@ -73,19 +73,19 @@ fn mark_minute(
         × (source ≤ stationCount (now words))
         × StandingTo (now words) source (now work) hi
         × (lo ≤ hi)
-        × (hi ≤ lo + 32)
+        × (hi ≤ lo + 48)
         × (length (now v) ≡ 2048)
         × (length (now q) ≡ 2048)
         × (length (now x) ≡ 2048)
-        × (length (now arcs) ≡ 2048)
-        × (length (now kids) ≡ 2048) ⌝ }
+        × (length (now arcs) ≡ 3072)
+        × (length (now kids) ≡ 3072) ⌝ }
     ensures { λ _. ⌜ Raised (ArcsAt (now (words .entry)) source d) lo hi (now (arcs .entry)) (now (arcs .exit))
         × Raised (KidsAt (now (words .entry)) source d) lo hi (now (kids .entry)) (now (kids .exit))
         × (length (now (v .exit)) ≡ 2048)
         × (length (now (q .exit)) ≡ 2048)
         × (length (now (x .exit)) ≡ 2048)
-        × (length (now (arcs .exit)) ≡ 2048)
-        × (length (now (kids .exit)) ≡ 2048) ⌝ }
+        × (length (now (arcs .exit)) ≡ 3072)
+        × (length (now (kids .exit)) ≡ 3072) ⌝ }
 {
     judge(words, order, n, arrivals, begins, catch, source, d, v, q, x);
     families::mark_nodes(
@@ -146,12 +146,12 @@ fn mark_departure(
         × (source ≤ stationCount (now words))
         × StandingTo (now words) source (now work) hi
         × (lo ≤ hi)
-        × (hi ≤ lo + 32)
+        × (hi ≤ lo + 48)
         × (length (now v) ≡ 2048)
         × (length (now q) ≡ 2048)
         × (length (now x) ≡ 2048)
-        × (length (now arcs) ≡ 2048)
-        × (length (now kids) ≡ 2048)
+        × (length (now arcs) ≡ 3072)
+        × (length (now kids) ≡ 3072)
         × (getD (now first) source 0 ≤ p)
         × (p < getD (now first) (source + 1) 0)
         × Sought (now words) source (now chain) (getD (now first) source 0) p last lo hi (now arcs) (now kids) ⌝ }
@@ -160,8 +160,8 @@ fn mark_departure(
         × (length (now (v .exit)) ≡ 2048)
         × (length (now (q .exit)) ≡ 2048)
         × (length (now (x .exit)) ≡ 2048)
-        × (length (now (arcs .exit)) ≡ 2048)
-        × (length (now (kids .exit)) ≡ 2048) ⌝ }
+        × (length (now (arcs .exit)) ≡ 3072)
+        × (length (now (kids .exit)) ≡ 3072) ⌝ }
 {
     let d = minute_at(words, chain, p);
     if d == last {
@@ -237,20 +237,20 @@ fn mark_departures(
         × (source ≤ stationCount (now words))
         × StandingTo (now words) source (now work) hi
         × (lo ≤ hi)
-        × (hi ≤ lo + 32)
+        × (hi ≤ lo + 48)
         × (length (now v) ≡ 2048)
         × (length (now q) ≡ 2048)
         × (length (now x) ≡ 2048)
-        × (length (now arcs) ≡ 2048)
-        × (length (now kids) ≡ 2048)
+        × (length (now arcs) ≡ 3072)
+        × (length (now kids) ≡ 3072)
         × Sought (now words) source (now chain) (getD (now first) source 0) (getD (now first) source 0) 2880 lo hi
         (now arcs) (now kids) ⌝ }
     ensures { λ _. ⌜ Chunked (now (words .entry)) source lo hi (now (arcs .exit)) (now (kids .exit))
         × (length (now (v .exit)) ≡ 2048)
         × (length (now (q .exit)) ≡ 2048)
         × (length (now (x .exit)) ≡ 2048)
-        × (length (now (arcs .exit)) ≡ 2048)
-        × (length (now (kids .exit)) ≡ 2048) ⌝ }
+        × (length (now (arcs .exit)) ≡ 3072)
+        × (length (now (kids .exit)) ≡ 3072) ⌝ }
 {
     let end = place_at(first, source + 1);
     let mut p = place_at(first, source);
@@ -308,18 +308,18 @@ pub fn mark_chunk(
         × (source ≤ stationCount (now words))
         × StandingTo (now words) source (now work) hi
         × (lo ≤ hi)
-        × (hi ≤ lo + 32)
+        × (hi ≤ lo + 48)
         × (length (now v) ≡ 2048)
         × (length (now q) ≡ 2048)
         × (length (now x) ≡ 2048)
-        × (length (now arcs) ≡ 2048)
-        × (length (now kids) ≡ 2048) ⌝ }
+        × (length (now arcs) ≡ 3072)
+        × (length (now kids) ≡ 3072) ⌝ }
     ensures { λ _. ⌜ Chunked (now (words .entry)) source lo hi (now (arcs .exit)) (now (kids .exit))
         × (length (now (v .exit)) ≡ 2048)
         × (length (now (q .exit)) ≡ 2048)
         × (length (now (x .exit)) ≡ 2048)
-        × (length (now (arcs .exit)) ≡ 2048)
-        × (length (now (kids .exit)) ≡ 2048) ⌝ }
+        × (length (now (arcs .exit)) ≡ 3072)
+        × (length (now (kids .exit)) ≡ 3072) ⌝ }
 {
     clear(arcs);
     clear(kids);

@@ -129,15 +129,15 @@ pub fn mark_at(
         × Judged (now words) source d (now allowed) (now catch) (now q)
         × (length (now allowed) ≡ 2048)
         × (length (now q) ≡ 2048)
-        × (length (now arcs) ≡ 2048)
-        × (length (now kids) ≡ 2048)
+        × (length (now arcs) ≡ 3072)
+        × (length (now kids) ≡ 3072)
         × (lo ≤ node)
-        × (node < lo + 32) ⌝ }
+        × (node < lo + 48) ⌝ }
     ensures { λ _. ⌜ MarkedAt (ArcsAt (now (words .entry)) source d node) lo node (now (arcs .entry)) (now (arcs .exit))
         × MarkedAt (KidsAt (now (words .entry)) source d node) lo node (now (kids .entry)) (now (kids .exit))
         × (length (now (x .exit)) ≡ 2048)
-        × (length (now (arcs .exit)) ≡ 2048)
-        × (length (now (kids .exit)) ≡ 2048) ⌝ }
+        × (length (now (arcs .exit)) ≡ 3072)
+        × (length (now (kids .exit)) ≡ 3072) ⌝ }
 {
     let o = 64 * (node - lo);
     mark_node(

@@ -15,10 +15,10 @@ use growing::Counts;
 pub const STOPS_MOST: usize = 2048;
 
 // The arcs and kids of so many nodes are found in one go.
-const CHUNK: usize = 32;
+const CHUNK: usize = 48;
 
 // The flags of a chunk.
-const FLAGS: usize = 2048;
+const FLAGS: usize = 3072;
 
 // Takes the nodes from lo up to hi by their flags. Answers the numbers of nodes and arcs then, if they fit.
 fn take_chunk(
@@ -78,7 +78,7 @@ fn grow_chunk(
         × Grown (sequences (now words) source) source (now work) (now targets) nodes ends lo
         × (lo ≤ hi)
         × (hi ≤ nodes + 1)
-        × (hi ≤ lo + 32) ⌝ }
+        × (hi ≤ lo + 48) ⌝ }
     ensures { λ r. ⌜ Reached (sequences (now (words .entry)) source) source (now (work .exit)) (now (targets .exit)) hi
         r ⌝ }
 {
@@ -112,7 +112,7 @@ fn grow_chunk(
 // Where the chunk ends that begins with node lo, the last node being n.
 fn chunk_end(lo: usize, n: usize) -> usize
     requires { ⌜ (lo ≤ n) × (n ≤ 16383) ⌝ }
-    ensures { λ r. ⌜ (lo < r) × (r ≤ n + 1) × (r ≤ lo + 32) ⌝ }
+    ensures { λ r. ⌜ (lo < r) × (r ≤ n + 1) × (r ≤ lo + 48) ⌝ }
 {
     if lo + CHUNK < n + 1 {
         return lo + CHUNK;

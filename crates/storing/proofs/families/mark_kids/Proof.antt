@@ -16,8 +16,8 @@ Inv-loop words chain first catch work allowed q parent lo node hi c hope x₀ ar
     × (node ≤ v)
     × (v < hi)
     × (length x ≡ 2048)
-    × (length arcs ≡ 2048)
-    × (length kids ≡ 2048)
+    × (length arcs ≡ 3072)
+    × (length kids ≡ 3072)
     × (parent ≡ parentIn (getD work v 0))
     × Stays words c hope x₀ x
     × ToldOn (ArcsAt words) words work parent lo node v c x₀ hope allowed catch q arcs₀ arcs

@@ -13,8 +13,8 @@ Inv-loop words chain first catch work lo hi source d allowed q x₀ arcs₀ kids
     (lo ≤ node)
     × (node ≤ hi)
     × (length x ≡ 2048)
-    × (length arcs ≡ 2048)
-    × (length kids ≡ 2048)
+    × (length arcs ≡ 3072)
+    × (length kids ≡ 3072)
     × Raised (ArcsAt words source d) lo node arcs₀ arcs
     × Raised (KidsAt words source d) lo node kids₀ kids
 

@@ -21,15 +21,15 @@ Inv-loop words order n chain first arrivals begins catch work lo hi source _ _ _
     × (source ≤ stationCount words)
     × StandingTo words source work hi
     × (lo ≤ hi)
-    × (hi ≤ lo + 32)
+    × (hi ≤ lo + 48)
     × (end ≡ getD first (source + 1) 0)
     × (getD first source 0 ≤ p)
     × (p ≤ getD first (source + 1) 0)
     × (length v ≡ 2048)
     × (length q ≡ 2048)
     × (length x ≡ 2048)
-    × (length arcs ≡ 2048)
-    × (length kids ≡ 2048)
+    × (length arcs ≡ 3072)
+    × (length kids ≡ 3072)
     × Sought words source chain (getD first source 0) p last lo hi arcs kids
 
 abbrev μ-loop : tie.MeasureT-loop

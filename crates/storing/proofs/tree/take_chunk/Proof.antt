@@ -12,9 +12,9 @@ abbrev Inv-loop : tie.InvT-loop
 Inv-loop work₀ targets₀ lo hi nodes ends arcs kids n₀ m₀ v₀ work targets n m v =
     (lo ≤ v)
     × (v ≤ hi)
-    × (hi ≤ lo + 32)
-    × (length arcs ≡ 2048)
-    × (length kids ≡ 2048)
+    × (hi ≤ lo + 48)
+    × (length arcs ≡ 3072)
+    × (length kids ≡ 3072)
     × (length work ≡ length work₀)
     × (length targets ≡ length targets₀)
     × Underway work₀ targets₀ nodes ends lo hi arcs kids work targets n m v
