@@ -73,24 +73,6 @@ module _ (n : Net) where
       let changing = concatMap-in (afterChange (on k b) r) (changes-in r w (f .1)) (Memᴰ·map (onward r w) rest) in
       concatMap-in (byRide n b (on k b)) (boards-in a t r (f .0)) (keep-there (direct r) (eqb (r .to) b) changing)
 
-  -- at most k rides: a list for fewer rides is another bound
-  pub listed-count : (k a t b : ℕ) (c : Connection) → c ∈ connections n k a t b → rideCount c ≤ k
-  unfolding connections
-  listed-count zero a t b c m = none m
-  listed-count (suc k) a t b c m = go (listed-count k)
-    where
-      go : ((a t b : ℕ) (c : Connection) → c ∈ connections n k a t b → rideCount c ≤ k) → rideCount c ≤ suc k
-      go ih =
-          let i = concatMap-out (byRide n b (on k b)) (filter (boardable a t) (n .rides)) m in
-          kept-cases (eqb (i .0 .to) b) (i .2) (λ e h. rw e (omega arith)) (rest (i .0))
-        where
-          rest : (r : Ride) → c ∈ afterRide n (on k b) r → rideCount c ≤ suc k
-          rest r j =
-              let p = concatMap-out (afterChange (on k b) r) (filter (changeable r) (n .changes)) j in
-              let w = p .0 in
-              let q = Memᴰ·of-map (onward r w) (connections n k (w .to) (ready r w) b) (p .2) in
-              rw (← q .2) (omega (arith, ih (w .to) (ready r w) b (q .0) (q .1)))
-
   module _ (ok : Sound n) where
     pub listed : (a t b : ℕ) (c : Connection) → c ∈ plannerList n a t b ↔ Feasible n a t b c
     unfolding plannerList

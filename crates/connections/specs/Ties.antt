@@ -1,5 +1,6 @@
 -- The rule for equal cost in words: of the connections of one cost on a list the picked one departs latest; of those
--- that depart then, it has fewest rides; of those, none has rides that come first.
+-- that depart then, it has fewest rides; of those, none has rides that come first. This is for a reader: no proof rests
+-- on it.
 use mathlib.Core.Path.{_≡_}
 use mathlib.Core.List.{List, _∷_}
 use Prim.Native.Nat.{ℕ, _-_, _≤_, _<_}

@@ -3,7 +3,7 @@ use mathlib.Core.Path.{_≡_, refl}
 use mathlib.Core.List.{List, [], _∷_}
 use Prim.Native.Nat.{ℕ}
 use lib.Dec.{T}
-use Rattle.timetable.specs.Timetable.{Station, Stop, Timetable, validStation, listed, leaves, ends, follows, runs}
+use Rattle.timetable.specs.Timetable.{Timetable, validStation, listed, leaves, ends, follows, runs}
 use Rattle.timetable.specs.Timetable.{validTrip, validStations, validTrips, counted, valid}
 use Rattle.timetable.specs.Worked.{station, stop, variant, M}
 use Rattle.results.specs.Results.{dominates, equal, entries, result}

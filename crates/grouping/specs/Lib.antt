@@ -1,7 +1,6 @@
 pub mod Grouped
 pub mod Worked
 pub mod Bounds
-pub mod Pieces
 pub mod Steps
 pub mod Order
 pub mod Joined

@@ -5,7 +5,7 @@ use mathlib.Core.Bool.{Bool, true, false}
 use mathlib.Core.Logic.{_⊎_, inl, inr, _↔_}
 use mathlib.Core.List.{List, [], _∷_, _++_, map, append-assoc, List·Memᴰ·head as here, List·Memᴰ·tail as there}
 use mathlib.Core.List.{Memᴰ·append-left, Memᴰ·append-right, Memᴰ·map, Memᴰ·of-map, Memᴰ·cast}
-use Prim.Native.Nat.{ℕ, zero, suc, _<_}
+use Prim.Native.Nat.{ℕ, _<_}
 use native.Mathlib.Omega.{arith}
 use lib.ListN.{length, getD}
 use lib.Dec.{T}
@@ -170,29 +170,10 @@ module _ (t : List Trip) where
   unfolding lines
   lines-distinct = adds-distinct (inOrder t) [] order-distinct tt (λ z m k. none k)
 
--- Among lists without a repeat no number stands in two.
-in-lines : (ls : List (List ℕ)) (z j : ℕ) → j < length ls → z ∈ getD ls j [] → z ∈ onLines ls
-in-lines [] z j h k = absurd (omega arith)
-in-lines (x ∷ ls) z zero h k = Memᴰ·append-left (onLines ls) k
-in-lines (x ∷ ls) z (suc j) h k = Memᴰ·append-right x (in-lines ls z j (omega arith) k)
-
 apart : (l m : List ℕ) (z : ℕ) → Distinct (l ++ m) → z ∈ l → ¬ (z ∈ m)
 apart [] m z d i k = none i
 apart (x ∷ l) m z d i k =
     cons-cases i (λ e. d .0 (Memᴰ·append-right l (Memᴰ·cast (sym e) k))) (λ j. apart l m z (d .1) j k)
-
-distinct-rest : (l m : List ℕ) → Distinct (l ++ m) → Distinct m
-distinct-rest [] m d = d
-distinct-rest (x ∷ l) m d = distinct-rest l m (d .1)
-
-one-list : (ls : List (List ℕ)) → Distinct (onLines ls) → (z i j : ℕ) → i < length ls → j < length ls
-    → z ∈ getD ls i [] → z ∈ getD ls j [] → i ≡ j
-one-list [] d z i j h g m k = absurd (omega arith)
-one-list (l ∷ ls) d z zero zero h g m k = refl
-one-list (l ∷ ls) d z zero (suc j) h g m k = absurd (apart l (onLines ls) z d m (in-lines ls z j (omega arith) k))
-one-list (l ∷ ls) d z (suc i) zero h g m k = absurd (apart l (onLines ls) z d k (in-lines ls z i (omega arith) m))
-one-list (l ∷ ls) d z (suc i) (suc j) h g m k =
-    ap suc (one-list ls (distinct-rest l (onLines ls) d) z i j (omega arith) (omega arith) m k)
 
 -- the line of a trip
 pub record OnLine (t : List Trip) (z : ℕ) : Type 0 where
@@ -208,8 +189,3 @@ module _ (t : List Trip) where
 
   pub trip-listed : (z : ℕ) → OnLine t z → z < length t
   trip-listed z o = on-lines t z .0 (concatMap-in (λ l. l) (o .listed) (o .member))
-
-  -- and it is one line
-  pub line-unique : (z i j : ℕ) → i < length (lines t) → j < length (lines t)
-      → z ∈ getD (lines t) i [] → z ∈ getD (lines t) j [] → i ≡ j
-  line-unique = one-list (lines t) (lines-distinct t)

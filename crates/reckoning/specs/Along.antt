@@ -6,7 +6,7 @@ use mathlib.Core.List.{List, [], _∷_}
 use Prim.Native.Nat.{ℕ, _+_, _≤_, _<_}
 use Rattle.lists.specs.Lists.{_∈_}
 use Rattle.connections.specs.Rides.{Ride}
-use Rattle.connections.specs.Connections.{Change, Net, Connection, direct, onward, Changes, ready}
+use Rattle.connections.specs.Connections.{Change, Net, Changes, ready}
 
 module _ (n : Net) (a t : ℕ) where
   -- by a ride and a change at station y from what was reached before
@@ -45,16 +45,6 @@ module _ (n : Net) (a t : ℕ) where
   pub record Arrives (b v p : ℕ) : Type 0 where
     pub changed : List ℕ
     pub ends : Ends changed b v p
-
-  -- the least that can have been paid
-  pub record Least (x u p : ℕ) : Type 0 where
-    pub reached : Reaches x u p
-    pub least : (q : ℕ) → Reaches x u q → p ≤ q
-
-  -- at each boarding of the connection what was paid, p at the first, is the least
-  abbrev pub Tight : (p : ℕ) → Connection → Type 0
-  Tight p (direct r) = Least (r .from) (r .depart) p
-  Tight p (onward r w c) = Least (r .from) (r .depart) p × Tight (p + r .points + w .points) c
 
   -- minute v and penalty p lie on the frontier of b: no one is there by then for less, and earlier only for more
   pub record Frontier (b v p : ℕ) : Type 0 where

@@ -15,7 +15,7 @@ use Rattle.reckoning.specs.Along.{Along, Ends, Frontier}
 use Rattle.reckoning.specs.AlongLaws.{boarded, changed, start, Joined, join, reverse-twice, sequence-ends}
 use Rattle.reckoning.specs.AlongLaws.{Sequenced}
 use Rattle.reckoning.specs.Frontiers.{arrives, optimal-frontier, frontier-optimal}
-use Rattle.reckoning.specs.Sets.{Way}
+use Rattle.reckoning.specs.Ways.{Way}
 
 module _ (n : Net) (ok : Sound n) (a t : ℕ) where
   -- one who changed at these stations, the last one first, arrives at b on its frontier

@@ -18,7 +18,7 @@ use Rattle.connections.specs.Connections.{stations, departure}
 use Rattle.connections.specs.Planner.{numbers, rideCount, tieKey}
 use Rattle.connections.specs.Feasibility.{has-stations}
 use Rattle.connections.specs.Named.{Named}
-use Rattle.reckoning.specs.Sets.{firstRide}
+use Rattle.reckoning.specs.Ways.{firstRide}
 
 -- the numbers of a ride
 abbrev pub rideNumbers : Ride → List ℕ

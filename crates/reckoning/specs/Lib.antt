@@ -2,13 +2,7 @@ pub mod Along
 pub mod AlongLaws
 pub mod Layers
 pub mod Frontiers
-pub mod LeastPenalties
-pub mod Aboard
-pub mod Stops
-pub mod Sets
-pub mod Reckoned
+pub mod Ways
 pub mod Bounds
-pub mod FrontierValues
-pub mod StoredSets
 pub mod Continuing
 pub mod Greedy

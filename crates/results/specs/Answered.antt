@@ -195,7 +195,7 @@ module _ {X : Type 0} (m : Measure X) (l : List X) where
       same : map (entry m) s ≡ entries m l
       same = rising-unique (map (entry m) s) (entries m l) (entries-climb m s rising) (entries-rising m l) to from
 
-  -- and no other rows answer so
+  -- for a reader: no other rows answer so
   pub answers-unique : (rows : List (List ℕ)) → Answers m l rows → rows ≡ result m l
   answers-unique rows a =
       sym (a .rows-are)

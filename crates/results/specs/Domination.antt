@@ -49,6 +49,7 @@ module _ (x y : Cost) where
           let k : x .points < y .points = omega (arith, nltb→le (x .minutes) (y .minutes) s) in
           search (both, le→leb, or-r)
 
+  -- for a reader: the test of the definition says what the words say
   pub dominates-exactly : T (dominates x y) ↔ Dominates x y
   unfolding dominates
   dominates-exactly = (out, into)

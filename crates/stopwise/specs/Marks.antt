@@ -15,7 +15,7 @@ use Rattle.connections.specs.Sound.{Sound}
 use Rattle.reckoning.specs.Along.{Along, Ends, Frontier}
 use Rattle.reckoning.specs.AlongLaws.{boarded, changed, join}
 use Rattle.reckoning.specs.Frontiers.{arrives}
-use Rattle.reckoning.specs.Sets.{Way}
+use Rattle.reckoning.specs.Ways.{Way}
 use Rattle.reckoning.specs.Continuing.{Closing, Continuing, continuing-exactly}
 use Rattle.stopwise.specs.Stopwise.{station, arrive, depart, points, changePoints, Goes, Ridden, ridden, Catches}
 use Rattle.stopwise.specs.Paid.{Paid, Arrived, LeastArrivals}

@@ -52,18 +52,6 @@ module _ (w : List ℕ) where
       let e : i + suc n ≡ suc i + n = omega arith in
       omega (arith, ridden-more (suc i) n, ap (points w) e)
 
-  -- from a stop on the way
-  pub ridden-split : (i n m : ℕ) → ridden w i (n + m) ≡ ridden w i n + ridden w (i + n) m
-  unfolding ridden
-  ridden-split i zero m =
-      let e : i + 0 ≡ i = omega arith in
-      let f : 0 + m ≡ m = omega arith in
-      omega (arith, ap (λ j. ridden w j m) e, ap (ridden w i) f)
-  ridden-split i (suc n) m =
-      let e : i + suc n ≡ suc i + n = omega arith in
-      let f : suc n + m ≡ suc (n + m) = omega arith in
-      omega (arith, ridden-split (suc i) n m, ap (λ j. ridden w j m) e, ap (ridden w i) f)
-
   -- a ride of some stops leaves its first stop
   pub ridden-goes : (i n : ℕ) → 1 ≤ n → Ridden w i n → Goes w i
   ridden-goes i n h r = subst (Goes w) (omega arith) (r 0 h)

@@ -3,7 +3,6 @@
 use mathlib.Core.Path.{_≡_}
 use mathlib.Core.List.{List}
 use Prim.Native.Nat.{ℕ, zero, suc, _+_, _-_, _≤_, _<_}
-use lib.ListN.{getD}
 use Rattle.timetable.specs.Words.{tripCount, stationAt, stopAt, startAt}
 
 -- no one who is on the way has paid as much: the laws of reckoning/Bounds

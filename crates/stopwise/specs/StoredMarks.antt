@@ -1,8 +1,8 @@
--- The marks of a node over all minutes at which something departs from the source: a node has an arc to a station
--- exactly if that sequence is stored, and goes on to it exactly if that is the beginning of a longer stored sequence.
+-- The stored sequences, found at the minutes at which something departs from the source: a sequence is stored exactly
+-- if an optimal connection has it at such a minute.
 use mathlib.Core.Path.{_≡_, sym, ap, subst, _∙_}
 use mathlib.Core.Bool.{true}
-use mathlib.Core.Logic.{_≢_, _↔_}
+use mathlib.Core.Logic.{_≢_}
 use mathlib.Core.List.{List, [], _∷_, reverseAux}
 use Prim.Native.Nat.{ℕ, _≤_}
 use native.Mathlib.Omega.{arith}
@@ -17,14 +17,10 @@ use Rattle.connections.specs.OptimalLaws.{optimal-own-minute}
 use Rattle.stores.specs.Stored.{stored}
 use Rattle.stores.specs.StoredLaws.{sequence-is, stored-in, stored-out}
 use Rattle.reckoning.specs.AlongLaws.{reverse-twice}
-use Rattle.reckoning.specs.Sets.{Way}
-use Rattle.reckoning.specs.Continuing.{closing-exactly}
+use Rattle.reckoning.specs.Ways.{Way}
 use Rattle.stopwise.specs.Stopwise.{station, depart, Goes}
-use Rattle.stopwise.specs.Paid.{LeastArrivals}
-use Rattle.stopwise.specs.Prospects.{Allows, Ends, GoesOn}
 use Rattle.stopwise.specs.Settled.{Timely}
 use Rattle.stopwise.specs.RideStops.{netOf, ridden-goes, stops-of, spelled-sound}
-use Rattle.stopwise.specs.Marks.{ends-closing, goes-on-way}
 
 -- something departs from station a at minute d
 pub record Source (w : List ℕ) (a d : ℕ) : Type 0 where
@@ -32,24 +28,6 @@ pub record Source (w : List ℕ) (a d : ℕ) : Type 0 where
   pub goes : Goes w g
   pub here : station w g ≡ a
   pub leaves : depart w g ≡ d
-
--- at some such minute, where e has for each what it allows, a connection along these changes ends well at b
-pub record EndsOnce (w : List ℕ) (a : ℕ) (e : ℕ → List ℕ) (rev : List ℕ) (b : ℕ) : Type 0 where
-  pub minute : ℕ
-  pub source : Source w a minute
-  pub ends : Ends w a minute (e minute) rev b
-
--- at some such minute one who goes along these changes and then changes at b can still end well
-pub record GoesOnOnce (w : List ℕ) (a : ℕ) (e : ℕ → List ℕ) (rev : List ℕ) (b : ℕ) : Type 0 where
-  pub minute : ℕ
-  pub source : Source w a minute
-  pub goes-on : GoesOn w a minute (e minute) rev b
-
--- these changes, the last one first, begin a stored sequence and are not all of it
-pub record BeginsStored (n : Net) (a : ℕ) (rev : List ℕ) : Type 0 where
-  pub rest : List ℕ
-  pub some : rest ≢ []
-  pub kept : reverseAux rev rest ∈ stored n a
 
 -- ---- the target of a connection
 -- it is the last of its stations
@@ -135,71 +113,3 @@ module _ (w : List ℕ) (yes : isTimetable w ≡ true) (timely : Timely w) (a : 
               is = sequence-is n ok a q s;
             };
       }
-
-  module _
-      (v e : ℕ → List ℕ)
-      (least : (d : ℕ) → Source w a d → LeastArrivals w a d (v d))
-      (allows : (d : ℕ) → Source w a d → Allows w a (v d) (e d))
-    where
-      ends-stored : (rev : List ℕ) (b : ℕ) → EndsOnce w a e rev b → reverseAux rev (b ∷ []) ∈ stored n a
-      ends-stored rev b h =
-          let d = h .minute in
-          let s = h .source in
-          let k = ends-closing w yes timely a d (v d) (e d) (least d s) (allows d s) rev b .0 (h .ends) in
-          way-stored d b (reverseAux rev (b ∷ [])) s (k .1) (closing-exactly n ok a d rev b .0 (k .0))
-
-      stored-ends-once : (rev : List ℕ) (b : ℕ) → reverseAux rev (b ∷ []) ∈ stored n a → EndsOnce w a e rev b
-      stored-ends-once rev b m =
-          let k = stored-way (reverseAux rev (b ∷ [])) m in
-          let d = k .minute in
-          let s = k .source in
-          let c = k .way .connection in
-          let there = sequence-end n a d (k .target) c rev b (k .way .optimal .feasible) (k .way .is) in
-          let way = subst (λ b′. Way n a d b′ (reverseAux rev (b ∷ []))) there (k .way) in
-          let other : b ≢ a = (λ q. k .other (there ∙ q)) in
-          record {
-            minute = d;
-            source = s;
-            ends =
-                ends-closing w yes timely a d (v d) (e d) (least d s) (allows d s) rev b .1
-                (closing-exactly n ok a d rev b .1 way, other);
-          }
-
-      -- the arcs of a node
-      pub stored-ends : (rev : List ℕ) (b : ℕ)
-          → EndsOnce w a e rev b ↔ (reverseAux rev (b ∷ []) ∈ stored (netOf w) a)
-      stored-ends rev b = (ends-stored rev b, stored-ends-once rev b)
-
-      goes-on-stored : (rev : List ℕ) (b : ℕ) → GoesOnOnce w a e rev b → BeginsStored n a (b ∷ rev)
-      goes-on-stored rev b h =
-          let d = h .minute in
-          let s = h .source in
-          let k = goes-on-way w yes timely a d (v d) (e d) (least d s) (allows d s) rev b .0 (h .goes-on) in
-          record {
-            rest = k .rest;
-            some = k .some;
-            kept = way-stored d (k .target) (reverseAux (b ∷ rev) (k .rest)) s (k .other) (k .way);
-          }
-
-      stored-goes-once : (rev : List ℕ) (b : ℕ) → BeginsStored n a (b ∷ rev) → GoesOnOnce w a e rev b
-      stored-goes-once rev b h =
-          let k = stored-way (reverseAux (b ∷ rev) (h .rest)) (h .kept) in
-          let d = k .minute in
-          let s = k .source in
-          record {
-            minute = d;
-            source = s;
-            goes-on =
-                goes-on-way w yes timely a d (v d) (e d) (least d s) (allows d s) rev b .1
-                (record {
-                  rest = h .rest;
-                  target = k .target;
-                  some = h .some;
-                  other = k .other;
-                  way = k .way;
-                });
-          }
-
-      -- the nodes that follow a node
-      pub stored-goes-on : (rev : List ℕ) (b : ℕ) → GoesOnOnce w a e rev b ↔ BeginsStored (netOf w) a (b ∷ rev)
-      stored-goes-on rev b = (goes-on-stored rev b, stored-goes-once rev b)

@@ -1,16 +1,12 @@
 -- Labels fall along the departures of a station: who can board there can board there later, too, for the same. So what
 -- one trip leads to beyond a second visit of the station is had from there for no more, and a walk may end there.
-use mathlib.Core.Path.{_≡_, ap, subst, sym, _∙_}
+use mathlib.Core.Path.{_≡_, ap, subst, _∙_}
 use mathlib.Core.List.{List, [], _∷_}
 use Prim.Native.Nat.{ℕ, zero, suc, _+_, _≤_}
 use native.Mathlib.Omega.{arith}
-use lib.Dec.{ltb, ltb→lt, nltb→le}
-use lib.ListN.{getD}
-use Rattle.lists.specs.Tests.{either}
-use Rattle.stopwise.specs.Stopwise.{station, depart, unreached, Goes, Ridden, ridden}
-use Rattle.stopwise.specs.Paid.{Paid, Labelled}
+use Rattle.stopwise.specs.Stopwise.{station, depart, Goes, Ridden}
+use Rattle.stopwise.specs.Paid.{Paid}
 use Rattle.stopwise.specs.Settled.{Timely}
-use Rattle.stopwise.specs.RideStops.{ridden-split}
 
 module _ (w : List ℕ) (timely : Timely w) where
   -- stops of a ride are left in their order
@@ -43,27 +39,3 @@ module _ (w : List ℕ) (a d : ℕ) where
             };
         total = b .total;
       }
-
-  module _ (rev : List ℕ) (c : ℕ) (x : List ℕ) (labels : Labelled w a d rev c x) where
-    pub labels-fall : (g h : ℕ) → Goes w g → Goes w h → station w g ≡ c → station w h ≡ c → depart w g ≤ depart w h
-        → getD x h 0 ≤ getD x g 0
-    labels-fall g h from to at there late =
-        either
-        (ltb (getD x g 0) unreached)
-        (λ t. reached (labels .attained g from at (ltb→lt (getD x g 0) unreached t)))
-        (λ t. omega (arith, nltb→le (getD x g 0) unreached t, labels .capped h to there))
-      where
-        reached : Paid w a d rev g (getD x g 0) → getD x h 0 ≤ getD x g 0
-        reached b =
-            labels .below h (getD x g 0) to there (paid-later rev g h (getD x g 0) b to (there ∙ sym at) late)
-
-    module _ (timely : Timely w) where
-      -- at a later visit of the trip the label is no larger
-      pub one-visit : (i k : ℕ) → Goes w i → station w i ≡ c → Ridden w i k → Goes w (i + k)
-          → station w (i + k) ≡ c → getD x (i + k) 0 ≤ getD x i 0
-      one-visit i k g at r h there = labels-fall i (i + k) g h at there (departs-later w timely k i r h)
-
-      -- and whatever is reached behind it costs no more from there
-      pub one-visit-costs : (i k n : ℕ) → Goes w i → station w i ≡ c → Ridden w i k → Goes w (i + k)
-          → station w (i + k) ≡ c → getD x (i + k) 0 + ridden w (i + k) n ≤ getD x i 0 + ridden w i (k + n)
-      one-visit-costs i k n g at r h there = omega (arith, one-visit i k g at r h there, ridden-split w i k n)

@@ -1,46 +1,30 @@
 -- What question 13 grants: a well-made store is one that can be read, its sequences are of listed stations, none is
 -- empty or too long, each ends at its arc's target, and arcs with one target stand together.
-use mathlib.Core.Path.{_≡_, refl, sym, ap, subst, _∙_}
+use mathlib.Core.Path.{_≡_, refl, sym, subst, _∙_}
 use mathlib.Core.Bool.{Bool, true, not, _&&_}
-use mathlib.Core.Logic.{_⊎_, inl, inr}
 use mathlib.Core.List.{List, [], _∷_, _++_, List·Memᴰ·head as here, List·Memᴰ·tail as there}
 use Prim.Native.Nat.{ℕ, zero, suc, _+_, _≤_, _<_}
 use native.Mathlib.Nat.{le-refl}
 use native.Mathlib.Numerals.{add-one}
 use native.Mathlib.Omega.{arith}
-use lib.Dec.{T, leb, leb→le, nleb→lt, nltb→le}
-use lib.ListN.{length, getD, length-append}
+use lib.Dec.{T, nltb→le}
+use lib.ListN.{length, getD}
 use Rattle.questions.specs.Question.{and-left, and-right}
-use Rattle.lists.specs.Lists.{_∈_, before}
-use Rattle.lists.specs.Tests.{either, or-cases, reads}
+use Rattle.lists.specs.Lists.{_∈_}
+use Rattle.lists.specs.Tests.{reads}
 use Rattle.lists.specs.Members.{none, cons-cases, append-cases}
-use Rattle.lists.specs.Order.{before-cases}
 use Rattle.lists.specs.Pigeonhole.{Within}
-use Rattle.stores.specs.Words.{place, readable, long, final, wellMade}
-use Rattle.stores.specs.Sequences.{place-get, place-bound}
+use Rattle.stores.specs.Words.{readable, long, wellMade}
 use Rattle.wellmade.specs.Entries.{nodeCount, arcCount, nodeStation, nodeParent, arcTarget, arcBefore}
 use Rattle.wellmade.specs.Paths.{nodePath, arcPath, root-path, next-path, arc-path, length-readable}
 use Rattle.wellmade.specs.Tests.{presentTest, nodeTest, nodesTest, arcTest, risesTest, arcsTest}
-use Rattle.wellmade.specs.Tests.{present-words, present-nodes, present-arcs, nodes-next, arcs-next, decided}
+use Rattle.wellmade.specs.Tests.{present-words, present-arcs, nodes-next, arcs-next, decided}
 use Rattle.wellmade.specs.Made.{Made}
 
 passed : (b : Bool) → b ≡ true → T b
 passed b e = subst T (sym e) tt
 
 -- ---- sequences of any store
-module _ (s : List ℕ) (i : ℕ) (h : i < arcCount s) where
-  pub arc-nonempty : 1 ≤ length (arcPath s i)
-  arc-nonempty =
-      omega (arith, ap length (arc-path s i h), length-append (nodePath s (arcBefore s i)) (arcTarget s i ∷ []))
-
-  pub arc-final : final (arcPath s i) ≡ arcTarget s i
-  arc-final = ap final (arc-path s i h) ∙ final-last (nodePath s (arcBefore s i)) (arcTarget s i)
-    where
-      final-last : (q : List ℕ) (x : ℕ) → final (q ++ (x ∷ [])) ≡ x
-      final-last [] x = refl
-      final-last (y ∷ []) x = refl
-      final-last (y ∷ z ∷ q) x = final-last (z ∷ q) x
-
 -- the sequences that can be read are those of the arcs
 module _ (s : List ℕ) where
   at-in : (l : List (List ℕ)) (i : ℕ) → i < length l → getD l i [] ∈ l
@@ -51,20 +35,6 @@ module _ (s : List ℕ) where
   pub readable-in : (i : ℕ) → i < arcCount s → arcPath s i ∈ readable s
   unfolding arcPath
   readable-in i h = at-in (readable s) i (omega (arith, length-readable s))
-
-  pub readable-out : (p : List ℕ) → p ∈ readable s → (i : ℕ) × (i < arcCount s) × (arcPath s i ≡ p)
-  unfolding arcPath
-  readable-out p m = (
-    place p (readable s),
-    omega (arith, length-readable s, place-bound p (readable s) m),
-    place-get p (readable s) m,
-  )
-
--- "Arcs rise by target, then predecessor."
-abbrev pub Rises : List ℕ → ℕ → Type 0
-Rises s i =
-    (arcTarget s i < arcTarget s (i + 1))
-    ⊎ ((arcTarget s i ≡ arcTarget s (i + 1)) × (arcBefore s i < arcBefore s (i + 1)))
 
 -- ---- what was tested of each node and arc
 module _ (k : ℕ) (s : List ℕ) (yes : wellMade k s ≡ true) where
@@ -138,30 +108,8 @@ module _ (k : ℕ) (s : List ℕ) (yes : wellMade k s ≡ true) where
         let l : T (not (long (arcPath s i))) = search reads in
         omega (arith, nltb→le 64 (suc (length (arcPath s i))) l)
 
-    pub arc-rises : i + 1 < arcCount s → Rises s i
-    unfolding risesTest
-    arc-rises more = go (or-cases (leb (arcCount s) (i + 1)) _ (passed (risesTest s i) rises))
-      where
-        rises : risesTest s i ≡ true
-        rises = and-right (arcTest k s i) (risesTest s i) both-tests
-
-        go : T (leb (arcCount s) (i + 1))
-            ⊎ T (before (arcTarget s i ∷ arcBefore s i ∷ []) (arcTarget s (i + 1) ∷ arcBefore s (i + 1) ∷ []))
-            → Rises s i
-        go (inl t) = absurd (omega (arith, leb→le (arcCount s) (i + 1) t))
-        go (inr t) =
-            let b : ℕ = arcBefore s i in
-            let c : ℕ = arcBefore s (i + 1) in
-            elim (before-cases (arcTarget s i) (arcTarget s (i + 1)) (b ∷ []) (c ∷ []) t) [
-              | inl l ↦ inl l
-              | inr e ↦ elim (before-cases b c [] [] (e .1)) [ inl l ↦ inr (e .0, l) | inr f ↦ absurd (f .1) ]
-            ]
-
   present : presentTest s ≡ true
   present = and-left (presentTest s) (nodesTest k s 0) first-tests
-
-  pub few-nodes : nodeCount s ≤ 16383
-  few-nodes = present-nodes s present
 
   pub few-arcs : arcCount s ≤ 16383
   few-arcs = present-arcs s present
@@ -214,29 +162,4 @@ module _ (k : ℕ) (s : List ℕ) (yes : wellMade k s ≡ true) where
       (arcTarget s i)
       (node-within (arcBefore s i) (arc-known i h))
       (arc-listed i h))
-
   -- ---- targets rise
-  target-next : (i : ℕ) → i + 1 < arcCount s → arcTarget s i ≤ arcTarget s (i + 1)
-  target-next i h =
-      elim (arc-rises i (omega arith) h) [ inl l ↦ omega arith | inr e ↦ omega (arith, e .0) ]
-
-  pub targets-rise : (i j : ℕ) → i ≤ j → j < arcCount s → arcTarget s i ≤ arcTarget s j
-  targets-rise i zero h g = subst (λ n. arcTarget s n ≤ arcTarget s 0) (omega arith) (le-refl (arcTarget s 0))
-  targets-rise i (suc j) h g = either (leb i j) (earlier (targets-rise i j)) last
-    where
-      earlier : (i ≤ j → j < arcCount s → arcTarget s i ≤ arcTarget s j) → T (leb i j)
-          → arcTarget s i ≤ arcTarget s (suc j)
-      earlier ih t =
-          let a = ih (leb→le i j t) (omega arith) in
-          let b = subst (λ n. arcTarget s j ≤ arcTarget s n) (add-one j) (target-next j (omega arith)) in
-          omega arith
-
-      last : T (not (leb i j)) → arcTarget s i ≤ arcTarget s (suc j)
-      last t =
-          let l = nleb→lt i j t in
-          subst (λ n. arcTarget s n ≤ arcTarget s (suc j)) (omega arith) (le-refl (arcTarget s (suc j)))
-
-  -- arcs with one target stand together
-  pub together : (b i j l : ℕ) → i ≤ j → j ≤ l → l < arcCount s → arcTarget s i ≡ b → arcTarget s l ≡ b
-      → arcTarget s j ≡ b
-  together b i j l h g m e f = omega (arith, targets-rise i j h (omega arith), targets-rise j l g m)
