@@ -7,10 +7,11 @@ ghost use Rattle.reading.specs.Reading.{readReply, readWords};
 ghost use Rattle.tables.specs.Building.{buildReply, buildWords};
 ghost use Rattle.checking.specs.Question10.{tablesNumber};
 ghost use Rattle.alone.specs.Drawn.{aloneNumber};
-ghost use Rattle.direct.specs.Direct.{directReply, directWords};
-ghost use Rattle.storing.specs.Storing.{storeReply, storeAfter};
-ghost use Rattle.asking.specs.Asking.{askReply, askWords};
-ghost use Rattle.host.specs.Packed.{packed, packedReply, packedCount, packedPlace};
+ghost use Rattle.promises.specs.DirectQuery.{directReply, directWords};
+ghost use Rattle.promises.specs.StoreCall.{storeReply, storeAfter};
+ghost use Rattle.promises.specs.Query.{askReply, askWords};
+ghost use Rattle.promises.specs.Packed.{packed, packedReply, packedCount};
+ghost use Rattle.host.specs.Packed.{packedPlace};
 use reading::Reply;
 
 // What 1 in the upper half of a reply counts.
@@ -144,7 +145,9 @@ pub extern "C" fn dairyepoch_line_trips(lines: &[u16], work: &mut [u32], line: u
     ensures { λ r. ⌜ r ≡ packedPlace (now (lines .entry)) (length (now (work .entry))) line ⌝ }
 {
     let place = alone::line_place(lines, work, line);
-    pack(place.number, place.start * PIECE + place.count)
+    let trips = alone::line_trips(lines, work, line);
+    let count = trips.len();
+    pack(place.number, place.start * PIECE + count as u32)
 }
 
 // Makes the store of a source.

@@ -1,5 +1,8 @@
+pub mod Packed
+pub mod Query
+pub mod DirectQuery
+pub mod StoreCall
 pub mod Promises
-pub mod Calls
-pub mod Cases
-pub mod Replied
-pub mod CaseProofs
+pub mod Shown
+pub mod FromWords
+pub mod Proved

@@ -1,2 +1,2 @@
-// The customer's demand 3 and cases a to k, for the calls as they are: what reading, building, the store call and the
-// query answer and write. Definitions only.
+// What the direct query, the store call and the query answer and write, and the customer's demands 2 and 3 for the
+// calls as they are. Definitions only.

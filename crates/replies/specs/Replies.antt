@@ -1,8 +1,8 @@
 -- What a call answers and writes, from the number of its first no and its result. Document 01: "A refusal returns its
 -- number, .. count 0, and writes no word of any result slice. Words past a result keep their values"; "Success has
 -- number 0."
-use mathlib.Core.Path.{_≡_, refl, sym, ap, _∙_}
-use mathlib.Core.Bool.{Bool, true, false, cond}
+use mathlib.Core.Path.{_≡_, refl, ap, _∙_}
+use mathlib.Core.Bool.{cond}
 use mathlib.Core.List.{List, [], _∷_}
 use Prim.Native.Nat.{ℕ, zero, suc}
 use lib.Dec.{eqb, eqb·suc-zero}

@@ -1,6 +1,6 @@
 -- The reply of the read is packed, and the words are those that it left.
 use borrow.Author.Needs.{needs}
-use Rattle.host.specs.Packed.{packed-same}
+use Rattle.promises.specs.Packed.{packed-same}
 use Rattle.host.proofs.dairyepoch_read.Statement.{statement}
 use Rattle.host.proofs.dairyepoch_read.Tie as tie
 

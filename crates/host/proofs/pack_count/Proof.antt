@@ -1,4 +1,4 @@
-use Rattle.host.specs.Packed.{count-done, count-refused}
+use Rattle.promises.specs.Packed.{count-done, count-refused}
 use borrow.Author.Needs.{needs}
 use Rattle.host.proofs.pack_count.Statement.{statement}
 use Rattle.host.proofs.pack_count.Tie as tie

@@ -1,6 +1,6 @@
 -- Two cases: number 0 with a count and no line, or a number with its line and no count.
 use borrow.Author.Needs.{needs}
-use Rattle.host.specs.Packed.{packed-done, packed-refused}
+use Rattle.promises.specs.Packed.{packed-done, packed-refused}
 use Rattle.host.proofs.pack_reply.Statement.{statement}
 use Rattle.host.proofs.pack_reply.Tie as tie
 
