@@ -88,8 +88,3 @@ module _
     -- "A store call returns its words, 2 + 2n + 2m"
     pub grown-length : 2 + 2 * n + 2 * m ≡ length (encode ps)
     grown-length = omega (arith, encode-length ps, grown-nodes, grown-arcs)
-
-    -- so the store fits
-    pub grown-fits : TooMany ps → ⊥
-    grown-fits (inl h) = omega (arith, h, grown-nodes, g .few-nodes)
-    grown-fits (inr h) = omega (arith, h, grown-arcs, g .few-arcs)

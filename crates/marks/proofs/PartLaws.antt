@@ -84,17 +84,18 @@ inside-word l begin end x₀ x h k from to same g is = omega (arith, h k from to
 -- ---- words that are set, one after the other
 module _ (whole l x : List ℕ) (k end : ℕ) where
   module _ (f : ℕ → ℕ) (left : whole ≡ fill f (slice k end l) x) where
-    fill-on : k < end → end ≤ length l → (g : ℕ) → g ≡ getD l k 0 → whole ≡ fill f (slice (k + 1) end l) (set x g (f g))
+    fill-on : k < end → end ≤ length l → (g : ℕ) → g ≡ getD l k 0 → (x′ : List ℕ) → x′ ≡ set x g (f g)
+        → whole ≡ fill f (slice (k + 1) end l) x′
     unfolding fill
-    fill-on h room g is = left ∙ rw (slice-cons k end l 0 h room, add-one k, ← is)
+    fill-on h room g is x′ sets = left ∙ rw (slice-cons k end l 0 h room, add-one k, ← is, sets)
 
     fill-done : k ≤ end → end ≤ k → x ≡ whole
     unfolding fill
     fill-done h g = let e : k ≡ end = omega arith in sym (left ∙ rw (e, slice-empty end l))
 
   module _ (left : whole ≡ fill (λ g. unreached) (slice k end l) x) where
-    pub clear-on : k < end → end ≤ length l → (g : ℕ) → g ≡ getD l k 0
-        → whole ≡ fill (λ g. unreached) (slice (k + 1) end l) (set x g unreached)
+    pub clear-on : k < end → end ≤ length l → (g : ℕ) → g ≡ getD l k 0 → (x′ : List ℕ) → x′ ≡ set x g unreached
+        → whole ≡ fill (λ g. unreached) (slice (k + 1) end l) x′
     clear-on = fill-on (λ g. unreached) left
 
     pub clear-done : k ≤ end → end ≤ k → x ≡ whole
@@ -103,10 +104,10 @@ module _ (whole l x : List ℕ) (k end : ℕ) where
   module _ (w : List ℕ) (d : ℕ) (left : whole ≡ fill (rootLabel w d) (slice k end l) x) where
     pub root-on : k < end → (g r : ℕ) → g ≡ getD l k 0 → r ≡ rootLabel w d g → (first : List ℕ)
         → isTimetable w ≡ true → Departures w l first → (c : ℕ) → c ≤ stationCount w → end ≡ getD first (c + 1) 0
-        → whole ≡ fill (rootLabel w d) (slice (k + 1) end l) (set x g r)
-    root-on h g r is label first ok held c listed to =
+        → (x′ : List ℕ) → x′ ≡ set x g r → whole ≡ fill (rootLabel w d) (slice (k + 1) end l) x′
+    root-on h g r is label first ok held c listed to x′ sets =
         let room = end-inside w l first ok held c listed (getD first c 0) end refl to in
-        rw label (fill-on (rootLabel w d) left h room g is)
+        fill-on (rootLabel w d) left h room g is x′ (sets ∙ ap (set x g) label)
 
     pub root-done : k ≤ end → end ≤ k → (x₀ : List ℕ) (a : ℕ) → whole ≡ fill (rootLabel w d) (waiting w a) x₀
         → length x₀ ≡ 2048 → isTimetable w ≡ true → Labelled w a d [] a x
@@ -121,10 +122,11 @@ root-start w chain first ok held c listed begin end from to d x =
 
 -- ---- words that fall
 module _ (whole l x : List ℕ) (k end low : ℕ) (left : whole ≡ fall low (slice k end l) x) where
-  pub settle-on : k < end → end ≤ length l → (g r : ℕ) → g ≡ getD l k 0 → r ≡ min low (getD x g 0)
-      → whole ≡ fall r (slice (k + 1) end l) (set x g r)
+  pub settle-on : k < end → end ≤ length l → (g u r : ℕ) → g ≡ getD l k 0 → u ≡ getD x g 0 → r ≡ min low u
+      → (x′ : List ℕ) → x′ ≡ set x g r → whole ≡ fall r (slice (k + 1) end l) x′
   unfolding fall
-  settle-on h room g r is least = left ∙ rw (slice-cons k end l 0 h room, add-one k, least, is)
+  settle-on h room g u r is word least x′ sets =
+      left ∙ rw (slice-cons k end l 0 h room, add-one k, sets, least, word, is)
 
   pub settle-done : k ≤ end → end ≤ k → x ≡ whole
   unfolding fall

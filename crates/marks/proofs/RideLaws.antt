@@ -9,12 +9,13 @@ use borrow.Author.Tests.{lt-ltb, le-ltb, eq-eqb, ne-eqb}
 use lib.Dec.{ltb, eqb, ltb→lt}
 use lib.ListN.{getD}
 use Rattle.lists.specs.Tests.{and-l}
-use Rattle.timetable.specs.Timetable.{Stop, Station}
-use Rattle.timetable.specs.Words.{stationCount, stationAt, stopAt, isTimetable}
+use Rattle.timetable.specs.Timetable.{Stop}
+use Rattle.timetable.specs.Words.{stationCount, stopAt, isTimetable}
 use Rattle.timetable.specs.Access.{stations-few}
 use Rattle.stopwise.specs.Stopwise.{station, depart, points, changePoints, unreached, Goes}
 use Rattle.stopwise.specs.TimelyLaws.{timely}
-use Rattle.marks.specs.Arrays.{lower, raised}
+use Rattle.points.specs.Lowered.{lowered}
+use Rattle.marks.specs.Arrays.{raised}
 use Rattle.marks.specs.Walks.{Visit, visit, onwardPoints, goesOn, visits, boarding, run, offer, flag, endsWell}
 use Rattle.marks.specs.Walks.{changesWell}
 use Rattle.marks.specs.Held.{goes-few}
@@ -25,17 +26,17 @@ and-false false = refl
 
 module _ (w : List ℕ) (c : ℕ) (x : List ℕ) (i : ℕ) (act : Visit → List ℕ → List ℕ) (s : List ℕ) where
   -- who cannot board arrives nowhere
-  pub not-boarded : unreached ≤ getD x i 0 → s ≡ run act (boarding w c x i) s
+  pub not-boarded : (y : ℕ) → y ≡ getD x i 0 → unreached ≤ y → s ≡ run act (boarding w c x i) s
   unfolding run boarding
-  not-boarded h = rw (le-ltb (getD x i 0) unreached h)
+  not-boarded y is h = rw (le-ltb (getD x i 0) unreached (rw is at h))
 
-  pub boards-cheap : getD x i 0 < unreached → getD x i 0 ≤ 3166900 + 100 * i
-  boards-cheap h = omega arith
-
-  pub boarded : getD x i 0 < unreached
-      → run act (boarding w c x i) s ≡ run act (visits w c (2048 - i) i (getD x i 0)) s
+  pub boarded : (y : ℕ) (s′ : List ℕ) → y ≡ getD x i 0 → y < unreached
+      → s′ ≡ run act (visits w c (2048 - i) i y) s → s′ ≡ run act (boarding w c x i) s
   unfolding boarding
-  boarded h = rw (lt-ltb (getD x i 0) unreached h)
+  boarded y s′ is h does = does ∙ rw (is, lt-ltb (getD x i 0) unreached (rw is at h))
+
+pub boards-cheap : (y i : ℕ) → y < unreached → y ≤ 3166900 + 100 * i
+boards-cheap y i h = omega arith
 
 -- ---- bounds
 module _ (w : List ℕ) (ok : isTimetable w ≡ true) (j : ℕ) (goes : Goes w j) where
@@ -49,14 +50,14 @@ module _ (w : List ℕ) (ok : isTimetable w ≡ true) (j : ℕ) (goes : Goes w j
   nearer = omega (arith, next-few)
 
   module _ (p y : ℕ) (is : p ≡ points w j) (most : y ≤ 3166900 + 100 * j) where
-    pub more-most : y + p ≤ 3166900 + 100 * (j + 1)
-    more-most = omega (arith, timely w ok .cheap j goes)
+    pub more-most : (z : ℕ) → z ≡ y + p → z ≤ 3166900 + 100 * (j + 1)
+    more-most z adds = omega (arith, timely w ok .cheap j goes)
 
     pub more-fits : y + p < 2 ^ 32
-    more-fits = omega (arith, more-most, next-few)
+    more-fits = omega (arith, more-most (y + p) refl, next-few)
 
-    pub more-small : y + p < 4000000
-    more-small = omega (arith, more-most, next-few)
+    pub more-small : (z : ℕ) → z ≡ y + p → z < 4000000
+    more-small z adds = omega (arith, more-most z adds, next-few)
 
   next-same : station w (j + 1) ≡ station w (suc j)
   next-same = ap (station w) (add-one j)
@@ -67,11 +68,11 @@ module _ (w : List ℕ) (ok : isTimetable w ≡ true) (j : ℕ) (goes : Goes w j
   pub next-listed : station w (j + 1) ≤ stationCount w
   next-listed = omega (arith, timely w ok .next-listed j goes, next-same)
 
-pub points-of : (w : List ℕ) (j : ℕ) (t : Stop) → t ≡ stopAt w j → t .points ≡ points w j
-points-of w j t is = ap (λ (z : Stop). z .points) is
+pub points-of : (w : List ℕ) (j p : ℕ) (t : Stop) → t ≡ stopAt w j → p ≡ t .points → p ≡ points w j
+points-of w j p t is e = e ∙ ap (λ (z : Stop). z .points) is
 
-pub cost-room : (w : List ℕ) → isTimetable w ≡ true → (e : ℕ) → 1 ≤ e → e ≤ stationCount w → e - 1 < 64
-cost-room w ok e some listed = omega (arith, stations-few w ok)
+pub cost-room : (w : List ℕ) → isTimetable w ≡ true → (e : ℕ) → e ≤ stationCount w → e ≤ 64
+cost-room w ok e listed = omega (arith, stations-few w ok)
 
 -- ---- the ride onward
 module _ (s : Stop) (c : ℕ) where
@@ -85,9 +86,9 @@ module _ (s : Stop) (c : ℕ) where
   pub onward-back : s .station ≡ c → 101 ≡ onwardPoints s c
   onward-back h = onward-not (rw (eq-eqb (s .station) c h) (and-false (ltb 0 (s .depart))))
 
-  pub onward-on : (s .depart ≡ 0 → ⊥) → (s .station ≡ c → ⊥) → s .points ≡ onwardPoints s c
+  pub onward-on : (p : ℕ) → (s .depart ≡ 0 → ⊥) → (s .station ≡ c → ⊥) → p ≡ s .points → p ≡ onwardPoints s c
   unfolding onwardPoints
-  onward-on h g = rw (lt-ltb 0 (s .depart) (omega arith), ne-eqb (s .station) c g)
+  onward-on p h g is = rw (is, lt-ltb 0 (s .depart) (omega arith), ne-eqb (s .station) c g)
 
 -- the stop read is the one that is meant
 pub same-onward : (w : List ℕ) (j c r : ℕ) (s : Stop) → s ≡ stopAt w j → r ≡ onwardPoints s c
@@ -139,36 +140,37 @@ module _
     (c : ℕ)
     (act : Visit → List ℕ → List ℕ)
     (whole s s′ : List ℕ)
-    (j y p r : ℕ)
+    (j y p z r : ℕ)
     (left : whole ≡ run act (visits w c (2048 - j) j y) s)
     (goes : Goes w j)
     (is : p ≡ points w j)
-    (does : s′ ≡ act (visit (j + 1) (y + p)) s)
+    (adds : z ≡ y + p)
+    (does : s′ ≡ act (visit (j + 1) z) s)
     (next : r ≡ onwardPoints (stopAt w (j + 1)) c)
   where
-    turn : whole ≡ run act (cond (goesOn w c (j + 1)) (visits w c (2048 - (j + 1)) (j + 1) (y + p)) []) s′
+    turn : whole ≡ run act (cond (goesOn w c (j + 1)) (visits w c (2048 - (j + 1)) (j + 1) z) []) s′
     unfolding run visits
     turn =
         let n : 2048 - j ≡ suc (2048 - (j + 1)) = omega (arith, goes-few w ok j goes) in
-        left ∙ rw (n, does, is, add-one j)
+        left ∙ rw (n, does, adds, is, add-one j)
 
     pub ride-ends : r ≡ 101 → s′ ≡ whole
     unfolding run
     ride-ends h = sym (turn ∙ rw (stops-here w ok j goes c r next h))
 
-    pub ride-on : (r ≡ 101 → ⊥) → whole ≡ run act (visits w c (2048 - (j + 1)) (j + 1) (y + p)) s′
+    pub ride-on : (r ≡ 101 → ⊥) → whole ≡ run act (visits w c (2048 - (j + 1)) (j + 1) z) s′
     ride-on h = turn ∙ rw (rides-on w ok j goes c r next h)
 
 -- ---- an arrival
 module _ (w : List ℕ) (j y : ℕ) (s : Stop) (is : s ≡ stopAt w j) where
-  pub offers : (caught x x′ : List ℕ) (c e cost : ℕ) → cost ≡ changePoints w e
-      → x′ ≡ cond (eqb (s .station) e) (lower (getD caught j 0) (y + cost) x) x
+  pub offers : (caught x x′ : List ℕ) (c e cost sum : ℕ) → cost ≡ changePoints w e → sum ≡ y + cost
+      → x′ ≡ cond (eqb (s .station) e) (lowered (getD caught j 0) sum x) x
       → x′ ≡ offer w caught c e (visit j y) x
   unfolding offer
-  offers caught x x′ c e cost costs does =
+  offers caught x x′ c e cost sum costs adds does =
       does
-      ∙ ap (λ (z : Stop). cond (eqb (z .station) e) (lower (getD caught j 0) (y + cost) x) x) is
-      ∙ ap (λ z. cond (eqb (station w j) e) (lower (getD caught j 0) (y + z) x) x) costs
+      ∙ ap (λ (z : Stop). cond (eqb (z .station) e) (lowered (getD caught j 0) sum x) x) is
+      ∙ ap (λ z. cond (eqb (station w j) e) (lowered (getD caught j 0) z x) x) (adds ∙ ap (λ z. y + z) costs)
 
   pub flags-arc : (allowed l l′ : List ℕ) → l′ ≡ raised (ltb y (getD allowed j 0)) (s .station - 1) l
       → l′ ≡ flag w (endsWell allowed) (visit j y) l
@@ -194,6 +196,3 @@ module _ (w : List ℕ) (j y : ℕ) (s : Stop) (is : s ≡ stopAt w j) where
 
   pub here-low : isTimetable w ≡ true → station w j ≤ stationCount w → s .station ≤ 64
   here-low ok h = omega (arith, ap (λ (z : Stop). z .station) is, stations-few w ok)
-
-pub costs-is : (w : List ℕ) (e : ℕ) (s : Station) → s ≡ stationAt w (e - 1) → s .points ≡ changePoints w e
-costs-is w e s is = ap (λ (z : Station). z .points) is

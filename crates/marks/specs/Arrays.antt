@@ -1,5 +1,5 @@
--- What passes over some indices of an array leave in it: words that were set, words that fell to the least so far, a
--- word that was lowered, and a flag that was raised.
+-- What passes over some indices of an array leave in it: words that were set, words that fell to the least so far, and
+-- a flag that was raised.
 use mathlib.Core.Path.{_≡_, refl, sym, ap, subst, _∙_}
 use mathlib.Core.Bool.{Bool, cond}
 use mathlib.Core.Logic.{_≢_, _⊎_, inl, inr}
@@ -8,7 +8,6 @@ use mathlib.Core.List.{Memᴰ·cast}
 use Prim.Native.Nat.{ℕ, _≤_, _<_, min}
 use native.Mathlib.Decide.{ℕ-discrete}
 use native.Mathlib.Omega.{arith}
-use borrow.Author.Tests.{lt-ltb, le-ltb}
 use lib.Dec.{ltb, ltb→lt, nltb→le}
 use lib.ListN.{length, getD, set, length-set}
 use lib.Seq.{getD-set-same, getD-set-other}
@@ -193,46 +192,6 @@ fall-from (k ∷ l) low x g d h i = go (fall-from l m (set x k m) g (d .1) (with
         cons-cases i
         (λ e. so-far (ap (λ j. getD (fall low (k ∷ l) x) j 0) e ∙ fall-here l low x k d (h k (here refl))))
         (λ j. elim (ih j) [ inl e ↦ so-far e | inr r ↦ inr (later r) ])
-
--- ---- a word that was lowered
--- x with word f lowered to v
-unfoldable pub lower : (f v : ℕ) → List ℕ → List ℕ
-lower f v x = cond (ltb v (getD x f 0)) (set x f v) x
-
-module _ (f v : ℕ) (x : List ℕ) where
-  lower-set : v < getD x f 0 → lower f v x ≡ set x f v
-  unfolding lower
-  lower-set h = rw (lt-ltb v (getD x f 0) h)
-
-  lower-kept : getD x f 0 ≤ v → lower f v x ≡ x
-  unfolding lower
-  lower-kept h = rw (le-ltb v (getD x f 0) h)
-
-  pub lower-length : length (lower f v x) ≡ length x
-  lower-length =
-      either
-      (ltb v (getD x f 0))
-      (λ t. ap length (lower-set (ltb→lt v (getD x f 0) t)) ∙ length-set x f v)
-      (λ t. ap length (lower-kept (nltb→le v (getD x f 0) t)))
-
-  pub lower-other : (g : ℕ) → g ≢ f → getD (lower f v x) g 0 ≡ getD x g 0
-  lower-other g other =
-      either
-      (ltb v (getD x f 0))
-      (λ t. ap (λ l. getD l g 0) (lower-set (ltb→lt v (getD x f 0) t)) ∙ getD-set-other x f g v 0 other)
-      (λ t. ap (λ l. getD l g 0) (lower-kept (nltb→le v (getD x f 0) t)))
-
-  module _ (h : f < length x) where
-    pub lower-here : getD (lower f v x) f 0 ≡ min (getD x f 0) v
-    lower-here =
-        either
-        (ltb v (getD x f 0))
-        (λ t.
-        let k = ltb→lt v (getD x f 0) t in
-        omega (arith, ap (λ l. getD l f 0) (lower-set k), getD-set-same x f v 0 h))
-        (λ t.
-        let k = nltb→le v (getD x f 0) t in
-        omega (arith, ap (λ l. getD l f 0) (lower-kept k)))
 
 -- ---- a flag that was raised
 -- l with word k set to 1, if the test passes

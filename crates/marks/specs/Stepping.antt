@@ -20,10 +20,10 @@ use Rattle.stopwise.specs.LeastSettled.{arrived-behind}
 use Rattle.chains.specs.Order.{firstOr, waiting, catch}
 use Rattle.chains.specs.InOrderLaws.{caught-there}
 use Rattle.chains.specs.Parts.{waiting-in, waiting-out, waiting-behind, waiting-distinct}
+use Rattle.points.specs.Lowered.{lowered, lowered-length, lowered-else, lowered-here}
 use Rattle.marks.specs.Arrays.{fill, fill-length, fill-in, fill-out, Within, fall, fall-out, fall-top, fall-below}
 use Rattle.marks.specs.Arrays.{Behind}
-use Rattle.marks.specs.Arrays.{behind-later, behind-in, From, fall-from, lower, lower-length, lower-other}
-use Rattle.marks.specs.Arrays.{lower-here}
+use Rattle.marks.specs.Arrays.{behind-later, behind-in, From, fall-from}
 use Rattle.marks.specs.Walks.{Visit, visit, boarding, boardings, run, rootLabel, offer, rides, stepped}
 use Rattle.marks.specs.Held.{Changes, goes-few}
 use Rattle.marks.specs.Reaching.{boardsAt, boarding-stops, boardings-arrived, boardings-least}
@@ -51,7 +51,7 @@ module _ (w caught : List ℕ) (c e : ℕ) where
   abbrev cost : Visit → ℕ
   cost v = v .paid + changePoints w e
 
-  offer-there : (v : Visit) (x : List ℕ) → station w (v .stop) ≡ e → act v x ≡ lower (to v) (cost v) x
+  offer-there : (v : Visit) (x : List ℕ) → station w (v .stop) ≡ e → act v x ≡ lowered (to v) (cost v) x
   unfolding offer
   offer-there v x h = rw (eq-eqb (station w (v .stop)) e h)
 
@@ -62,7 +62,7 @@ module _ (w caught : List ℕ) (c e : ℕ) where
   pub offer-length : (v : Visit) (x : List ℕ) → length (act v x) ≡ length x
   offer-length v x =
       elim (ℕ-discrete (station w (v .stop)) e) [
-        | yes h ↦ ap length (offer-there v x h) ∙ lower-length (to v) (cost v) x
+        | yes h ↦ ap length (offer-there v x h) ∙ lowered-length x (to v) (cost v)
         | no h ↦ ap length (offer-elsewhere v x h)
       ]
 
@@ -76,7 +76,7 @@ module _ (w caught : List ℕ) (c e : ℕ) where
       elim (ℕ-discrete (station w (v .stop)) e) [
         | yes h ↦
             ap (λ l. getD l g 0) (offer-there v x h)
-            ∙ lower-other (to v) (cost v) x g (λ q. none (record { there-e = h; is = sym q }))
+            ∙ lowered-else x (to v) (cost v) g (λ q. none (record { there-e = h; is = sym q }))
         | no h ↦ ap (λ l. getD l g 0) (offer-elsewhere v x h)
       ]
 
@@ -84,7 +84,7 @@ module _ (w caught : List ℕ) (c e : ℕ) where
       → getD (act v x) g 0 ≡ min (getD x g 0) (cost v)
   offer-here v x g o h =
       subst (λ k. k < length x → getD (act v x) k 0 ≡ min (getD x k 0) (cost v)) (o .is)
-      (λ k. ap (λ l. getD l (to v) 0) (offer-there v x (o .there-e)) ∙ lower-here (to v) (cost v) x k)
+      (λ k. ap (λ l. getD l (to v) 0) (offer-there v x (o .there-e)) ∙ lowered-here x (to v) (cost v))
       h
 
   offers-or : (v : Visit) (g : ℕ) → Offers v g ⊎ (¬ Offers v g)

@@ -9,7 +9,8 @@ use Rattle.lists.specs.Lists.{concatMap}
 use Rattle.timetable.specs.Timetable.{Stop}
 use Rattle.stopwise.specs.Stopwise.{station, depart, points, changePoints, unreached}
 use Rattle.chains.specs.Order.{waiting}
-use Rattle.marks.specs.Arrays.{fill, fall, lower, raised}
+use Rattle.points.specs.Lowered.{lowered}
+use Rattle.marks.specs.Arrays.{fill, fall, raised}
 
 -- one arrives at a stop, having paid so much
 pub record Visit : Type 0 where
@@ -56,7 +57,7 @@ module _ (w catch : List ℕ) (c e : ℕ) where
   -- who arrives at station e can change to the departure caught
   unfoldable pub offer : Visit → List ℕ → List ℕ
   offer v x =
-      cond (eqb (station w (v .stop)) e) (lower (getD catch (v .stop) 0) (v .paid + changePoints w e) x) x
+      cond (eqb (station w (v .stop)) e) (lowered (getD catch (v .stop) 0) (v .paid + changePoints w e) x) x
 
   -- all who board at the stops of a list, one after the other
   unfoldable pub rides : (l x : List ℕ) → List ℕ

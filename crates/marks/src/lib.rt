@@ -5,7 +5,7 @@ ghost use mathlib.Core.Path.{_≡_};
 ghost use mathlib.Core.Bool.{true, cond};
 ghost use mathlib.Core.Logic.{_≢_};
 ghost use mathlib.Core.List.{[]};
-ghost use Prim.Native.Nat.{_+_, _-_, _≤_, _<_, min};
+ghost use Prim.Native.Nat.{_+_, _-_, _≤_, _<_};
 ghost use lib.Dec.{ltb, eqb};
 ghost use lib.ListN.{length, getD};
 ghost use lib.Seq.{slice};
@@ -13,10 +13,12 @@ ghost use Rattle.timetable.specs.Words.{stationCount, stopAt, isTimetable};
 ghost use Rattle.stopwise.specs.Stopwise.{station, changePoints, unreached, Goes};
 ghost use Rattle.stopwise.specs.Paid.{Labelled};
 ghost use Rattle.chains.specs.Order.{waiting};
-ghost use Rattle.marks.specs.Arrays.{fill, fall, lower, raised};
+ghost use Rattle.points.specs.Lowered.{lowered};
+ghost use Rattle.marks.specs.Arrays.{fill, fall, raised};
 ghost use Rattle.marks.specs.Walks.{
   onwardPoints,
   visit,
+  visits,
   boarding,
   run,
   rootLabel,
@@ -30,13 +32,12 @@ ghost use Rattle.marks.specs.Held.{Departures, Changes, Inside};
 ghost use Rattle.marks.specs.Stepping.{Steps};
 ghost use Rattle.marks.specs.Marking.{ArcsMarked, KidsMarked};
 ghost use Rattle.marks.specs.Paths.{changed, reached, Path};
+use points::UNREACHED;
+use results::Points;
 use timetable::Stop;
 
-// More than anyone on the way has paid.
-const UNREACHED: u32 = 3166901;
-
 // More than any ride from a stop to the next costs.
-const NO_MORE: u32 = 101;
+const NO_MORE: Points = Points(101);
 
 // Where the departures of station c begin.
 fn begin_of(first: &[u32], c: usize) -> usize
@@ -46,26 +47,17 @@ fn begin_of(first: &[u32], c: usize) -> usize
     first[c] as usize
 }
 
-fn lesser(a: u32, b: u32) -> u32
-    ensures { λ r. ⌜ r ≡ min a b ⌝ }
-{
-    if b < a {
-        return b;
-    }
-    a
-}
-
 // ---- the labels of the root
 
 // The label of stop g, at the source.
-fn root_label(words: &[u16], g: usize, d: usize) -> u32
+fn root_label(words: &[u16], g: usize, d: usize) -> Points
     requires { ⌜ (16384 ≤ length (now words)) × (isTimetable (now words) ≡ true) × (g < 2048) ⌝ }
-    ensures { λ r. ⌜ r ≡ rootLabel (now (words .entry)) d g ⌝ }
+    ensures { λ r. ⌜ r .0 ≡ rootLabel (now (words .entry)) d g ⌝ }
 {
     if (timetable::stop_at(words, g).depart as usize) < d {
         return UNREACHED;
     }
-    0
+    Points(0)
 }
 
 // The labels of the source, where riders start from minute d on.
@@ -87,7 +79,7 @@ pub fn label_root(
     let end = begin_of(first, source + 1);
     while k < end {
         let g = words::word(chain, k) as usize;
-        x[g] = root_label(words, g, d);
+        points::put(x, g, root_label(words, g, d));
         k += 1;
     }
 }
@@ -103,39 +95,27 @@ fn clear(chain: &[u16], begin: usize, end: usize, x: &mut [u32])
     let mut k = begin;
     while k < end {
         let g = words::word(chain, k) as usize;
-        x[g] = UNREACHED;
+        points::put(x, g, UNREACHED);
         k += 1;
     }
 }
 
-// Lowers word f of x to v; past the end there is none.
-fn lower_to(x: &mut [u32], f: usize, v: u32)
-    ensures { λ _. ⌜ now (x .exit) ≡ lower f v (now (x .entry)) ⌝ }
-    ensures { λ _. ⌜ length (now (x .exit)) ≡ length (now (x .entry)) ⌝ }
-{
-    if f < x.len() {
-        if v < x[f] {
-            x[f] = v;
-        }
-    }
-}
-
 // Who arrives at stop j, at station b, can change there for v if b is e.
-fn offer(catch: &[u16], e: usize, b: usize, j: usize, v: u32, x: &mut [u32])
+fn offer(catch: &[u16], e: usize, b: usize, j: usize, v: Points, x: &mut [u32])
     requires { ⌜ j < length (now catch) ⌝ }
     ensures { λ _. ⌜ now (x .exit)
-        ≡ cond (eqb b e) (lower (getD (now (catch .entry)) j 0) v (now (x .entry))) (now (x .entry)) ⌝ }
+        ≡ cond (eqb b e) (lowered (getD (now (catch .entry)) j 0) (v .0) (now (x .entry))) (now (x .entry)) ⌝ }
     ensures { λ _. ⌜ length (now (x .exit)) ≡ length (now (x .entry)) ⌝ }
 {
     if b == e {
-        lower_to(x, words::word(catch, j) as usize, v);
+        points::lower(x, words::word(catch, j) as usize, v);
     }
 }
 
 // The points of the ride onward from a stop, for one who boarded at station c; NO_MORE where the trip ends or comes
 // back to c.
-fn onward(s: Stop, c: usize) -> u32
-    ensures { λ r. ⌜ r ≡ onwardPoints s c ⌝ }
+fn onward(s: Stop, c: usize) -> Points
+    ensures { λ r. ⌜ r .0 ≡ onwardPoints s c ⌝ }
 {
     if s.depart == 0 {
         return NO_MORE;
@@ -143,35 +123,66 @@ fn onward(s: Stop, c: usize) -> u32
     if s.station as usize == c {
         return NO_MORE;
     }
-    s.points
+    points::of_ride(s)
 }
 
 // One who boarded at station c arrives at stop j, having paid y, and can change at station e, which costs so much.
-// Answers the points of the ride onward.
+// Returns the points of the ride onward.
 fn ride_turn(
     words: &[u16],
     catch: &[u16],
     c: usize,
     e: usize,
-    cost: u32,
+    cost: Points,
     j: usize,
-    y: u32,
+    y: Points,
     x: &mut [u32],
-) -> u32
+) -> Points
     requires { ⌜ (16384 ≤ length (now words)) × (isTimetable (now words) ≡ true) × (j < 2048) ⌝ }
-    requires { ⌜ (cost ≡ changePoints (now words) e) × (cost ≤ 1000) × (y < 4000000) ⌝ }
+    requires { ⌜ (cost .0 ≡ changePoints (now words) e) × (cost .0 ≤ 1000) × (y .0 < 4000000) ⌝ }
     requires { ⌜ (length (now catch) ≡ 2048) × (length (now x) ≡ 2048) ⌝ }
     ensures { λ _. ⌜ now (x .exit)
-        ≡ offerOf (now (words .entry)) (now (catch .entry)) c e (visit j y) (now (x .entry)) ⌝ }
-    ensures { λ r. ⌜ r ≡ onwardPoints (stopAt (now (words .entry)) j) c ⌝ }
+        ≡ offerOf (now (words .entry)) (now (catch .entry)) c e (visit j (y .0)) (now (x .entry)) ⌝ }
+    ensures { λ r. ⌜ r .0 ≡ onwardPoints (stopAt (now (words .entry)) j) c ⌝ }
     ensures { λ _. ⌜ length (now (x .exit)) ≡ 2048 ⌝ }
 {
     let s = timetable::stop_at(words, j);
-    offer(catch, e, s.station as usize, j, y + cost, x);
+    offer(catch, e, s.station as usize, j, points::plus(y, cost), x);
     onward(s, c)
 }
 
-// Who boards at stop i, at station c, rides on until the trip ends or comes back to c, and can change at station e.
+// One who boards at stop i, at station c, having paid so much, rides on until the trip ends or comes back to c, and can
+// change at station e.
+fn ride_on(words: &[u16], catch: &[u16], c: usize, e: usize, i: usize, paid: Points, x: &mut [u32])
+    requires { ⌜ (16384 ≤ length (now words))
+        × (isTimetable (now words) ≡ true)
+        × Goes (now words) i
+        × (i < 2048)
+        × (paid .0 < unreached)
+        × (1 ≤ e)
+        × (e ≤ stationCount (now words))
+        × (length (now catch) ≡ 2048)
+        × (length (now x) ≡ 2048) ⌝ }
+    ensures { λ _. ⌜ now (x .exit)
+        ≡ run (offerOf (now (words .entry)) (now (catch .entry)) c e)
+        (visits (now (words .entry)) c (2048 - i) i (paid .0)) (now (x .entry)) ⌝ }
+    ensures { λ _. ⌜ length (now (x .exit)) ≡ 2048 ⌝ }
+{
+    let cost = points::of_change(words, e);
+    let mut y = paid;
+    let mut ride = points::of_ride(timetable::stop_at(words, i));
+    let mut j = i;
+    loop {
+        y = points::plus(y, ride);
+        j += 1;
+        ride = ride_turn(words, catch, c, e, cost, j, y, x);
+        if ride.0 == NO_MORE.0 {
+            return;
+        }
+    }
+}
+
+// Who can board at stop i, at station c, rides on and can change at station e.
 fn ride_to(words: &[u16], catch: &[u16], c: usize, e: usize, i: usize, x: &mut [u32])
     requires { ⌜ (16384 ≤ length (now words)) × (isTimetable (now words) ≡ true) × Goes (now words) i ⌝ }
     requires { ⌜ (1 ≤ e) × (e ≤ stationCount (now words)) × (i < 2048) ⌝ }
@@ -181,21 +192,11 @@ fn ride_to(words: &[u16], catch: &[u16], c: usize, e: usize, i: usize, x: &mut [
         (boarding (now (words .entry)) c (now (x .entry)) i) (now (x .entry)) ⌝ }
     ensures { λ _. ⌜ length (now (x .exit)) ≡ 2048 ⌝ }
 {
-    let mut y = x[i];
-    if UNREACHED <= y {
+    let paid = points::get(x, i);
+    if UNREACHED.0 <= paid.0 {
         return;
     }
-    let cost = timetable::station_at(words, e - 1).points;
-    let mut points = timetable::stop_at(words, i).points;
-    let mut j = i;
-    loop {
-        y += points;
-        j += 1;
-        points = ride_turn(words, catch, c, e, cost, j, y, x);
-        if points == NO_MORE {
-            return;
-        }
-    }
+    ride_on(words, catch, c, e, i, paid, x);
 }
 
 // All who board at station c.
@@ -224,7 +225,7 @@ fn ride_all(
     }
 }
 
-// Who can board at one of the places begin up to end can board at those behind it.
+// Who can board at one of the places begin up to end can board at those after it.
 fn settle(chain: &[u16], begin: usize, end: usize, x: &mut [u32])
     requires { ⌜ (begin ≤ end) × (end ≤ length (now chain)) × Inside (now chain) begin end (now x) ⌝ }
     ensures { λ _. ⌜ now (x .exit) ≡ fall unreached (slice begin end (now (chain .entry))) (now (x .entry)) ⌝ }
@@ -234,8 +235,8 @@ fn settle(chain: &[u16], begin: usize, end: usize, x: &mut [u32])
     let mut k = begin;
     while k < end {
         let g = words::word(chain, k) as usize;
-        low = lesser(low, x[g]);
-        x[g] = low;
+        low = points::lesser(low, points::get(x, g));
+        points::put(x, g, low);
         k += 1;
     }
 }
@@ -264,7 +265,7 @@ pub fn label_step(
     settle(chain, begin, end, x);
 }
 
-// The labels behind the first k changes of a path.
+// The labels after the first k changes of a path.
 pub fn label_path(
     words: &[u16],
     chain: &[u16],
@@ -297,25 +298,25 @@ pub fn label_path(
 
 // ---- the marks of a node
 
-// Raises the flag of station b if the number is below the bound.
-fn raise(flags: &mut [u8], b: usize, number: u32, bound: u32)
+// Raises the flag of station b if less than the bound was paid.
+fn raise(flags: &mut [u8], b: usize, paid: Points, bound: Points)
     requires { ⌜ (1 ≤ b) × (b ≤ 64) × (length (now flags) ≡ 64) ⌝ }
-    ensures { λ _. ⌜ now (flags .exit) ≡ raised (ltb number bound) (b - 1) (now (flags .entry)) ⌝ }
+    ensures { λ _. ⌜ now (flags .exit) ≡ raised (ltb (paid .0) (bound .0)) (b - 1) (now (flags .entry)) ⌝ }
     ensures { λ _. ⌜ length (now (flags .exit)) ≡ 64 ⌝ }
 {
-    if number < bound {
+    if paid.0 < bound.0 {
         flags[b - 1] = 1;
     }
 }
 
-// Word f of q, or 0 past the end.
-fn peek(q: &[u32], f: usize) -> u32
-    ensures { λ r. ⌜ r ≡ getD (now (q .entry)) f 0 ⌝ }
+// The points at place f, or 0 past the end.
+fn peek(q: &[u32], f: usize) -> Points
+    ensures { λ r. ⌜ r .0 ≡ getD (now (q .entry)) f 0 ⌝ }
 {
     if f < q.len() {
-        return q[f];
+        return points::get(q, f);
     }
-    0
+    Points(0)
 }
 
 // The arrival at stop j, at station b, of one who has paid y.
@@ -326,28 +327,28 @@ fn mark_arrival(
     q: &[u32],
     b: usize,
     j: usize,
-    y: u32,
+    y: Points,
     arcs: &mut [u8],
     kids: &mut [u8],
 )
     requires { ⌜ (16384 ≤ length (now words)) × (isTimetable (now words) ≡ true) × (1 ≤ b) × (b ≤ 64) ⌝ }
     requires { ⌜ (length (now catch) ≡ 2048) × (length (now allowed) ≡ 2048) × (j < 2048) ⌝ }
-    requires { ⌜ (b ≤ stationCount (now words)) × (y < 4000000) ⌝ }
+    requires { ⌜ (b ≤ stationCount (now words)) × (y .0 < 4000000) ⌝ }
     requires { ⌜ (length (now arcs) ≡ 64) × (length (now kids) ≡ 64) ⌝ }
     ensures { λ _. ⌜ now (arcs .exit)
-        ≡ raised (ltb y (getD (now (allowed .entry)) j 0)) (b - 1) (now (arcs .entry)) ⌝ }
+        ≡ raised (ltb (y .0) (getD (now (allowed .entry)) j 0)) (b - 1) (now (arcs .entry)) ⌝ }
     ensures { λ _. ⌜ now (kids .exit)
         ≡ raised
-        (ltb (y + changePoints (now (words .entry)) b) (getD (now (q .entry)) (getD (now (catch .entry)) j 0) 0))
+        (ltb (y .0 + changePoints (now (words .entry)) b) (getD (now (q .entry)) (getD (now (catch .entry)) j 0) 0))
         (b - 1) (now (kids .entry)) ⌝ }
     ensures { λ _. ⌜ (length (now (arcs .exit)) ≡ 64) × (length (now (kids .exit)) ≡ 64) ⌝ }
 {
-    raise(arcs, b, y, allowed[j]);
-    let cost = timetable::station_at(words, b - 1).points;
-    raise(kids, b, y + cost, peek(q, words::word(catch, j) as usize));
+    raise(arcs, b, y, points::get(allowed, j));
+    let changed = points::plus(y, points::of_change(words, b));
+    raise(kids, b, changed, peek(q, words::word(catch, j) as usize));
 }
 
-// One who boarded at station c arrives at stop j, having paid y. Answers the points of the ride onward.
+// One who boarded at station c arrives at stop j, having paid y. Returns the points of the ride onward.
 fn mark_turn(
     words: &[u16],
     catch: &[u16],
@@ -355,20 +356,20 @@ fn mark_turn(
     q: &[u32],
     c: usize,
     j: usize,
-    y: u32,
+    y: Points,
     arcs: &mut [u8],
     kids: &mut [u8],
-) -> u32
-    requires { ⌜ (16384 ≤ length (now words)) × (isTimetable (now words) ≡ true) × (j < 2048) × (y < 4000000) ⌝ }
+) -> Points
+    requires { ⌜ (16384 ≤ length (now words)) × (isTimetable (now words) ≡ true) × (j < 2048) × (y .0 < 4000000) ⌝ }
     requires { ⌜ (1 ≤ station (now words) j) × (station (now words) j ≤ stationCount (now words)) ⌝ }
     requires { ⌜ (length (now catch) ≡ 2048) × (length (now allowed) ≡ 2048) ⌝ }
     requires { ⌜ (length (now arcs) ≡ 64) × (length (now kids) ≡ 64) ⌝ }
     ensures { λ _. ⌜ now (arcs .exit)
-        ≡ flag (now (words .entry)) (endsWell (now (allowed .entry))) (visit j y) (now (arcs .entry)) ⌝ }
+        ≡ flag (now (words .entry)) (endsWell (now (allowed .entry))) (visit j (y .0)) (now (arcs .entry)) ⌝ }
     ensures { λ _. ⌜ now (kids .exit)
         ≡ flag (now (words .entry)) (changesWell (now (words .entry)) (now (catch .entry)) (now (q .entry)))
-        (visit j y) (now (kids .entry)) ⌝ }
-    ensures { λ r. ⌜ r ≡ onwardPoints (stopAt (now (words .entry)) j) c ⌝ }
+        (visit j (y .0)) (now (kids .entry)) ⌝ }
+    ensures { λ r. ⌜ r .0 ≡ onwardPoints (stopAt (now (words .entry)) j) c ⌝ }
     ensures { λ _. ⌜ (length (now (arcs .exit)) ≡ 64) × (length (now (kids .exit)) ≡ 64) ⌝ }
 {
     let s = timetable::stop_at(words, j);
@@ -386,7 +387,50 @@ fn mark_turn(
     onward(s, c)
 }
 
-// Who boards at stop i, at station c, with labels x, rides on until the trip ends or comes back to c.
+// One who boards at stop i, at station c, having paid so much, rides on until the trip ends or comes back to c.
+fn mark_on(
+    words: &[u16],
+    catch: &[u16],
+    allowed: &[u32],
+    q: &[u32],
+    c: usize,
+    i: usize,
+    paid: Points,
+    arcs: &mut [u8],
+    kids: &mut [u8],
+)
+    requires { ⌜ (16384 ≤ length (now words))
+        × (isTimetable (now words) ≡ true)
+        × Goes (now words) i
+        × (i < 2048)
+        × (paid .0 < unreached)
+        × (length (now catch) ≡ 2048)
+        × (length (now allowed) ≡ 2048)
+        × (length (now arcs) ≡ 64)
+        × (length (now kids) ≡ 64) ⌝ }
+    ensures { λ _. ⌜ now (arcs .exit)
+        ≡ run (flag (now (words .entry)) (endsWell (now (allowed .entry))))
+        (visits (now (words .entry)) c (2048 - i) i (paid .0)) (now (arcs .entry)) ⌝ }
+    ensures { λ _. ⌜ now (kids .exit)
+        ≡ run
+        (flag (now (words .entry)) (changesWell (now (words .entry)) (now (catch .entry)) (now (q .entry))))
+        (visits (now (words .entry)) c (2048 - i) i (paid .0)) (now (kids .entry)) ⌝ }
+    ensures { λ _. ⌜ (length (now (arcs .exit)) ≡ 64) × (length (now (kids .exit)) ≡ 64) ⌝ }
+{
+    let mut y = paid;
+    let mut ride = points::of_ride(timetable::stop_at(words, i));
+    let mut j = i;
+    loop {
+        y = points::plus(y, ride);
+        j += 1;
+        ride = mark_turn(words, catch, allowed, q, c, j, y, arcs, kids);
+        if ride.0 == NO_MORE.0 {
+            return;
+        }
+    }
+}
+
+// Who can board at stop i, at station c, with labels x, rides on.
 fn mark_ride(
     words: &[u16],
     catch: &[u16],
@@ -410,20 +454,11 @@ fn mark_ride(
         (boarding (now (words .entry)) c (now (x .entry)) i) (now (kids .entry)) ⌝ }
     ensures { λ _. ⌜ (length (now (arcs .exit)) ≡ 64) × (length (now (kids .exit)) ≡ 64) ⌝ }
 {
-    let mut y = x[i];
-    if UNREACHED <= y {
+    let paid = points::get(x, i);
+    if UNREACHED.0 <= paid.0 {
         return;
     }
-    let mut points = timetable::stop_at(words, i).points;
-    let mut j = i;
-    loop {
-        y += points;
-        j += 1;
-        points = mark_turn(words, catch, allowed, q, c, j, y, arcs, kids);
-        if points == NO_MORE {
-            return;
-        }
-    }
+    mark_on(words, catch, allowed, q, c, i, paid, arcs, kids);
 }
 
 // Raises in arcs the flag of each station where a rider who boards at station c, with labels x, ends well, and in kids

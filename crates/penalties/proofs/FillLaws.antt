@@ -9,8 +9,9 @@ use Rattle.stopwise.specs.Stopwise.{unreached}
 use Rattle.penalties.specs.Sweeping.{Blank, blank}
 
 module _ (old l : List ℕ) (k : ℕ) (is : l ≡ replicate k unreached ++ drop k old) where
-  pub one-more : k < length old → set l k unreached ≡ replicate (k + 1) unreached ++ drop (k + 1) old
-  one-more h = rw is (fill-more k unreached old h)
+  pub one-more : (l′ : List ℕ) → k < length old → l′ ≡ set l k unreached
+      → l′ ≡ replicate (k + 1) unreached ++ drop (k + 1) old
+  one-more l′ h e = e ∙ rw is (fill-more k unreached old h)
 
   pub filled : length old ≤ k → 2048 ≤ length old → Blank 2048 l
   filled h g =

@@ -8,7 +8,8 @@ use lib.ListN.{length, getD, set}
 use Rattle.timetable.specs.Timetable.{Stop}
 use Rattle.timetable.specs.Words.{stopAt}
 use Rattle.stopwise.specs.Stopwise.{station, depart, changePoints, unreached}
-use Rattle.penalties.specs.Lowered.{lowered, boarding}
+use Rattle.points.specs.Lowered.{lowered}
+use Rattle.penalties.specs.Boarding.{boarding}
 use Rattle.penalties.specs.Swept.{Turned}
 use Rattle.penalties.specs.Riding.{Departing, unboarded, boarded}
 
@@ -54,14 +55,14 @@ module _ (w caught : List ℕ) (i : ℕ) (v q : List ℕ) (r : Departing w caugh
         pub passed : unreached ≤ b → Turned w a (s .depart) i v q low v q low′
         passed h = rw stop (unboarded w caught a i v q low r low′ (rw stop at waits) b (rw stop at paid) h)
 
-        pub ridden : (v′ q′ : List ℕ) → 2048 ≤ length v
-            → v′ ≡ set v (i + 1) (min unreached (b + s .points))
+        pub ridden : (v′ q′ : List ℕ) (more : ℕ) → 2048 ≤ length v → more ≡ b + s .points
+            → v′ ≡ set v (i + 1) (min unreached more)
             → q′ ≡ lowered
             (getD caught (i + 1) 0)
-            (min unreached (b + s .points) + changePoints w (station w (i + 1)))
+            (min unreached more + changePoints w (station w (i + 1)))
             q
             → Turned w a (s .depart) i v q low v′ q′ low′
-        ridden v′ q′ long rode offered =
+        ridden v′ q′ more long adds rode offered =
             rw stop
             (boarded
             w
@@ -79,5 +80,5 @@ module _ (w caught : List ℕ) (i : ℕ) (v q : List ℕ) (r : Departing w caugh
             v′
             q′
             long
-            (rw (stop, add-one i) at rode)
-            (rw (stop, add-one i, r .catches) at offered))
+            (rw (adds, stop, add-one i) at rode)
+            (rw (adds, stop, add-one i, r .catches) at offered))

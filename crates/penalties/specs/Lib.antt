@@ -1,4 +1,4 @@
-pub mod Lowered
+pub mod Boarding
 pub mod Swept
 pub mod Split
 pub mod Underway

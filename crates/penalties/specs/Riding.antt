@@ -12,7 +12,8 @@ use Rattle.timetable.specs.Words.{stationCount}
 use Rattle.stopwise.specs.Stopwise.{station, depart, points, changePoints, unreached, Goes}
 use Rattle.stopwise.specs.Settled.{Timely}
 use Rattle.chains.specs.Order.{catch}
-use Rattle.penalties.specs.Lowered.{lowered, lowered-here, lowered-else, boarding, boards-free, boards-least}
+use Rattle.points.specs.Lowered.{lowered, lowered-here, lowered-else}
+use Rattle.penalties.specs.Boarding.{boarding, boards-free, boards-least}
 use Rattle.penalties.specs.Swept.{Boards, Turned}
 
 -- where the ride begins: no one has arrived by it

@@ -10,26 +10,12 @@ ghost use Rattle.chains.specs.Rising.{minuteAt, Early, InTime};
 ghost use Rattle.penalties.specs.Swept.{Swept, Turned};
 ghost use Rattle.penalties.specs.Sweeping.{Blank};
 ghost use Rattle.penalties.specs.Riding.{Departing};
-ghost use Rattle.penalties.specs.Lowered.{lowered, boarding};
+ghost use Rattle.points.specs.Lowered.{lowered};
+ghost use Rattle.penalties.specs.Boarding.{boarding};
 ghost use Rattle.penalties.specs.Arranged.{Arranged, departures};
+use points::UNREACHED;
+use results::Points;
 use timetable::Stop;
-
-// More than anyone on the way has paid.
-pub const UNREACHED: u32 = 3166901;
-
-// The word at index k becomes x, if it is higher.
-fn lower(a: &mut [u32], k: usize, x: u32)
-    ensures { λ _. ⌜ now (a .exit) ≡ lowered k x (now (a .entry)) ⌝ }
-    ensures { λ _. ⌜ length (now (a .exit)) ≡ length (now (a .entry)) ⌝ }
-{
-    if a.len() <= k {
-        return;
-    }
-    if a[k] <= x {
-        return;
-    }
-    a[k] = x;
-}
 
 // All words become unreached.
 fn fill(a: &mut [u32])
@@ -40,64 +26,53 @@ fn fill(a: &mut [u32])
     let n = a.len();
     let mut k = 0;
     while k < n {
-        a[k] = UNREACHED;
+        points::put(a, k, UNREACHED);
         k += 1;
     }
 }
 
 // The least that one has paid who boards at station c.
-fn boarding(source: usize, c: usize, stay: u32, change: u32) -> u32
-    ensures { λ r. ⌜ r ≡ boarding source c stay change ⌝ }
+fn boarding(source: usize, c: usize, stay: Points, change: Points) -> Points
+    ensures { λ r. ⌜ r .0 ≡ boarding source c (stay .0) (change .0) ⌝ }
 {
     if c == source {
-        return 0;
+        return Points(0);
     }
-    words::lesser(stay, change)
+    points::lesser(stay, change)
 }
 
-// Who has caught departure i, at station c, can board there from now on. Answers the least that one has paid who boards
+// Who has caught departure i, at station c, can board there from now on. Returns the least that one has paid who boards
 // at i.
-fn board(source: usize, c: usize, i: usize, v: &[u32], q: &[u32], low: &mut [u32]) -> u32
+fn board(source: usize, c: usize, i: usize, v: &[u32], q: &[u32], low: &mut [u32]) -> Points
     requires { ⌜ (i < length (now v)) × (i < length (now q)) × (c < length (now low)) ⌝ }
     ensures { λ _. ⌜ now (low .exit) ≡ lowered c (getD (now (q .entry)) i 0) (now (low .entry)) ⌝ }
-    ensures { λ r. ⌜ r ≡ boarding source c (getD (now (v .entry)) i 0) (getD (now (low .exit)) c 0) ⌝ }
+    ensures { λ r. ⌜ r .0 ≡ boarding source c (getD (now (v .entry)) i 0) (getD (now (low .exit)) c 0) ⌝ }
     ensures { λ _. ⌜ length (now (low .exit)) ≡ length (now (low .entry)) ⌝ }
 {
-    lower(low, c, q[i]);
-    boarding(source, c, v[i], low[c])
-}
-
-// What a change costs at stop j.
-fn change_points(words: &[u16], j: usize) -> u32
-    requires { ⌜ (16384 ≤ length (now words)) × (stationCount (now words) ≤ 64) × (j < 2048) ⌝ }
-    requires { ⌜ (1 ≤ station (now words) j) × (station (now words) j ≤ 64) ⌝ }
-    ensures { λ r. ⌜ r ≡ changePoints (now (words .entry)) (station (now (words .entry)) j) ⌝ }
-{
-    let s = timetable::stop_at(words, j);
-    let c = timetable::station_at(words, s.station as usize - 1);
-    c.points
+    points::lower(low, c, points::get(q, i));
+    boarding(source, c, points::get(v, i), points::get(low, c))
 }
 
 // Who arrives at stop j has paid p, and can change to the departure that is caught there.
-fn arrive(words: &[u16], catches: &[u16], j: usize, p: u32, v: &mut [u32], q: &mut [u32])
+fn arrive(words: &[u16], catches: &[u16], j: usize, p: Points, v: &mut [u32], q: &mut [u32])
     requires { ⌜ (16384 ≤ length (now words)) × (stationCount (now words) ≤ 64) × (j < 2048) ⌝ }
     requires { ⌜ (1 ≤ station (now words) j)
         × (station (now words) j ≤ 64)
         × (changePoints (now words) (station (now words) j) ≤ 1000) ⌝ }
     requires { ⌜ (2048 ≤ length (now catches)) × (2048 ≤ length (now v)) ⌝ }
-    ensures { λ _. ⌜ now (v .exit) ≡ set (now (v .entry)) j (min unreached p) ⌝ }
+    ensures { λ _. ⌜ now (v .exit) ≡ set (now (v .entry)) j (min unreached (p .0)) ⌝ }
     ensures { λ _. ⌜ now (q .exit)
         ≡ lowered (getD (now (catches .entry)) j 0)
-        (min unreached p + changePoints (now (words .entry)) (station (now (words .entry)) j))
+        (min unreached (p .0) + changePoints (now (words .entry)) (station (now (words .entry)) j))
         (now (q .entry)) ⌝ }
     ensures { λ _. ⌜ (length (now (v .exit)) ≡ length (now (v .entry)))
         × (length (now (q .exit)) ≡ length (now (q .entry))) ⌝ }
 {
-    let u = words::lesser(UNREACHED, p);
-    v[j] = u;
+    let u = points::lesser(UNREACHED, p);
+    points::put(v, j, u);
     let f = words::word(catches, j) as usize;
-    let cost = change_points(words, j);
-    lower(q, f, u + cost);
+    let cost = points::of_change(words, timetable::stop_at(words, j).station as usize);
+    points::lower(q, f, points::plus(u, cost));
 }
 
 // The ride that begins at stop i, which is s.
@@ -111,9 +86,14 @@ fn ride(
     q: &mut [u32],
     low: &mut [u32],
 )
-    requires { ⌜ (16384 ≤ length (now words)) × (stationCount (now words) ≤ 64) × (2048 ≤ length (now catches)) ⌝ }
-    requires { ⌜ (2048 ≤ length (now v)) × (2048 ≤ length (now q)) × (length (now low) ≡ 65) ⌝ }
-    requires { ⌜ (s ≡ stopAt (now words) i) × Departing (now words) (now catches) i (now v) (now q) ⌝ }
+    requires { ⌜ (16384 ≤ length (now words))
+        × (stationCount (now words) ≤ 64)
+        × (2048 ≤ length (now catches))
+        × (2048 ≤ length (now v))
+        × (2048 ≤ length (now q))
+        × (length (now low) ≡ 65)
+        × (s ≡ stopAt (now words) i)
+        × Departing (now words) (now catches) i (now v) (now q) ⌝ }
     ensures { λ _. ⌜ Turned
         (now (words .entry))
         source
@@ -130,10 +110,10 @@ fn ride(
         × (length (now (low .exit)) ≡ length (now (low .entry))) ⌝ }
 {
     let b = board(source, s.station as usize, i, v, q, low);
-    if UNREACHED <= b {
+    if UNREACHED.0 <= b.0 {
         return;
     }
-    arrive(words, catches, i + 1, b + s.points, v, q);
+    arrive(words, catches, i + 1, points::after_ride(b, s), v, q);
 }
 
 // The departure at place x of the order, at minute d or later.
@@ -223,7 +203,7 @@ pub fn least_penalties(
 {
     fill(v);
     fill(q);
-    let mut low = [UNREACHED; 65];
+    let mut low = [UNREACHED.0; 65];
     // Before minute d there is no one: those departures stand in front, and are left out.
     let begin = chains::first_from(words, order, 0, n, d);
     sweep(words, order, n, begin, catches, source, d, v, q, &mut low);

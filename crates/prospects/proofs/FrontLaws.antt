@@ -61,12 +61,12 @@ module _ (w arrivals : List ℕ) (p end : ℕ) (run : Run w arrivals p end) wher
 
 -- ---- the least
 module _ (arrivals v : List ℕ) (top p q r low : ℕ) (l : Least arrivals v top p r low) where
-  pub least-turn : (j x : ℕ) → p ≤ r → j ≡ getD arrivals r 0 → x ≡ min low (getD v j 0)
+  pub least-turn : (j u x : ℕ) → p ≤ r → j ≡ getD arrivals r 0 → u ≡ getD v j 0 → x ≡ min low u
       → Least arrivals v top p (r + 1) x
-  least-turn j x a is-j is-x =
+  least-turn j u x a is-j is-u is-x =
       subst
       (Least arrivals v top p (r + 1))
-      (sym (is-x ∙ ap (λ k. min low (getD v k 0)) is-j))
+      (sym (is-x ∙ ap (λ k. min low k) (is-u ∙ ap (λ k. getD v k 0) is-j)))
       (least-more arrivals v top p r low a l)
 
   pub least-all : r ≤ q → q ≤ r → Least arrivals v top p q low
@@ -76,15 +76,14 @@ module _ (arrivals v : List ℕ) (top p q r low : ℕ) (l : Least arrivals v top
 
 -- ---- marks
 module _ (arrivals : List ℕ) (before low p q r : ℕ) (v v′ : List ℕ) (m : Marked arrivals before low p r v v′) where
-  pub mark-turn : (j x : ℕ) → Held arrivals p q → p ≤ r → r < q → length v ≡ 2048 → j ≡ getD arrivals r 0
-      → x ≡ markOf before low (getD v′ j 0)
-      → Marked arrivals before low p (r + 1) v (set v′ j x)
-  mark-turn j x held a b long is-j is-x =
+  pub mark-turn : (v″ : List ℕ) (j u x : ℕ) → Held arrivals p q → p ≤ r → r < q → length v ≡ 2048
+      → j ≡ getD arrivals r 0 → u ≡ getD v′ j 0 → x ≡ markOf before low u → v″ ≡ set v′ j x
+      → Marked arrivals before low p (r + 1) v v″
+  mark-turn v″ j u x held a b long is-j is-u is-x is =
       subst
-      (λ k. Marked arrivals before low p (r + 1) v (set v′ k x))
-      (sym is-j)
-      (marked-more arrivals q before low p held v r (getD v′ (getD arrivals r 0) 0) x v′ a b long m refl
-      (is-x ∙ ap (λ k. markOf before low (getD v′ k 0)) is-j))
+      (Marked arrivals before low p (r + 1) v)
+      (sym (is ∙ ap (λ k. set v′ k x) is-j))
+      (marked-more arrivals q before low p held v r u x v′ a b long m (is-u ∙ ap (λ k. getD v′ k 0) is-j) is-x)
 
   pub marks-all : r ≤ q → q ≤ r → Marked arrivals before low p q v v′
   marks-all a b =
@@ -131,13 +130,13 @@ module _ (w arrivals : List ℕ) (begin end p : ℕ) (run : Run w arrivals begin
     pub arrival-stop : begin ≤ p → j < length v′
     arrival-stop a = omega (arith, run .held .stop p a on)
 
-    pub front-over : (top low : ℕ) → Fronting w arrivals begin end top v p low v′ → low ≤ getD v′ j 0
-        → Fronting w arrivals begin end top v (p + 1) low (set v′ j 0)
-    front-over top low f dear =
+    pub front-over : (top low u : ℕ) (v″ : List ℕ) → Fronting w arrivals begin end top v p low v′ → u ≡ getD v′ j 0
+        → low ≤ u → v″ ≡ set v′ j 0 → Fronting w arrivals begin end top v (p + 1) low v″
+    front-over top low u v″ f is-u dear is =
         subst
-        (λ k. Fronting w arrivals begin end top v (p + 1) low (set v′ k 0))
-        (sym is-j)
-        (fronting-over w arrivals begin end top v run p low v′ on f (rw is-j at dear) (same ∙ long))
+        (Fronting w arrivals begin end top v (p + 1) low)
+        (sym (is ∙ ap (λ k. set v′ k 0) is-j))
+        (fronting-over w arrivals begin end top v run p low v′ on f (rw (is-u, is-j) at dear) (same ∙ long))
 
 -- ---- all stations
 module _

@@ -8,8 +8,8 @@ use borrow.Author.Tests.{lt-ltb, le-ltb}
 use lib.ListN.{length, getD, take, drop, set, replicate, take-append-drop, drop-of-length-le}
 use lib.Seq.{length-take-le, getD-take, drop-cons}
 use Rattle.lists.specs.Lists.{_∈_}
-use Rattle.timetable.specs.Timetable.{Station, Stop}
-use Rattle.timetable.specs.Words.{stationCount, stationAt, stopAt}
+use Rattle.timetable.specs.Timetable.{Stop}
+use Rattle.timetable.specs.Words.{stationCount, stopAt}
 use Rattle.timetable.specs.Access.{stations-few}
 use Rattle.chains.specs.Order.{order, catch}
 use Rattle.chains.specs.Rising.{minuteAt, Rising, Early, InTime, departures-rise, departures-early}
@@ -37,32 +37,39 @@ module _ (w first q : List ℕ) (j f : ℕ) (is-f : f ≡ getD first j 0) where
     pub station-some : 1 ≤ station w j → 1 ≤ s .station
     station-some h = rw is-s h
 
-    pub station-few : station w j ≤ stationCount w → stationCount w ≤ 64 → 1 ≤ station w j → s .station - 1 < 64
-    station-few h g k = rw is-s (omega arith)
+    pub station-few : station w j ≤ stationCount w → stationCount w ≤ 64 → s .station ≤ 64
+    station-few h g = rw is-s (omega arith)
 
-    pub onto-some : (r : ℕ) (t : Station) → f < 65535 → t ≡ stationAt w (s .station - 1)
-        → r ≡ getD q f 0 - t .points → r ≡ ontoBound w first q j
+    pub onto-some : (r u t : ℕ) → f < 65535 → u ≡ getD q f 0 → t ≡ changePoints w (s .station)
+        → r ≡ u - t → r ≡ ontoBound w first q j
     unfolding ontoBound
-    onto-some r t h is-t is-r =
+    onto-some r u t h is-u is-t is-r =
         is-r
-        ∙ ap (λ (z : Station). getD q f 0 - z .points) (is-t ∙ ap (λ (z : Stop). stationAt w (z .station - 1)) is-s)
-        ∙ ap (λ k. getD q k 0 - changePoints w (station w j)) is-f
+        ∙ ap (λ k. u - k) (is-t ∙ ap (λ (z : Stop). changePoints w (z .station)) is-s)
+        ∙ ap (λ k. k - changePoints w (station w j)) (is-u ∙ ap (λ k. getD q k 0) is-f)
         ∙ sym (rw (lt-ltb (getD first j 0) nowhere (rw is-f at h)))
 
   pub onto-none : 65535 ≤ f → 0 ≡ ontoBound w first q j
   unfolding ontoBound
   onto-none h = rw (le-ltb (getD first j 0) nowhere (rw is-f at h))
 
-pub leave-is : (w first e q leaving : List ℕ) (i a b c r : ℕ) (s : Stop)
+pub leave-is : (w first e q leaving : List ℕ) (i a x y b c p r : ℕ) (s : Stop)
     → a ≡ ontoBound w first q (i + 1)
-    → b ≡ max (getD e (i + 1) 0) (getD leaving (i + 1) 0)
+    → x ≡ getD e (i + 1) 0
+    → y ≡ getD leaving (i + 1) 0
+    → b ≡ max x y
     → c ≡ max a b
     → s ≡ stopAt w i
-    → r ≡ c - s .points
+    → p ≡ s .points
+    → r ≡ c - p
     → r ≡ leaveBound w first e q leaving i
 unfolding leaveBound
-leave-is w first e q leaving i a b c r s is-a is-b is-c is-s is-r =
-    rw (is-r, is-s, is-c, is-a, is-b, add-one i)
+leave-is w first e q leaving i a x y b c p r s is-a is-x is-y is-b is-c is-s is-p is-r =
+    rw (is-r, is-p, is-s, is-c, is-a, is-b, is-x, is-y, add-one i)
+
+pub noted : (high l l′ : List ℕ) (i c b g h : ℕ) → g ≡ getD high c 0 → h ≡ max g b → l′ ≡ set l i h
+    → l′ ≡ set l i (max (getD high c 0) b)
+noted high l l′ i c b g h is-g is-h is = is ∙ ap (set l i) (is-h ∙ ap (λ z. max z b) is-g)
 
 -- ---- the departures
 module _ (w departures first : List ℕ) (n : ℕ) (r : Routes w departures n first) where
@@ -134,20 +141,16 @@ module _
 
       module _ (e q leaving high : List ℕ) (d : ℕ)
           (known : Passed w e d (drop (p + 1) (order w)) q leaving high) where
-        pub pass-more : (b h : ℕ) → b ≡ leaveBound w first e q leaving i → h ≡ max (getD high (s .station) 0) b
+        pub pass-more : (q′ leaving′ high′ : List ℕ) (b : ℕ) → b ≡ leaveBound w first e q leaving i
             → d ≤ minuteAt w departures p → length q ≡ 2048 → length leaving ≡ 2048 → length high ≡ 65
-            → Passed w e d (drop p (order w)) (set q i h) (set leaving i b) (set high (s .station) h)
-        pass-more b h is-b is-h timely long-q long-leaving long-high =
-            subst
-            (λ l. Passed w e d l (set q i h) (set leaving i b) (set high (s .station) h))
-            (sym left)
-            (subst
-            (λ (z : Stop).
-            Passed w e d (i ∷ drop (p + 1) (order w)) (set q i h) (set leaving i b) (set high (z .station) h))
-            (sym is-s)
+            → q′ ≡ set q i (max (getD high (s .station) 0) b) → leaving′ ≡ set leaving i b
+            → high′ ≡ set high (s .station) (max (getD high (s .station) 0) b)
+            → Passed w e d (drop p (order w)) q′ leaving′ high′
+        pass-more q′ leaving′ high′ b is-b timely long-q long-leaving long-high e-q e-leaving e-high =
+            rw (e-q, e-leaving, e-high, is-s, left)
             (passed-more w e first d (r .timely) (r .ordered) (r .caught) (take p (order w)) (drop (p + 1) (order w)) q
-            leaving high i parts known (rw (← is-i) at timely) b h is-b (rw is-s at is-h) long-q long-leaving
-            long-high (stations-few w (r .accepted))))
+            leaving high i parts known (rw (← is-i) at timely) b (max (getD high (station w i) 0) b) is-b refl long-q
+            long-leaving long-high (stations-few w (r .accepted)))
 
 -- ---- the pass
 module _ (w departures first : List ℕ) (n : ℕ) (r : Routes w departures n first) (e : List ℕ) (d : ℕ) where

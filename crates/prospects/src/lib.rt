@@ -1,8 +1,8 @@
 // Two passes of a store call: which arrivals are on the frontier, and who can still end well.
 ghost use mathlib.Core.Path.{_≡_};
 ghost use mathlib.Core.Bool.{true};
-ghost use Prim.Native.Nat.{_+_, _-_, _≤_, _<_, max};
-ghost use lib.ListN.{length, getD, drop};
+ghost use Prim.Native.Nat.{_+_, _≤_, _<_, max};
+ghost use lib.ListN.{length, getD, set, drop};
 ghost use Rattle.timetable.specs.Words.{stationCount, isTimetable};
 ghost use Rattle.stopwise.specs.Stopwise.{station, arrive, nowhere};
 ghost use Rattle.stopwise.specs.Prospects.{Allows, Bounded};
@@ -15,12 +15,11 @@ ghost use Rattle.prospects.specs.Allowing.{topOf};
 ghost use Rattle.prospects.specs.Passed.{Limits, Passed, ontoBound, leaveBound};
 ghost use Rattle.prospects.specs.Zeros.{ZeroTo};
 ghost use Rattle.prospects.specs.Routes.{Routes};
+use points::UNREACHED;
+use results::Points;
 
 // No stop.
 const NOWHERE: usize = 65535;
-
-// More than anyone on the way has paid.
-const UNREACHED: u32 = 3166901;
 
 // ---- which arrivals are on the frontier
 
@@ -59,16 +58,16 @@ fn minute_end(words: &[u16], arrivals: &[u16], p: usize, end: usize) -> usize
     q
 }
 
-// The least of top and the words of the arrivals at places p up to q.
-fn least(arrivals: &[u16], p: usize, q: usize, v: &[u32], top: u32) -> u32
+// The least of top and the points of the arrivals at places p up to q.
+fn least(arrivals: &[u16], p: usize, q: usize, v: &[u32], top: Points) -> Points
     requires { ⌜ Held (now arrivals) p q × (length (now v) ≡ 2048) ⌝ }
-    ensures { λ x. ⌜ Least (now (arrivals .entry)) (now (v .entry)) top p q x ⌝ }
+    ensures { λ x. ⌜ Least (now (arrivals .entry)) (now (v .entry)) (top .0) p q (x .0) ⌝ }
 {
     let mut low = top;
     let mut r = p;
     while r < q {
         let j = words::word(arrivals, r) as usize;
-        low = words::lesser(low, v[j]);
+        low = points::lesser(low, points::get(v, j));
         r += 1;
     }
     low
@@ -76,40 +75,47 @@ fn least(arrivals: &[u16], p: usize, q: usize, v: &[u32], top: u32) -> u32
 
 // What is allowed at an arrival: before is the least that was paid on arrivals of earlier minutes, low the least with
 // those of its own.
-fn mark(before: u32, low: u32, u: u32) -> u32
-    ensures { λ r. ⌜ r ≡ markOf before low u ⌝ }
+fn mark(before: Points, low: Points, u: Points) -> Points
+    ensures { λ r. ⌜ r .0 ≡ markOf (before .0) (low .0) (u .0) ⌝ }
 {
-    if before <= u {
-        return 0;
+    if before.0 <= u.0 {
+        return Points(0);
     }
-    if u != low {
-        return 0;
+    if u.0 != low.0 {
+        return Points(0);
     }
-    u + 1
+    Points(u.0 + 1)
 }
 
 // Marks the arrivals at places p up to q.
-fn mark_all(arrivals: &[u16], p: usize, q: usize, before: u32, low: u32, v: &mut [u32])
+fn mark_all(arrivals: &[u16], p: usize, q: usize, before: Points, low: Points, v: &mut [u32])
     requires { ⌜ Held (now arrivals) p q × (length (now v) ≡ 2048) ⌝ }
-    ensures { λ _. ⌜ Marked (now (arrivals .entry)) before low p q (now (v .entry)) (now (v .exit)) ⌝ }
+    ensures { λ _. ⌜ Marked (now (arrivals .entry)) (before .0) (low .0) p q (now (v .entry)) (now (v .exit)) ⌝ }
     ensures { λ _. ⌜ length (now (v .exit)) ≡ length (now (v .entry)) ⌝ }
 {
     let mut r = p;
     while r < q {
         let j = words::word(arrivals, r) as usize;
-        let u = v[j];
-        v[j] = mark(before, low, u);
+        let u = points::get(v, j);
+        points::put(v, j, mark(before, low, u));
         r += 1;
     }
 }
 
 // The arrivals of one station, at places begin up to end, where less than top is to have been paid.
-fn allow_station(words: &[u16], arrivals: &[u16], begin: usize, end: usize, top: u32, v: &mut [u32])
+fn allow_station(
+    words: &[u16],
+    arrivals: &[u16],
+    begin: usize,
+    end: usize,
+    top: Points,
+    v: &mut [u32],
+)
     requires { ⌜ (16384 ≤ length (now words))
         × (stationCount (now words) ≤ 64)
         × Run (now words) (now arrivals) begin end
         × (length (now v) ≡ 2048) ⌝ }
-    ensures { λ _. ⌜ Fronted (now (words .entry)) (now (arrivals .entry)) begin end top (now (v .entry)) end
+    ensures { λ _. ⌜ Fronted (now (words .entry)) (now (arrivals .entry)) begin end (top .0) (now (v .entry)) end
         (now (v .exit)) ⌝ }
     ensures { λ _. ⌜ length (now (v .exit)) ≡ length (now (v .entry)) ⌝ }
 {
@@ -119,8 +125,9 @@ fn allow_station(words: &[u16], arrivals: &[u16], begin: usize, end: usize, top:
         let j = words::word(arrivals, p) as usize;
         // Most are not reached or have paid no less than someone earlier: whoever else arrives in their minute, they
         // are not on the frontier.
-        if low <= v[j] {
-            v[j] = 0;
+        let u = points::get(v, j);
+        if low.0 <= u.0 {
+            points::put(v, j, Points(0));
             p += 1;
             continue 'arrivals;
         }
@@ -141,11 +148,11 @@ fn place_at(first: &[u32], c: usize) -> usize
 }
 
 // Less than this is to have been paid at station c.
-fn top_of(c: usize, source: usize) -> u32
-    ensures { λ r. ⌜ r ≡ topOf c source ⌝ }
+fn top_of(c: usize, source: usize) -> Points
+    ensures { λ r. ⌜ r .0 ≡ topOf c source ⌝ }
 {
     if c == source {
-        return 0;
+        return Points(0);
     }
     UNREACHED
 }
@@ -197,27 +204,8 @@ pub fn allow(words: &[u16], arrivals: &[u16], first: &[u32], source: usize, v: &
 
 // ---- who can still end well
 
-// What is left of a, not below 0.
-fn less(a: u32, b: u32) -> u32
-    ensures { λ r. ⌜ r ≡ a - b ⌝ }
-{
-    if a < b {
-        return 0;
-    }
-    a - b
-}
-
-fn larger(a: u32, b: u32) -> u32
-    ensures { λ r. ⌜ r ≡ max a b ⌝ }
-{
-    if a < b {
-        return b;
-    }
-    a
-}
-
 // One who arrives at stop j ends well after a change if they have paid less than this.
-fn onto_bound(words: &[u16], catch: &[u16], q: &[u32], j: usize) -> u32
+fn onto_bound(words: &[u16], catch: &[u16], q: &[u32], j: usize) -> Points
     requires { ⌜ (16384 ≤ length (now words))
         × (stationCount (now words) ≤ 64)
         × (j < 2048)
@@ -225,18 +213,25 @@ fn onto_bound(words: &[u16], catch: &[u16], q: &[u32], j: usize) -> u32
         × (station (now words) j ≤ stationCount (now words))
         × (length (now catch) ≡ 2048)
         × ((getD (now catch) j 0 < nowhere) → getD (now catch) j 0 < length (now q)) ⌝ }
-    ensures { λ r. ⌜ r ≡ ontoBound (now (words .entry)) (now (catch .entry)) (now (q .entry)) j ⌝ }
+    ensures { λ r. ⌜ r .0 ≡ ontoBound (now (words .entry)) (now (catch .entry)) (now (q .entry)) j ⌝ }
 {
     let f = words::word(catch, j) as usize;
     if f < NOWHERE {
         let c = timetable::stop_at(words, j).station as usize;
-        return less(q[f], timetable::station_at(words, c - 1).points);
+        return points::less(points::get(q, f), points::of_change(words, c));
     }
-    0
+    Points(0)
 }
 
 // One who leaves stop i ends well if they have paid less than this.
-fn leave_bound(words: &[u16], catch: &[u16], e: &[u32], q: &[u32], leaving: &[u32], i: usize) -> u32
+fn leave_bound(
+    words: &[u16],
+    catch: &[u16],
+    e: &[u32],
+    q: &[u32],
+    leaving: &[u32],
+    i: usize,
+) -> Points
     requires { ⌜ (16384 ≤ length (now words))
         × (stationCount (now words) ≤ 64)
         × (i + 1 < 2048)
@@ -246,16 +241,36 @@ fn leave_bound(words: &[u16], catch: &[u16], e: &[u32], q: &[u32], leaving: &[u3
         × (length (now e) ≡ 2048)
         × (length (now leaving) ≡ 2048)
         × ((getD (now catch) (i + 1) 0 < nowhere) → getD (now catch) (i + 1) 0 < length (now q)) ⌝ }
-    ensures { λ r. ⌜ r
+    ensures { λ r. ⌜ r .0
         ≡ leaveBound (now (words .entry)) (now (catch .entry)) (now (e .entry)) (now (q .entry))
         (now (leaving .entry)) i ⌝ }
 {
     let onto = onto_bound(words, catch, q, i + 1);
-    let here = larger(e[i + 1], leaving[i + 1]);
-    less(larger(onto, here), timetable::stop_at(words, i).points)
+    let here = points::larger(points::get(e, i + 1), points::get(leaving, i + 1));
+    points::less(
+        points::larger(onto, here),
+        points::of_ride(timetable::stop_at(words, i)),
+    )
 }
 
-// The departure at place p of the order, at minute d or later, those behind it having been passed.
+// One who leaves stop i, at station c, ends well below the bound; one who changes to i, or to a later departure of c,
+// below the highest there.
+fn note(i: usize, c: usize, bound: Points, q: &mut [u32], leaving: &mut [u32], high: &mut [u32])
+    requires { ⌜ (i < length (now q)) × (i < length (now leaving)) × (c < length (now high)) ⌝ }
+    ensures { λ _. ⌜ (now (leaving .exit) ≡ set (now (leaving .entry)) i (bound .0))
+        × (now (high .exit) ≡ set (now (high .entry)) c (max (getD (now (high .entry)) c 0) (bound .0)))
+        × (now (q .exit) ≡ set (now (q .entry)) i (max (getD (now (high .entry)) c 0) (bound .0)))
+        × (length (now (q .exit)) ≡ length (now (q .entry)))
+        × (length (now (leaving .exit)) ≡ length (now (leaving .entry)))
+        × (length (now (high .exit)) ≡ length (now (high .entry))) ⌝ }
+{
+    let highest = points::larger(points::get(high, c), bound);
+    points::put(leaving, i, bound);
+    points::put(high, c, highest);
+    points::put(q, i, highest);
+}
+
+// The departure at place p of the order, at minute d or later, those after it having been passed.
 fn pass(
     words: &[u16],
     order: &[u16],
@@ -285,11 +300,7 @@ fn pass(
     let i = words::word(order, p) as usize;
     let stop = timetable::stop_at(words, i);
     let bound = leave_bound(words, catch, e, q, leaving, i);
-    let c = stop.station as usize;
-    let highest = larger(high[c], bound);
-    leaving[i] = bound;
-    high[c] = highest;
-    q[i] = highest;
+    note(i, stop.station as usize, bound, q, leaving, high);
 }
 
 // The departures from place begin of the order on, all of them at minute d or later, the last first.

@@ -1,17 +1,15 @@
 -- The list that a store keeps and the answer from it: the feasible connections whose sequence is read from its words,
 -- and the result of that list.
-use mathlib.Core.Path.{_≡_, refl}
 use mathlib.Core.Logic.{_↔_}
 use mathlib.Core.List.{List, Memᴰ·cast}
 use Prim.Native.Nat.{ℕ}
 use Rattle.lists.specs.Lists.{_∈_, same}
 use Rattle.lists.specs.Members.{filter-in, filter-out, any-in, any-out, same-eq, same-refl}
-use Rattle.results.specs.Results.{result}
 use Rattle.connections.specs.Connections.{Net, Connection, Feasible, stations}
-use Rattle.connections.specs.Planner.{plannerList, measure, rowsOf}
+use Rattle.connections.specs.Planner.{plannerList}
 use Rattle.connections.specs.Sound.{Sound}
 use Rattle.connections.specs.Listed.{listed}
-use Rattle.stores.specs.Words.{readable, holds, keptList, answer}
+use Rattle.stores.specs.Words.{readable, holds, keptList}
 
 module _ (n : Net) (ok : Sound n) (w : List ℕ) (a m b : ℕ) where
   pub record Kept (c : Connection) : Type 0 where
@@ -38,8 +36,3 @@ module _ (n : Net) (ok : Sound n) (w : List ℕ) (a m b : ℕ) where
 
   pub kept-exactly : (c : Connection) → c ∈ keptList n w a m b ↔ Kept c
   kept-exactly c = (kept-out c, kept-in c)
-
-  -- so the laws of results hold of an answer
-  pub answer-result : answer n w a m b ≡ result (measure m) (keptList n w a m b)
-  unfolding answer rowsOf
-  answer-result = refl

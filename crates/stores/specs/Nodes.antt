@@ -10,9 +10,9 @@ use lib.ListN.{length}
 use Rattle.lists.specs.Lists.{_∈_, concatMap, sort, Rising, tail}
 use Rattle.lists.specs.Members.{cons-cases, append-cases, concatMap-in, concatMap-out, map-inside}
 use Rattle.lists.specs.Order.{before-cases, before-same}
-use Rattle.lists.specs.Sorting.{Inside, rising-unique, sort-in, sort-out, sort-rising, sort-same}
+use Rattle.lists.specs.Sorting.{Inside, rising-unique, sort-in, sort-out, sort-rising}
 use Rattle.stores.specs.Words.{beginnings, front, keyed, nodes}
-use Rattle.stores.specs.Sequences.{front-shorter, begin-nonempty, begin-front, begin-closed, begin-inside}
+use Rattle.stores.specs.Sequences.{front-shorter, begin-nonempty, begin-front, begin-closed}
 
 -- in order of length
 abbrev pub Sized : List (List ℕ) → Type 0
@@ -131,14 +131,3 @@ module _ (ps : List (List ℕ)) where
 
       from : Inside (sort keys) (map keyed ns)
       from z m = map-inside keyed (concatMap beginnings ps) ns g z (sort-out keys m)
-
--- the nodes depend only on which sequences there are
-pub nodes-same : (ps qs : List (List ℕ)) → Inside ps qs → Inside qs ps → nodes ps ≡ nodes qs
-unfolding nodes
-nodes-same ps qs f g = ap (map tail) (sort-same (keys ps) (keys qs) to from)
-  where
-    to : Inside (keys ps) (keys qs)
-    to = map-inside keyed (concatMap beginnings ps) (concatMap beginnings qs) (begin-inside ps qs f)
-
-    from : Inside (keys qs) (keys ps)
-    from = map-inside keyed (concatMap beginnings qs) (concatMap beginnings ps) (begin-inside qs ps g)

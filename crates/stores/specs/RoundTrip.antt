@@ -8,13 +8,12 @@ use Prim.Native.Nat.{ℕ, suc, _+_, _*_}
 use native.Mathlib.Omega.{arith}
 use lib.ListN.{length, getD, drop, length-append, length-map}
 use lib.Seq.{drop-at}
-use Rattle.lists.specs.Lists.{_∈_, sort, Rising}
-use Rattle.lists.specs.Members.{map-inside}
-use Rattle.lists.specs.Sorting.{Inside, sort-in, sort-out, sort-rising, sort-same}
+use Rattle.lists.specs.Lists.{_∈_, Rising}
+use Rattle.lists.specs.Sorting.{sort-in, sort-out, sort-rising}
 use Rattle.stores.specs.Words.{front, final, nodes, place, entry, arcs, flat, encode, pairs, nodePairs, arcPairs}
 use Rattle.stores.specs.Words.{follow, chains, readable}
 use Rattle.stores.specs.Sequences.{rejoin, place-get, place-append}
-use Rattle.stores.specs.Nodes.{Nodes, node-at, front-before, front-known, nodes-made, nodes-same}
+use Rattle.stores.specs.Nodes.{Nodes, node-at, front-before, front-known, nodes-made}
 
 -- an entry leads back to its sequence, once what is before it is known
 follow-entry : (known post ns : List (List ℕ)) (q : List ℕ) → known ++ post ≡ ns → q ≢ [] → front q ∈ [] ∷ known
@@ -168,23 +167,3 @@ module _ (ps : List (List ℕ)) where
 
     pub read-back : (p : List ℕ) → p ∈ readable (encode ps ++ post) ↔ p ∈ ps
     read-back p = (read-out p, read-in p)
-
--- The words depend only on which sequences there are.
-pub encode-same : (ps qs : List (List ℕ)) → Inside ps qs → Inside qs ps → encode ps ≡ encode qs
-unfolding encode arcs
-encode-same ps qs f g =
-    λ i.
-    let ns = same-nodes i in
-    length ns ∷ length (same-arcs i) ∷ (flat (map (entry ns) ns) ++ flat (same-arcs i))
-  where
-    same-nodes : nodes ps ≡ nodes qs
-    same-nodes = nodes-same ps qs f g
-
-    same-arcs : sort (map (entry (nodes ps)) ps) ≡ sort (map (entry (nodes qs)) qs)
-    same-arcs =
-        ap (λ ns. sort (map (entry ns) ps)) same-nodes
-        ∙ sort-same
-        (map (entry (nodes qs)) ps)
-        (map (entry (nodes qs)) qs)
-        (map-inside (entry (nodes qs)) ps qs f)
-        (map-inside (entry (nodes qs)) qs ps g)

@@ -8,8 +8,8 @@ use Prim.Native.Nat.{ℕ, suc, _≤_, _<_}
 use native.Mathlib.Omega.{arith}
 use lib.Dec.{T}
 use lib.ListN.{length, getD}
-use Rattle.lists.specs.Lists.{_∈_, concatMap, same}
-use Rattle.lists.specs.Members.{none, cons-cases, concatMap-in, concatMap-out, same-eq, same-refl}
+use Rattle.lists.specs.Lists.{_∈_, same}
+use Rattle.lists.specs.Members.{none, cons-cases, same-eq, same-refl}
 use Rattle.lists.specs.Pigeonhole.{Within}
 use Rattle.stores.specs.Words.{beginnings, front, final, count, place}
 
@@ -86,13 +86,6 @@ begin-within k q (x ∷ y ∷ p) m w = go (λ r i. begin-within k r (y ∷ p) i 
         m
         (λ e. cons-cases (rw e at i) (λ u. w z (here u)) none)
         (λ r j e. cons-cases (rw (← e) at i) (λ u. w z (here u)) (ih r j z))
-
--- the beginnings of more sequences are more
-pub begin-inside : (l m : List (List ℕ)) → ((q : List ℕ) → q ∈ l → q ∈ m)
-    → (z : List ℕ) → z ∈ concatMap beginnings l → z ∈ concatMap beginnings m
-begin-inside l m h z i =
-    let k = concatMap-out beginnings l i in
-    concatMap-in beginnings (h (k .0) (k .1)) (k .2)
 
 -- Places: whoever is in a list stands at its place, and what is behind the list changes no place in it.
 module _ (q : List ℕ) where

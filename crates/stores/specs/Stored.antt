@@ -7,9 +7,10 @@ use mathlib.Core.List.{List, _∷_, map}
 use Prim.Native.Nat.{ℕ, suc, _≤_}
 use lib.Dec.{eqb}
 use Rattle.timetable.specs.Timetable.{lastMinute}
+use Rattle.timetable.specs.Words.{timetableOf}
 use Rattle.lists.specs.Lists.{filter, concatMap, range, sort}
 use Rattle.results.specs.Results.{undominated}
-use Rattle.connections.specs.Connections.{Net, Connection, Optimal, stations, pattern}
+use Rattle.connections.specs.Connections.{Net, net, Connection, Optimal, stations, pattern}
 use Rattle.connections.specs.Planner.{plannerList, measure}
 
 abbrev pub minutes : List ℕ
@@ -28,6 +29,10 @@ optimalStations n a ts bs = concatMap (λ t. concatMap (λ b. map stations (opti
 
 unfoldable pub stored : Net → (a : ℕ) → List (List ℕ)
 stored n a = sort (optimalStations n a minutes (targets n a))
+
+-- of the timetable that words spell
+abbrev pub sequences : (timetable : List ℕ) (source : ℕ) → List (List ℕ)
+sequences timetable source = stored (net (timetableOf timetable)) source
 
 -- The same in words.
 

@@ -9,25 +9,24 @@ use native.Mathlib.Omega.{arith}
 use lib.Dec.{T, eqb, eqb→eq, T-not, not-T}
 use lib.ListN.{length}
 use Rattle.timetable.specs.Timetable.{lastMinute, stationsMost}
-use Rattle.lists.specs.Lists.{_∈_, filter, concatMap, range, sort, tail}
+use Rattle.lists.specs.Lists.{_∈_, concatMap, range, tail}
 use Rattle.lists.specs.Tests.{eq→eqb}
 use Rattle.lists.specs.Members.{filter-in, filter-out, concatMap-in, concatMap-out, range-in, range-out}
 use Rattle.lists.specs.Pigeonhole.{Within}
-use Rattle.lists.specs.Sorting.{Inside, sort-in, sort-out, sort-same}
+use Rattle.lists.specs.Sorting.{sort-in, sort-out}
 use Rattle.results.specs.Results.{undominated}
 use Rattle.results.specs.Picks.{undominated-in, undominated-out}
-use Rattle.connections.specs.Rides.{Ride}
-use Rattle.connections.specs.Connections.{Net, Connection, direct, onward, Boards, Feasible, Optimal, departure}
+use Rattle.connections.specs.Connections.{Net, Connection, Optimal}
 use Rattle.connections.specs.Connections.{stations}
 use Rattle.connections.specs.Planner.{plannerList, measure}
 use Rattle.connections.specs.Sound.{Sound}
 use Rattle.connections.specs.Feasibility.{has-stations, stations-listed}
 use Rattle.connections.specs.Listed.{optimal-in, optimal-out}
-use Rattle.connections.specs.OptimalLaws.{optimal-own-minute, pattern-short}
+use Rattle.connections.specs.OptimalLaws.{pattern-short}
 use Rattle.stores.specs.Stored.{minutes, targets, optimals, optimalStations, stored, Target, Sequence}
 use Rattle.stores.specs.Words.{nodes, arcs, entriesMost, readable, storeWords, wellMade}
 use Rattle.stores.specs.RoundTrip.{read-back}
-use Rattle.stores.specs.WellMade.{well-made, words-small}
+use Rattle.stores.specs.WellMade.{well-made}
 
 pub target-in : (n : Net) (a b : ℕ) → Target n a b → b ∈ targets n a
 target-in n a b h =
@@ -41,10 +40,6 @@ target-out n a b m =
     let r = filter-out (λ b. not (eqb b a)) (range 1 (n .stations)) m in
     let h = range-out 1 (n .stations) b (r .0) in
     record { first = omega arith; last = omega arith; other = λ e. T-not (eqb b a) (r .1) (eq→eqb b a e) }
-
--- The minutes at which something departs from the source: they are enough to find all stored sequences.
-unfoldable pub departures : Net → (a : ℕ) → List ℕ
-departures n a = map (λ r. r .depart) (filter (λ r. eqb (r .from) a) (n .rides))
 
 module _ (n : Net) (ok : Sound n) where
   optimals-in : (a t b : ℕ) (c : Connection) → Optimal n a t b c → c ∈ optimals n a t b
@@ -135,75 +130,8 @@ module _ (n : Net) (ok : Sound n) where
             is = sequence-is a q s;
           }
 
-  -- the second half of demand 2: which sequences are stored
-  pub stored-exactly : (a : ℕ) (q : List ℕ) → q ∈ stored n a ↔ Sequence n a q
-  stored-exactly a q = (stored-out a q, stored-in a q)
-
   pub stored-full : (a : ℕ) (q : List ℕ) → q ∈ stored n a → q ≢ []
   stored-full a q m e = let s = stored-out a q m in has-stations (s .connection) (sequence-is a q s ∙ e)
-
-  boards-departs : (a t : ℕ) (r : Ride) → Boards n a t r → r .depart ∈ departures n a
-  unfolding departures
-  boards-departs a t r b =
-      Memᴰ·map (λ r. r .depart) (filter-in (λ r. eqb (r .from) a) (b .listed) (eq→eqb (r .from) a (b .here)))
-
-  pub departs : (a t b : ℕ) (c : Connection) → Feasible n a t b c → departure c ∈ departures n a
-  departs a t b (direct r) f = boards-departs a t r (f .0)
-  departs a t b (onward r w c) f = boards-departs a t r (f .0)
-
-  pub departures-in-time : (a t : ℕ) → t ∈ departures n a → t ∈ minutes
-  unfolding departures
-  departures-in-time a t m =
-      let r = Memᴰ·of-map (λ r. r .depart) (filter (λ r. eqb (r .from) a) (n .rides)) m in
-      let l = filter-out (λ r. eqb (r .from) a) (n .rides) (r .1) .0 in
-      let e = r .2 in
-      let h = ok .forward (r .0) l in
-      let g = ok .bounded (r .0) l in
-      range-in 0 (suc lastMinute) t (omega arith) (omega arith)
-
-  pub stored-departures : (a : ℕ) → stored n a ≡ sort (optimalStations n a (departures n a) (targets n a))
-  unfolding stored
-  stored-departures a =
-      sort-same (optimalStations n a minutes bs) (optimalStations n a (departures n a) bs) to from
-    where
-      bs : List ℕ
-      bs = targets n a
-
-      to : Inside (optimalStations n a minutes bs) (optimalStations n a (departures n a) bs)
-      to q m =
-          let h = found-out a minutes bs q m in
-          found-in
-          a
-          (departures n a)
-          bs
-          q
-          (record {
-            minute = departure (h .connection);
-            target = h .target;
-            connection = h .connection;
-            in-minutes = departs a (h .minute) (h .target) (h .connection) (h .optimal .feasible);
-            in-targets = h .in-targets;
-            optimal = optimal-own-minute n ok a (h .minute) (h .target) (h .connection) (h .optimal);
-            is = h .is;
-          })
-
-      from : Inside (optimalStations n a (departures n a) bs) (optimalStations n a minutes bs)
-      from q m =
-          let h = found-out a (departures n a) bs q m in
-          found-in
-          a
-          minutes
-          bs
-          q
-          (record {
-            minute = h .minute;
-            target = h .target;
-            connection = h .connection;
-            in-minutes = departures-in-time a (h .minute) (h .in-minutes);
-            in-targets = h .in-targets;
-            optimal = h .optimal;
-            is = h .is;
-          })
 
   -- theorem 4 for the store of a source
   pub store-read : (a : ℕ) (post q : List ℕ) → q ∈ readable (storeWords n a ++ post) ↔ q ∈ stored n a
@@ -228,11 +156,6 @@ module _ (n : Net) (ok : Sound n) where
         (λ q. suc (length q) ≤ stationsMost)
         (sequence-is a q s)
         (pattern-short n ok a (s .minute) (s .target) (s .connection) (s .optimal) other first last)
-
-    pub store-small : length (nodes (stored n a)) ≤ entriesMost → length (arcs (stored n a)) ≤ entriesMost
-        → (x : ℕ) → x ∈ storeWords n a → x ≤ entriesMost
-    unfolding storeWords
-    store-small = words-small (n .stations) (stored n a) (stored-full a) stored-within (ok .few)
 
     pub store-well-made : (post : List ℕ) → length (nodes (stored n a)) ≤ entriesMost
         → length (arcs (stored n a)) ≤ entriesMost → T (wellMade (n .stations) (storeWords n a ++ post))

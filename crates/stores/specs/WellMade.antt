@@ -1,10 +1,9 @@
 -- Theorem 4, second half: the words of sequences of listed stations, none above 64 with its source, are well made where
 -- n and m are at most 16,383. Each parent is below its node by the order of the nodes.
-use mathlib.Core.Path.{_≡_, refl, subst, _∙_, ap}
+use mathlib.Core.Path.{_≡_, refl, subst, _∙_}
 use mathlib.Core.Bool.{not}
 use mathlib.Core.Logic.{_≢_}
 use mathlib.Core.List.{List, [], _∷_, _++_, map, append-assoc, List·Memᴰ·head as here, List·Memᴰ·tail as there}
-use mathlib.Core.List.{Memᴰ·of-map, Memᴰ·cast}
 use Prim.Native.Nat.{ℕ, suc, _+_, _*_, _≤_, _<_}
 use native.Mathlib.Omega.{arith}
 use lib.Dec.{T, ltb→lt, not-T}
@@ -12,14 +11,13 @@ use lib.ListN.{length, getD, length-append}
 use Rattle.timetable.specs.Timetable.{stationsMost}
 use Rattle.lists.specs.Lists.{_∈_, any, before, Rising}
 use Rattle.lists.specs.Tests.{both, writes}
-use Rattle.lists.specs.Members.{none, cons-cases, append-cases, any-out, concatMap-out}
+use Rattle.lists.specs.Members.{any-out, concatMap-out}
 use Rattle.lists.specs.Pigeonhole.{Within}
 use Rattle.stores.specs.Words.{beginnings, front, final, nodes, place, entry, arcs, encode, nodePairs, arcPairs}
-use Rattle.stores.specs.Words.{readable, nodesMade, arcsMade, arcsRise, long, entriesMost, wellMade, flat}
+use Rattle.stores.specs.Words.{readable, nodesMade, arcsMade, arcsRise, long, entriesMost, wellMade}
 use Rattle.stores.specs.Sequences.{begin-within, final-within, place-append, place-bound}
 use Rattle.stores.specs.Nodes.{nodes-made, node-at, node-out, front-before, front-known}
-use Rattle.stores.specs.RoundTrip.{node-words, arc-words, arc-out, arcs-rising, encode-length, read-back, Paired}
-use Rattle.stores.specs.RoundTrip.{entries-paired, arcs-paired, nodeEntries}
+use Rattle.stores.specs.RoundTrip.{node-words, arc-words, arc-out, arcs-rising, encode-length, read-back}
 
 arcs-rise : (l : List (List ℕ)) → Rising l → T (arcsRise l)
 arcs-rise [] h = tt
@@ -84,50 +82,6 @@ module _ (k : ℕ) (ps : List (List ℕ)) (full : (p : List ℕ) → p ∈ ps �
         let listed = final-within k p (full p (r .1)) (within p (r .1)) in
         let known = place-bound (front p) ([] ∷ nodes ps) (front-known ps p (r .1) (full p (r .1))) in
         subst Fits (r .2) (record { first = listed .0; last = listed .1; known = omega arith })
-
-    -- "in 16-bit words": a store's words fit
-    module _ (few : k ≤ stationsMost) (h : length (nodes ps) ≤ entriesMost) (g : length (arcs ps) ≤ entriesMost) where
-      entry-small : (z : List ℕ) → Fits z → Paired (z ∷ []) → (x : ℕ) → x ∈ z → x ≤ entriesMost
-      entry-small z f p x m = small (p z (here refl))
-        where
-          small : (u : ℕ) × (v : ℕ) × (z ≡ u ∷ v ∷ []) → x ≤ entriesMost
-          small s =
-              let first = ap (λ z. getD z 0 0) (s .2) in
-              let second = ap (λ z. getD z 1 0) (s .2) in
-              let last = f .last in
-              let known = f .known in
-              cons-cases
-              (rw (s .2) at m)
-              (λ e. omega arith)
-              (λ i. cons-cases i (λ e. omega arith) none)
-
-      node-fits : (z : List ℕ) → z ∈ nodeEntries ps → Fits z
-      node-fits z m =
-          let r = Memᴰ·of-map (entry (nodes ps)) (nodes ps) m in
-          let q = r .0 in
-          let listed = final-within k q (nodes-made ps .nonempty q (r .1)) (node-within q (r .1)) in
-          let known = place-bound (front q) ([] ∷ nodes ps) (nodes-made ps .closed q (r .1)) in
-          subst Fits (r .2) (record { first = listed .0; last = listed .1; known = omega arith })
-
-      flat-small : (l : List (List ℕ)) → Paired l → ((z : List ℕ) → z ∈ l → Fits z)
-          → (x : ℕ) → x ∈ flat l → x ≤ entriesMost
-      flat-small l p f x m =
-          let r = concatMap-out (λ z. z) l m in
-          entry-small (r .0) (f (r .0) (r .1)) (λ z i. cons-cases i (λ e. p z (Memᴰ·cast e (r .1))) none) x (r .2)
-
-      pub words-small : (x : ℕ) → x ∈ encode ps → x ≤ entriesMost
-      unfolding encode
-      words-small x m =
-          cons-cases
-          m
-          (λ e. omega arith)
-          (λ i. cons-cases i (λ e. omega arith) (λ j. append-cases (flat (nodeEntries ps)) j in-nodes in-arcs))
-        where
-          in-nodes : x ∈ flat (nodeEntries ps) → x ≤ entriesMost
-          in-nodes = flat-small (nodeEntries ps) (entries-paired (nodes ps) (nodes ps)) node-fits x
-
-          in-arcs : x ∈ flat (arcs ps) → x ≤ entriesMost
-          in-arcs = flat-small (arcs ps) (arcs-paired ps) arc-fits x
 
     module _ (short : (p : List ℕ) → p ∈ ps → suc (length p) ≤ stationsMost) where
       module _ (post : List ℕ) (h : length (nodes ps) ≤ entriesMost) (g : length (arcs ps) ≤ entriesMost) where

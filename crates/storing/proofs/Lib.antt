@@ -1,3 +1,1 @@
-pub mod PathLaws
-pub mod MinuteLaws
 pub mod MakeLaws

@@ -18,15 +18,11 @@ use Rattle.growing.specs.declared.Counts.{Counts}
 use Rattle.growing.specs.Tree.{Made, Grown, TooMany}
 use Rattle.growing.specs.Taking.{Whole as Finished}
 use Rattle.growing.specs.Finished.{grown-nodes, grown-arcs, grown-length}
-use Rattle.storing.specs.Storing.{sequences, storeOf, fits}
-use Rattle.storing.specs.Nodes.{made}
-use Rattle.storing.specs.Chunks.{Whole}
+use Rattle.stores.specs.Stored.{sequences}
+use Rattle.promises.specs.StoreCall.{storeOf, fits}
+use Rattle.store_nodes.specs.Nodes.{made}
+use Rattle.store_growth.specs.Chunks.{Whole}
 use Rattle.storing.specs.Made.{madeNumber, madeReply, madeAfter}
-
-pub planted : (w : List ℕ) (a : ℕ) (work targets : List ℕ)
-    → ((ps : List (List ℕ)) (targets : List ℕ) → length targets ≡ 16384 → Grown ps a work targets 0 0 0)
-    → length targets ≡ 16384 → Grown (sequences w a) a work targets 0 0 0
-planted w a work targets grown long = grown (sequences w a) targets long
 
 -- question 15 is the only one left
 module _ (w : List ℕ) (a m : ℕ) (e : fits w a m ≡ false) where

@@ -1,12 +1,1 @@
-pub mod Storing
-pub mod Beginnings
-pub mod Minutes
-pub mod Paths
 pub mod Made
-pub mod Prepared
-pub mod Nodes
-pub mod Standing
-pub mod Chunk
-pub mod Seeking
-pub mod Chunks
-pub mod Hope

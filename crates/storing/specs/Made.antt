@@ -20,7 +20,7 @@ use Rattle.timetable.specs.Access.{stations-few}
 use Rattle.checking.specs.Question10.{areTables, tablesQuestions, tablesNumber}
 use Rattle.checking.specs.Asked.{listed}
 use Rattle.checking.specs.Yes.{Long, long, long-all, tables-asked}
-use Rattle.storing.specs.Storing.{storeOf, fits, storeNumber, storeReply, storeAfter}
+use Rattle.promises.specs.StoreCall.{storeOf, fits, storeNumber, storeReply, storeAfter}
 
 -- where questions 8 to 11 have their yes
 unfoldable pub madeNumber : (w : List ℕ) (a m : ℕ) → ℕ

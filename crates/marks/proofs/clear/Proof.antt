@@ -36,8 +36,7 @@ clear-spec =
     loop-holds
     (λ c. search needs)
     (λ c. search needs)
-    (λ c. search needs)
-    (λ c. search inside-word)
+    (λ c κs. search inside-word)
     (λ c. search needs)
     (λ c. search needs)
     loop-again

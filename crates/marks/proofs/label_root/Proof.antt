@@ -45,8 +45,7 @@ label-root-spec =
     (λ c κs. search place-inside)
     (λ c. search needs)
     root-label-requires
-    (λ c. search needs)
-    (λ c. search stop-inside)
+    (λ c κs. search stop-inside)
     (λ c. search needs)
     (λ c. search needs)
     loop-again

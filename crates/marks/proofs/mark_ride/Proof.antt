@@ -1,67 +1,16 @@
--- The arrivals that are left, from stop j on, come to all arrivals of the walk.
-use mathlib.Core.Path.{_≡_}
-use Prim.Native.Nat.{_≤_, _-_, _+_, _*_}
+-- Who cannot board arrives nowhere; who can, rides on.
 use borrow.Author.Needs.{needs}
-use lib.ListN.{length}
-use Rattle.timetable.specs.Access.{stations-few}
-use Rattle.stopwise.specs.Stopwise.{Goes, points as pointsOf}
-use Rattle.marks.specs.Walks.{visits, boarding, run, flag, endsWell, changesWell}
-use Rattle.marks.proofs.RideLaws.{next-few, next-some, next-listed, more-small, ride-ends, nearer, on-goes}
-use Rattle.marks.proofs.RideLaws.{not-boarded, points-of, boards-cheap, boarded, more-fits, next-counts}
-use Rattle.marks.proofs.RideLaws.{on-points, more-most, ride-on}
+use Rattle.marks.proofs.RideLaws.{not-boarded, boarded}
 use Rattle.marks.proofs.mark_ride.Statement.{statement}
 use Rattle.marks.proofs.mark_ride.Tie as tie
-
-abbrev Inv-loop : tie.InvT-loop
-Inv-loop words catch allowed q x c i arcs₀ kids₀ y₀ points₀ j₀ arcs kids y points j =
-    Goes words j × (points ≡ pointsOf words j) × (y ≤ 3166900 + 100 * j) × (length arcs ≡ 64) × (length kids ≡ 64)
-    × (run (flag words (endsWell allowed)) (boarding words c x i) arcs₀
-    ≡ run (flag words (endsWell allowed)) (visits words c (2048 - j) j y) arcs)
-    × (run (flag words (changesWell words catch q)) (boarding words c x i) kids₀
-    ≡ run (flag words (changesWell words catch q)) (visits words c (2048 - j) j y) kids)
-
-abbrev μ-loop : tie.MeasureT-loop
-μ-loop words catch allowed q x c i arcs₀ kids₀ y₀ points₀ j₀ arcs kids y points j = 2048 - j
-
-returns : tie.Need-returns Inv-loop μ-loop
-returns c = (search not-boarded, (search not-boarded, search needs))
-
-stop-at-requires : tie.Need-stop-at-requires Inv-loop μ-loop
-stop-at-requires c κs = (search needs, search stations-few, search needs)
-
-loop-holds : tie.Need-loop-holds Inv-loop μ-loop
-loop-holds c =
-    (search needs, search points-of, search boards-cheap, search needs, search needs, search boarded, search boarded)
-
-mark-turn-requires : tie.Need-mark-turn-requires Inv-loop μ-loop
-mark-turn-requires c κs = (
-  (search needs, search needs, search next-few, search more-small),
-  ((search next-some, search next-listed), (search needs, search needs)),
-)
-
-returns-2 : tie.Need-returns-2 Inv-loop μ-loop
-returns-2 c = (search ride-ends, (search ride-ends, search needs))
-
-loop-again : tie.Need-loop-again Inv-loop μ-loop
-loop-again c =
-    (search on-goes, search on-points, search more-most, search needs, search needs, search ride-on, search ride-on)
 
 pub mark-ride-spec : {M : Type 1} → statement M
 mark-ride-spec =
     tie.close
     (tie.spec
-    Inv-loop
-    μ-loop
+    (λ c κs. search needs)
+    (λ c. (search not-boarded, (search not-boarded, search needs)))
+    (λ c κs. search needs)
     (λ c. search needs)
     (λ c. search needs)
-    returns
-    stop-at-requires
-    loop-holds
-    (λ c. record { fits = search more-fits })
-    (λ c. record { fits = search next-counts })
-    mark-turn-requires
-    (λ c. search needs)
-    (λ c. search needs)
-    returns-2
-    (λ c. search nearer)
-    loop-again)
+    (λ c. (search boarded, (search boarded, search needs))))

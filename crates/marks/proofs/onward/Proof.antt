@@ -11,4 +11,5 @@ onward-spec =
     (λ c. search onward-ends)
     (λ c. search needs)
     (λ c. search onward-back)
+    (λ c κs. search needs)
     (λ c. search onward-on))

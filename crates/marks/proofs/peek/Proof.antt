@@ -5,4 +5,4 @@ use Rattle.marks.proofs.peek.Statement.{statement}
 use Rattle.marks.proofs.peek.Tie as tie
 
 pub peek-spec : {M : Type 1} → statement M
-peek-spec = tie.close (tie.spec (λ c. search needs) (λ c. search needs) (λ c. search needs) (λ c. search past))
+peek-spec = tie.close (tie.spec (λ c κs. search needs) (λ c. search needs) (λ c. search past))

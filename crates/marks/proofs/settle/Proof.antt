@@ -13,7 +13,7 @@ use Rattle.marks.proofs.settle.Tie as tie
 abbrev Inv-loop : tie.InvT-loop
 Inv-loop chain begin end x₀ low₀ k₀ x low k =
     (begin ≤ k) × (k ≤ end) × (length x ≡ length x₀)
-    × (fall unreached (slice begin end chain) x₀ ≡ fall low (slice k end chain) x)
+    × (fall unreached (slice begin end chain) x₀ ≡ fall (low .0) (slice k end chain) x)
 
 abbrev μ-loop : tie.MeasureT-loop
 μ-loop chain begin end x₀ low₀ k₀ x low k = end - k
@@ -36,11 +36,9 @@ settle-spec =
     loop-holds
     (λ c. search needs)
     (λ c. search needs)
-    (λ c. search needs)
-    (λ c. search inside-word)
-    (λ c. search needs)
-    (λ c. search needs)
-    (λ c. search inside-word)
+    (λ c κs. search inside-word)
+    (λ c κs. search needs)
+    (λ c κs. search inside-word)
     (λ c. search needs)
     (λ c. search needs)
     loop-again

@@ -1,7 +1,7 @@
 -- Two ways out: free at the start, else the lesser of the two.
 use mathlib.Core.Path.{sym, _∙_}
 use borrow.Author.Needs.{needs}
-use Rattle.penalties.specs.Lowered.{boards-free, boards-least}
+use Rattle.penalties.specs.Boarding.{boards-free, boards-least}
 use Rattle.penalties.proofs.boarding.Statement.{statement}
 use Rattle.penalties.proofs.boarding.Tie as tie
 

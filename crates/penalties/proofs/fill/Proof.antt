@@ -22,8 +22,7 @@ fill-spec =
     Inv-loop
     μ-loop
     (λ c. (search needs, refl, refl))
-    (λ c. search needs)
-    (λ c. search needs)
+    (λ c κs. search needs)
     (λ c. search needs)
     (λ c. search needs)
     (λ c. (search needs, search needs, search one-more))

@@ -27,7 +27,7 @@ ride-spec =
     (λ c. search needs)
     (λ c. (search passed, (refl, refl, search needs)))
     (λ c. record { fits = search next-fits })
-    (λ c. record { fits = search sum-fits })
+    (λ c κs. search sum-fits)
     (λ c κs. (
       (search needs, search needs, search next-few),
       ((search next-some, search next-most, search next-cheap), (search needs, search needs)),

@@ -12,8 +12,14 @@ turn-spec =
     (λ c. search needs)
     (λ c κs. (search needs, search few, search stop-few))
     (λ c κs. (
-      (search needs, search few, search needs),
-      ((search needs, search needs, search needs), (search needs, search departing)),
+      search needs,
+      search few,
+      search needs,
+      search needs,
+      search needs,
+      search needs,
+      search needs,
+      search departing,
     ))
     (λ c. search needs)
     (λ c. search needs)

@@ -21,12 +21,12 @@ use Rattle.prospects.proofs.allow_station.Statement.{statement}
 use Rattle.prospects.proofs.allow_station.Tie as tie
 
 abbrev Inv-arrivals : tie.InvT-arrivals
-Inv-arrivals words arrivals begin end top v₀ low₀ p₀ v low p =
+Inv-arrivals words arrivals begin end v₀ low₀ p₀ v low p =
     (begin ≤ p)
-    × ((p ≤ end) × ((length v ≡ length v₀) × Fronting words arrivals begin end top v₀ p low v))
+    × ((p ≤ end) × ((length v ≡ length v₀) × Fronting words arrivals begin end (low₀ .0) v₀ p (low .0) v))
 
 abbrev μ-arrivals : tie.MeasureT-arrivals
-μ-arrivals words arrivals begin end top v₀ low₀ p₀ v low p = end - p
+μ-arrivals words arrivals begin end v₀ low₀ p₀ v low p = end - p
 
 pub allow-station-spec : {M : Type 1} → statement M
 allow-station-spec =
@@ -37,10 +37,8 @@ allow-station-spec =
     (λ c. (search needs, (search run-ordered, (search needs, search front-first))))
     (λ c κs. search arrival-inside)
     (λ c. search needs)
-    (λ c. search needs)
-    (λ c. search arrival-stop)
-    (λ c. search needs)
-    (λ c. search arrival-stop)
+    (λ c κs. search arrival-stop)
+    (λ c κs. search arrival-stop)
     (λ c. search needs)
     (λ c. search needs)
     (λ c. (search needs, (search needs, (search needs, search front-over))))

@@ -7,10 +7,10 @@ use Rattle.prospects.proofs.least.Statement.{statement}
 use Rattle.prospects.proofs.least.Tie as tie
 
 abbrev Inv-loop : tie.InvT-loop
-Inv-loop arrivals p q v top low₀ r₀ low r = (p ≤ r) × ((r ≤ q) × Least arrivals v top p r low)
+Inv-loop arrivals p q v low₀ r₀ low r = (p ≤ r) × ((r ≤ q) × Least arrivals v (low₀ .0) p r (low .0))
 
 abbrev μ-loop : tie.MeasureT-loop
-μ-loop arrivals p q v top low₀ r₀ low r = q - r
+μ-loop arrivals p q v low₀ r₀ low r = q - r
 
 pub least-spec : {M : Type 1} → statement M
 least-spec =
@@ -21,9 +21,8 @@ least-spec =
     (λ c. (search needs, (search held-ordered, search least-none)))
     (λ c κs. search place-inside)
     (λ c. search needs)
-    (λ c. search needs)
-    (λ c. search stop-inside)
-    (λ c. search needs)
+    (λ c κs. search stop-inside)
+    (λ c κs. search needs)
     (λ c. search needs)
     (λ c. search needs)
     (λ c. (search needs, (search needs, search least-turn)))

@@ -10,7 +10,7 @@ use Rattle.prospects.proofs.mark_all.Tie as tie
 
 abbrev Inv-loop : tie.InvT-loop
 Inv-loop arrivals p q before low v₀ r₀ v r =
-    (p ≤ r) × ((r ≤ q) × ((length v ≡ length v₀) × Marked arrivals before low p r v₀ v))
+    (p ≤ r) × ((r ≤ q) × ((length v ≡ length v₀) × Marked arrivals (before .0) (low .0) p r v₀ v))
 
 abbrev μ-loop : tie.MeasureT-loop
 μ-loop arrivals p q before low v₀ r₀ v r = q - r
@@ -24,11 +24,9 @@ mark-all-spec =
     (λ c. (search needs, (search held-ordered, (search needs, search marked-none))))
     (λ c κs. search place-inside)
     (λ c. search needs)
-    (λ c. search needs)
-    (λ c. search stop-inside-now)
-    (λ c. search needs)
-    (λ c. search needs)
-    (λ c. search stop-inside-now)
+    (λ c κs. search stop-inside-now)
+    (λ c κs. search needs)
+    (λ c κs. search stop-inside-now)
     (λ c. search needs)
     (λ c. search needs)
     (λ c. (search needs, (search needs, (search needs, search mark-turn))))

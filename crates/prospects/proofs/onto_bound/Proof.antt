@@ -14,14 +14,12 @@ pub onto-bound-spec : {M : Type 1} → statement M
 onto-bound-spec =
     tie.close
     (tie.spec
+    (λ c κs. search needs)
     (λ c. search needs)
+    (λ c κs. search needs)
     (λ c. search needs)
-    (λ c. search needs)
-    (λ c. search needs)
-    (λ c. search needs)
-    (λ c. search caught-inside)
-    (λ c. search station-some)
-    (λ c κs. (search needs, search station-few))
-    (λ c. search needs)
+    (λ c κs. search caught-inside)
+    (λ c κs. (search needs, search station-some, search station-few))
+    (λ c κs. search needs)
     (λ c. search onto-some)
     (λ c. search onto-none))

@@ -38,9 +38,6 @@ add-count-2 c =
 returns-2 : tie.Need-returns-2
 returns-2 c = (search short-reply, search short-words)
 
-write-store-requires : tie.Need-write-store-requires
-write-store-requires c κs = (search finished, search needs)
-
 cast-t17 : tie.Need-cast-t17
 cast-t17 c = record { fits = search count-small }
 
@@ -63,9 +60,9 @@ make-spec =
     returns-2
     (λ c. search needs)
     (λ c. search needs)
-    (λ c. search needs)
-    write-store-requires
+    (λ lent. search needs)
+    (λ written κs. (search finished, search needs))
     cast-t17
     (λ c. search needs)
-    (λ c. search needs)
+    (λ kept. search needs)
     returns-3)

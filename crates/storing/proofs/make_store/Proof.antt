@@ -1,6 +1,6 @@
 -- What was answered if no question is in the way; number and count are those of the reply.
 use borrow.Author.Needs.{needs}
-use Rattle.storing.specs.Storing.{store-values}
+use Rattle.promises.specs.StoreCall.{store-values}
 use Rattle.storing.proofs.make_store.Statement.{statement}
 use Rattle.storing.proofs.make_store.Tie as tie
 

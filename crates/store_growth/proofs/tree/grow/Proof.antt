@@ -1,0 +1,96 @@
+-- The nodes below lo have been taken.
+use mathlib.Core.Path.{_≡_}
+use Prim.Native.Nat.{_-_, _≤_}
+use lib.ListN.{length}
+use borrow.Author.Needs.{needs}
+use Rattle.timetable.specs.Words.{stationCount}
+use Rattle.prospects.specs.Routes.{Routes}
+use Rattle.prospects.specs.Arrivals.{Arrivals}
+use Rattle.marks.specs.Held.{Departures}
+use Rattle.growing.specs.Tree.{Grown}
+use Rattle.stores.specs.Stored.{sequences}
+use Rattle.store_growth.specs.Chunks.{few-nodes, less-left, chunk-grown, whole-refused, whole-taken}
+use Rattle.store_growth.proofs.tree.grow.Statement.{statement}
+use Rattle.store_growth.proofs.tree.grow.Tie as tie
+
+abbrev Inv-loop : tie.InvT-loop
+Inv-loop words order count chain first arrivals begins catch source work₀ targets₀ n₀ m₀ lo₀ work targets n m lo =
+    Routes words order count catch
+    × Arrivals words arrivals begins
+    × Departures words chain first
+    × (1 ≤ source)
+    × (source ≤ stationCount words)
+    × (length work ≡ length work₀)
+    × (length targets ≡ length targets₀)
+    × Grown (sequences words source) source work targets n m lo
+
+abbrev μ-loop : tie.MeasureT-loop
+μ-loop words order count chain first arrivals begins catch source work₀ targets₀ n₀ m₀ lo₀ work targets n m lo =
+    16384 - lo
+
+loop-holds : tie.Need-loop-holds Inv-loop μ-loop
+loop-holds c = (
+  search needs,
+  search needs,
+  search needs,
+  search needs,
+  search needs,
+  search needs,
+  search needs,
+  search needs,
+)
+
+chunk-end-requires : tie.Need-chunk-end-requires Inv-loop μ-loop
+chunk-end-requires c κs = (search needs, search few-nodes)
+
+grow-chunk-requires : tie.Need-grow-chunk-requires Inv-loop μ-loop
+grow-chunk-requires c κs = (
+  search needs,
+  search needs,
+  search needs,
+  search needs,
+  search needs,
+  search needs,
+  search needs,
+  search needs,
+  search needs,
+)
+
+returns : tie.Need-returns Inv-loop μ-loop
+returns c = search whole-refused
+
+loop-less : tie.Need-loop-less Inv-loop μ-loop
+loop-less c = search less-left
+
+loop-again : tie.Need-loop-again Inv-loop μ-loop
+loop-again c = (
+  search needs,
+  search needs,
+  search needs,
+  search needs,
+  search needs,
+  search needs,
+  search needs,
+  search chunk-grown,
+)
+
+returns-2 : tie.Need-returns-2 Inv-loop μ-loop
+returns-2 c = search whole-taken
+
+pub grow-spec : {M : Type 1} → statement M
+grow-spec =
+    tie.close
+    (tie.spec
+    Inv-loop
+    μ-loop
+    loop-holds
+    chunk-end-requires
+    grow-chunk-requires
+    (λ c. search needs)
+    (λ c. search needs)
+    returns
+    loop-less
+    loop-again
+    (λ c. search needs)
+    (λ c. search needs)
+    returns-2)

@@ -1,0 +1,125 @@
+// The tree of the sequences of one source: departures and arrivals are put in order, and the tree is grown from its
+// root.
+mod tree;
+
+ghost use mathlib.Core.Path.{_≡_};
+ghost use mathlib.Core.Bool.{true};
+ghost use Prim.Native.Nat.{_≤_};
+ghost use lib.ListN.{length};
+ghost use Rattle.timetable.specs.Words.{stationCount, isTimetable};
+ghost use Rattle.marks.specs.Held.{Departures};
+ghost use Rattle.prospects.specs.Routes.{Routes};
+ghost use Rattle.prospects.specs.Arrivals.{Arrivals};
+ghost use Rattle.stores.specs.Stored.{sequences};
+ghost use Rattle.store_growth.specs.Chunks.{Whole};
+use growing::Counts;
+use tree::STOPS_MOST;
+
+// Stations count from 1, 64 at most, and the departures of each end where those of the next one begin.
+const BEGINS: usize = 66;
+
+// Writes the departures by minute and by station, and what each arrival catches. Returns how many departures there are.
+fn list_departures(
+    words: &[u16],
+    work: &mut [u32],
+    order: &mut [u16],
+    chain: &mut [u16],
+    first: &mut [u32],
+    catch: &mut [u16],
+) -> usize
+    requires { ⌜ (16384 ≤ length (now words))
+        × (isTimetable (now words) ≡ true)
+        × (length (now work) ≡ 16384)
+        × (length (now order) ≡ 2048)
+        × (length (now chain) ≡ 2048)
+        × (length (now first) ≡ 66)
+        × (length (now catch) ≡ 2048) ⌝ }
+    ensures { λ r. ⌜ Routes (now (words .entry)) (now (order .exit)) r (now (catch .exit))
+        × Departures (now (words .entry)) (now (chain .exit)) (now (first .exit)) ⌝ }
+{
+    let n = chains::order_departures(words, work, order);
+    chains::chain_departures(words, order, n, chain, first);
+    chains::find_catches(words, chain, first, catch);
+    n
+}
+
+// Writes the arrivals by station, and where each station's begin.
+fn list_arrivals(words: &[u16], work: &mut [u32], arrivals: &mut [u16], begins: &mut [u32])
+    requires { ⌜ (16384 ≤ length (now words))
+        × (isTimetable (now words) ≡ true)
+        × (length (now work) ≡ 16384)
+        × (length (now arrivals) ≡ 2048)
+        × (length (now begins) ≡ 66) ⌝ }
+    ensures { λ _. ⌜ Arrivals (now (words .entry)) (now (arrivals .exit)) (now (begins .exit)) ⌝ }
+{
+    chains::chain_arrivals(words, work, arrivals, begins);
+}
+
+// Plants and grows the tree, the departures having been listed. Returns the numbers of nodes and arcs, if they fit.
+fn grow_tree(
+    words: &[u16],
+    order: &[u16],
+    count: usize,
+    chain: &[u16],
+    first: &[u32],
+    catch: &[u16],
+    source: usize,
+    work: &mut [u32],
+    targets: &mut [u8],
+) -> Counts
+    requires { ⌜ Routes (now words) (now order) count (now catch)
+        × Departures (now words) (now chain) (now first)
+        × (1 ≤ source)
+        × (source ≤ stationCount (now words))
+        × (source ≤ 64)
+        × (length (now work) ≡ 16384)
+        × (length (now targets) ≡ 16384) ⌝ }
+    ensures { λ r. ⌜ Whole (sequences (now (words .entry)) source) source (now (work .exit)) (now (targets .exit)) r ⌝ }
+{
+    let mut arrivals = [0u16; STOPS_MOST];
+    let mut begins = [0u32; BEGINS];
+    list_arrivals(words, work, &mut arrivals, &mut begins);
+    growing::plant_root(work, source as u32);
+    tree::grow(
+        words,
+        order,
+        count,
+        chain,
+        first,
+        &arrivals,
+        &begins,
+        catch,
+        source,
+        work,
+        targets,
+    )
+}
+
+// Makes the tree of the sequences of the source. Returns the numbers of nodes and arcs, if they fit.
+pub fn make_tree(words: &[u16], source: usize, work: &mut [u32], targets: &mut [u8]) -> Counts
+    requires { ⌜ (16384 ≤ length (now words))
+        × (isTimetable (now words) ≡ true)
+        × (1 ≤ source)
+        × (source ≤ stationCount (now words))
+        × (source ≤ 64)
+        × (length (now work) ≡ 16384)
+        × (length (now targets) ≡ 16384) ⌝ }
+    ensures { λ r. ⌜ Whole (sequences (now (words .entry)) source) source (now (work .exit)) (now (targets .exit)) r ⌝ }
+{
+    let mut order = [0u16; STOPS_MOST];
+    let mut chain = [0u16; STOPS_MOST];
+    let mut first = [0u32; BEGINS];
+    let mut catch = [0u16; STOPS_MOST];
+    let count = list_departures(words, work, &mut order, &mut chain, &mut first, &mut catch);
+    grow_tree(
+        words,
+        &order,
+        count,
+        &chain,
+        &first,
+        &catch,
+        source,
+        work,
+        targets,
+    )
+}

@@ -1,0 +1,174 @@
+// The tree of the sequences, grown from its root: the nodes of a chunk are marked over all minutes, and then each takes
+// the arcs and kids that its marks tell.
+ghost use Prim.Native.Nat.{_+_, _≤_, _<_};
+ghost use Rattle.timetable.specs.Words.{stationCount};
+ghost use Rattle.marks.specs.Held.{Departures};
+ghost use Rattle.prospects.specs.Routes.{Routes};
+ghost use Rattle.prospects.specs.Arrivals.{Arrivals};
+ghost use Rattle.store_growth.specs.Chunks.{SomeChunk, AllReached, Reached, Whole};
+ghost use Rattle.growing.specs.Tree.{Grown};
+ghost use Rattle.stores.specs.Stored.{sequences};
+use growing::Counts;
+
+// A timetable has at most so many stops.
+pub const STOPS_MOST: usize = 2048;
+
+// The arcs and kids of so many nodes are found in one go.
+const CHUNK: usize = 48;
+
+// The flags of a chunk.
+const FLAGS: usize = 3072;
+
+// Takes the nodes from lo up to hi by their flags. Returns the numbers of nodes and arcs then, if they fit.
+fn take_chunk(
+    work: &mut [u32],
+    targets: &mut [u8],
+    lo: usize,
+    hi: usize,
+    nodes: usize,
+    ends: usize,
+    arcs: &[u8],
+    kids: &[u8],
+) -> Counts
+    requires { ⌜ SomeChunk (now work) (now targets) nodes ends lo hi (now arcs) (now kids) ⌝ }
+    ensures { λ r. ⌜ AllReached (now (work .entry)) (now (targets .entry)) nodes ends lo hi (now (arcs .entry))
+        (now (kids .entry)) (now (work .exit)) (now (targets .exit)) r ⌝ }
+{
+    let mut n = nodes;
+    let mut m = ends;
+    let mut v = lo;
+    while v < hi {
+        let o = 64 * (v - lo);
+        let taken = growing::take_node(work, targets, v, n, m, &arcs[o..o + 64], &kids[o..o + 64]);
+        if !taken.fits {
+            return taken;
+        }
+        n = taken.n;
+        m = taken.m;
+        v += 1;
+    }
+    Counts { n, m, fits: true }
+}
+
+// Finds the arcs and kids of the nodes from lo up to hi, and takes these nodes. Returns the numbers of nodes and arcs
+// then, if they fit.
+fn grow_chunk(
+    words: &[u16],
+    order: &[u16],
+    count: usize,
+    chain: &[u16],
+    first: &[u32],
+    arrivals: &[u16],
+    begins: &[u32],
+    catch: &[u16],
+    source: usize,
+    work: &mut [u32],
+    targets: &mut [u8],
+    lo: usize,
+    hi: usize,
+    nodes: usize,
+    ends: usize,
+) -> Counts
+    requires { ⌜ Routes (now words) (now order) count (now catch)
+        × Arrivals (now words) (now arrivals) (now begins)
+        × Departures (now words) (now chain) (now first)
+        × (1 ≤ source)
+        × (source ≤ stationCount (now words))
+        × Grown (sequences (now words) source) source (now work) (now targets) nodes ends lo
+        × (lo ≤ hi)
+        × (hi ≤ nodes + 1)
+        × (hi ≤ lo + 48) ⌝ }
+    ensures { λ r. ⌜ Reached (sequences (now (words .entry)) source) source (now (work .exit)) (now (targets .exit)) hi
+        r ⌝ }
+{
+    let mut v = [0u32; STOPS_MOST];
+    let mut q = [0u32; STOPS_MOST];
+    let mut x = [0u32; STOPS_MOST];
+    let mut arcs = [0u8; FLAGS];
+    let mut kids = [0u8; FLAGS];
+    store_minutes::mark_chunk(
+        words,
+        order,
+        count,
+        chain,
+        first,
+        arrivals,
+        begins,
+        catch,
+        work,
+        lo,
+        hi,
+        source,
+        &mut v,
+        &mut q,
+        &mut x,
+        &mut arcs,
+        &mut kids,
+    );
+    take_chunk(work, targets, lo, hi, nodes, ends, &arcs, &kids)
+}
+
+// Where the chunk ends that begins with node lo, the last node being n.
+fn chunk_end(lo: usize, n: usize) -> usize
+    requires { ⌜ (lo ≤ n) × (n ≤ 16383) ⌝ }
+    ensures { λ r. ⌜ (lo < r) × (r ≤ n + 1) × (r ≤ lo + 48) ⌝ }
+{
+    if lo + CHUNK < n + 1 {
+        return lo + CHUNK;
+    }
+    n + 1
+}
+
+// Grows the tree from its root. Returns the numbers of nodes and arcs, if they fit.
+pub fn grow(
+    words: &[u16],
+    order: &[u16],
+    count: usize,
+    chain: &[u16],
+    first: &[u32],
+    arrivals: &[u16],
+    begins: &[u32],
+    catch: &[u16],
+    source: usize,
+    work: &mut [u32],
+    targets: &mut [u8],
+) -> Counts
+    requires { ⌜ Routes (now words) (now order) count (now catch)
+        × Arrivals (now words) (now arrivals) (now begins)
+        × Departures (now words) (now chain) (now first)
+        × (1 ≤ source)
+        × (source ≤ stationCount (now words))
+        × Grown (sequences (now words) source) source (now work) (now targets) 0 0 0 ⌝ }
+    ensures { λ r. ⌜ Whole (sequences (now (words .entry)) source) source (now (work .exit)) (now (targets .exit)) r ⌝ }
+{
+    let mut n = 0;
+    let mut m = 0;
+    let mut lo = 0;
+    while lo <= n {
+        let hi = chunk_end(lo, n);
+        let taken = grow_chunk(
+            words,
+            order,
+            count,
+            chain,
+            first,
+            arrivals,
+            begins,
+            catch,
+            source,
+            work,
+            targets,
+            lo,
+            hi,
+            n,
+            m,
+        );
+        if !taken.fits {
+            return taken;
+        }
+        n = taken.n;
+        m = taken.m;
+        lo = hi;
+    }
+    Counts { n, m, fits: true }
+}

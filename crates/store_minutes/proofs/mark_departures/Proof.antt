@@ -1,0 +1,138 @@
+-- The departures of the source up to place p have been looked at.
+use mathlib.Core.Path.{_≡_}
+use Prim.Native.Nat.{_+_, _-_, _≤_}
+use lib.ListN.{length, getD}
+use borrow.Author.Needs.{needs}
+use Rattle.timetable.specs.Words.{stationCount}
+use Rattle.prospects.specs.Routes.{Routes}
+use Rattle.prospects.specs.Arrivals.{Arrivals}
+use Rattle.marks.specs.Held.{Departures}
+use Rattle.store_nodes.specs.Standing.{StandingTo}
+use Rattle.store_minutes.specs.Seeking.{Sought, sought-first, place-known, next-known, begins-before, chunked}
+use Rattle.store_minutes.proofs.mark_departures.Statement.{statement}
+use Rattle.store_minutes.proofs.mark_departures.Tie as tie
+
+abbrev Inv-loop : tie.InvT-loop
+Inv-loop words order n chain first arrivals begins catch work lo hi source _ _ _ _ _ end _ _ v q x arcs kids p last =
+    Routes words order n catch
+    × Arrivals words arrivals begins
+    × Departures words chain first
+    × (1 ≤ source)
+    × (source ≤ stationCount words)
+    × StandingTo words source work hi
+    × (lo ≤ hi)
+    × (hi ≤ lo + 48)
+    × (end ≡ getD first (source + 1) 0)
+    × (getD first source 0 ≤ p)
+    × (p ≤ getD first (source + 1) 0)
+    × (length v ≡ 2048)
+    × (length q ≡ 2048)
+    × (length x ≡ 2048)
+    × (length arcs ≡ 3072)
+    × (length kids ≡ 3072)
+    × Sought words source chain (getD first source 0) p last lo hi arcs kids
+
+abbrev μ-loop : tie.MeasureT-loop
+μ-loop words order n chain first arrivals begins catch work lo hi source _ _ _ _ _ end _ _ v q x arcs kids p last =
+    end - p
+
+place-at-requires : tie.Need-place-at-requires Inv-loop μ-loop
+place-at-requires c κs = search next-known
+
+place-at-requires-2 : tie.Need-place-at-requires-2 Inv-loop μ-loop
+place-at-requires-2 c κs = search place-known
+
+loop-holds : tie.Need-loop-holds Inv-loop μ-loop
+loop-holds c = (
+  search needs,
+  search needs,
+  search needs,
+  search needs,
+  search needs,
+  search needs,
+  search needs,
+  search needs,
+  search needs,
+  search needs,
+  search begins-before,
+  search needs,
+  search needs,
+  search needs,
+  search needs,
+  search needs,
+  search sought-first,
+)
+
+mark-departure-requires : tie.Need-mark-departure-requires Inv-loop μ-loop
+mark-departure-requires c κs = (
+  search needs,
+  search needs,
+  search needs,
+  search needs,
+  search needs,
+  search needs,
+  search needs,
+  search needs,
+  search needs,
+  search needs,
+  search needs,
+  search needs,
+  search needs,
+  search needs,
+  search needs,
+  search needs,
+)
+
+loop-again : tie.Need-loop-again Inv-loop μ-loop
+loop-again c = (
+  search needs,
+  search needs,
+  search needs,
+  search needs,
+  search needs,
+  search needs,
+  search needs,
+  search needs,
+  search needs,
+  search needs,
+  search needs,
+  search needs,
+  search needs,
+  search needs,
+  search needs,
+  search needs,
+  search needs,
+)
+
+returns : tie.Need-returns Inv-loop μ-loop
+returns c = (
+  let b = c .before .loop in
+      let i = b .inv in
+      chunked _ _ _ _ (i .0) _ _ (i .2) _ (i .4) (b .p) (b .last) _ _ _ _ (i .10) _ (i .8) (c .loop-test .left) (i .16),
+  search needs,
+  search needs,
+  search needs,
+  search needs,
+  search needs,
+)
+
+pub mark-departures-spec : {M : Type 1} → statement M
+mark-departures-spec =
+    tie.close
+    (tie.spec
+    Inv-loop
+    μ-loop
+    (λ c. search needs)
+    place-at-requires
+    place-at-requires-2
+    loop-holds
+    mark-departure-requires
+    (λ c. search needs)
+    (λ c. search needs)
+    loop-again
+    (λ c. search needs)
+    (λ c. search needs)
+    (λ c. search needs)
+    (λ c. search needs)
+    (λ c. search needs)
+    returns)

@@ -1,0 +1,30 @@
+-- The labels at the next station, and the marks that they tell.
+use borrow.Author.Needs.{needs}
+use Rattle.store_nodes.proofs.families.mark_kid.Statement.{statement}
+use Rattle.store_nodes.proofs.families.mark_kid.Tie as tie
+
+label-step-requires : tie.Need-label-step-requires
+label-step-requires c κs = (
+  (search needs, search needs),
+  ((search needs, search needs), ((search needs, search needs, search needs, search needs), search needs)),
+)
+
+mark-requires : tie.Need-mark-requires
+mark-requires c κs = (
+  (search needs, search needs),
+  (
+    (search needs, search needs),
+    ((search needs, search needs, search needs), (search needs, search needs, search needs)),
+  ),
+)
+
+pub mark-kid-spec : {M : Type 1} → statement M
+mark-kid-spec =
+    tie.close
+    (tie.spec
+    label-step-requires
+    mark-requires
+    (λ c. search needs)
+    (λ c. search needs)
+    (λ c. search needs)
+    (λ c. search needs))

@@ -1,0 +1,107 @@
+-- The siblings below the one at hand have been marked, and the labels of their parent are still there.
+use mathlib.Core.Path.{_≡_}
+use Prim.Native.Nat.{_-_, _≤_, _<_}
+use lib.ListN.{length, getD}
+use Rattle.growing.specs.Tree.{parentIn}
+use Rattle.store_nodes.specs.Standing.{ArcsAt, KidsAt}
+use Rattle.store_nodes.specs.Hope.{Stays, ToldOn, stays-same, stays-more, told-none, told-then, kin-under}
+use Rattle.store_nodes.specs.Hope.{kin-from}
+use borrow.Author.Needs.{needs}
+use Rattle.store_nodes.proofs.families.mark_kids.Statement.{statement}
+use Rattle.store_nodes.proofs.families.mark_kids.Tie as tie
+
+abbrev Inv-loop : tie.InvT-loop
+Inv-loop words chain first catch work allowed q parent lo node hi c hope x₀ arcs₀ kids₀ v₀ x arcs kids v =
+    (1 ≤ v)
+    × (lo ≤ v)
+    × (node ≤ v)
+    × (v < hi)
+    × (length x ≡ 2048)
+    × (length arcs ≡ 3072)
+    × (length kids ≡ 3072)
+    × (parent ≡ parentIn (getD work v 0))
+    × Stays words c hope x₀ x
+    × ToldOn (ArcsAt words) words work parent lo node v c x₀ hope allowed catch q arcs₀ arcs
+    × ToldOn (KidsAt words) words work parent lo node v c x₀ hope allowed catch q kids₀ kids
+
+abbrev μ-loop : tie.MeasureT-loop
+μ-loop words chain first catch work allowed q parent lo node hi c hope x₀ arcs₀ kids₀ v₀ x arcs kids v =
+    hi - v
+
+loop-holds : tie.Need-loop-holds Inv-loop μ-loop
+loop-holds c = (
+  search needs,
+  search needs,
+  search needs,
+  search needs,
+  search needs,
+  search needs,
+  search needs,
+  search needs,
+  search stays-same,
+  search told-none,
+  search told-none,
+)
+
+mark-sibling-requires : tie.Need-mark-sibling-requires Inv-loop μ-loop
+mark-sibling-requires c κs = (
+  search needs,
+  search needs,
+  search needs,
+  search needs,
+  search needs,
+  search needs,
+  search needs,
+  search needs,
+  search needs,
+  search needs,
+  search needs,
+  search needs,
+  search needs,
+  search needs,
+  search needs,
+  search needs,
+  search needs,
+)
+
+returns : tie.Need-returns Inv-loop μ-loop
+returns c = (
+  search told-then,
+  search told-then,
+  search needs,
+  search needs,
+  search needs,
+  search needs,
+  search needs,
+)
+
+loop-again : tie.Need-loop-again Inv-loop μ-loop
+loop-again c = (
+  search needs,
+  search needs,
+  search needs,
+  search kin-under,
+  search needs,
+  search needs,
+  search needs,
+  search kin-from,
+  search stays-more,
+  search told-then,
+  search told-then,
+)
+
+pub mark-kids-spec : {M : Type 1} → statement M
+mark-kids-spec =
+    tie.close
+    (tie.spec
+    Inv-loop
+    μ-loop
+    loop-holds
+    mark-sibling-requires
+    (λ c. search needs)
+    (λ c. search needs)
+    (λ c. search needs)
+    (λ c. search needs)
+    returns
+    (λ c. search needs)
+    loop-again)

@@ -1,0 +1,83 @@
+-- The nodes below the one at hand have been marked.
+use mathlib.Core.Path.{_≡_}
+use Prim.Native.Nat.{_≤_, _-_}
+use lib.ListN.{length}
+use Rattle.store_nodes.specs.Standing.{ArcsAt, KidsAt}
+use Rattle.store_nodes.specs.Chunk.{Raised, raised-none, on-all, raised-all}
+use borrow.Author.Needs.{needs}
+use Rattle.store_nodes.proofs.families.mark_nodes.Statement.{statement}
+use Rattle.store_nodes.proofs.families.mark_nodes.Tie as tie
+
+abbrev Inv-loop : tie.InvT-loop
+Inv-loop words chain first catch work lo hi source d allowed q x₀ arcs₀ kids₀ node₀ x arcs kids node =
+    (lo ≤ node)
+    × (node ≤ hi)
+    × (length x ≡ 2048)
+    × (length arcs ≡ 3072)
+    × (length kids ≡ 3072)
+    × Raised (ArcsAt words source d) lo node arcs₀ arcs
+    × Raised (KidsAt words source d) lo node kids₀ kids
+
+abbrev μ-loop : tie.MeasureT-loop
+μ-loop words chain first catch work lo hi source d allowed q x₀ arcs₀ kids₀ node₀ x arcs kids node =
+    hi - node
+
+loop-holds : tie.Need-loop-holds Inv-loop μ-loop
+loop-holds c = (
+  search needs,
+  search needs,
+  search needs,
+  search needs,
+  search needs,
+  search raised-none,
+  search raised-none,
+)
+
+mark-family-requires : tie.Need-mark-family-requires Inv-loop μ-loop
+mark-family-requires c κs = (
+  search needs,
+  search needs,
+  search needs,
+  search needs,
+  search needs,
+  search needs,
+  search needs,
+  search needs,
+  search needs,
+  search needs,
+  search needs,
+  search needs,
+  search needs,
+  search needs,
+  search needs,
+  search needs,
+)
+
+loop-again : tie.Need-loop-again Inv-loop μ-loop
+loop-again c = (
+  search needs,
+  search needs,
+  search needs,
+  search needs,
+  search needs,
+  search on-all,
+  search on-all,
+)
+
+returns : tie.Need-returns Inv-loop μ-loop
+returns c = (search raised-all, search raised-all, search needs, search needs, search needs)
+
+pub mark-nodes-spec : {M : Type 1} → statement M
+mark-nodes-spec =
+    tie.close
+    (tie.spec
+    Inv-loop
+    μ-loop
+    loop-holds
+    mark-family-requires
+    (λ c. search needs)
+    loop-again
+    (λ c. search needs)
+    (λ c. search needs)
+    (λ c. search needs)
+    returns)

@@ -1,0 +1,57 @@
+-- The station of the node is behind the changes of its parent.
+use Rattle.store_nodes.specs.Hope.{kids-inside, sibling-inside}
+use Rattle.store_nodes.specs.Hope.{sibling-some, sibling-listed, sibling-few, sibling-apart, told-one}
+use borrow.Author.Needs.{needs}
+use Rattle.store_nodes.proofs.families.mark_sibling.Statement.{statement}
+use Rattle.store_nodes.proofs.families.mark_sibling.Tie as tie
+
+station-of-requires : tie.Need-station-of-requires
+station-of-requires c κs = search sibling-inside
+
+mark-hoped-requires : tie.Need-mark-hoped-requires
+mark-hoped-requires c κs = (
+  search needs,
+  search needs,
+  search needs,
+  search needs,
+  search needs,
+  search sibling-some,
+  search sibling-listed,
+  search sibling-few,
+  search sibling-apart,
+  search needs,
+  search needs,
+  search needs,
+  search needs,
+  search needs,
+  search needs,
+  search needs,
+  search needs,
+)
+
+is-kid-requires : tie.Need-is-kid-requires
+is-kid-requires c κs = search kids-inside
+
+returns : tie.Need-returns
+returns c = (
+  search told-one,
+  search told-one,
+  search needs,
+  search needs,
+  search needs,
+  search needs,
+  search needs,
+)
+
+pub mark-sibling-spec : {M : Type 1} → statement M
+mark-sibling-spec =
+    tie.close
+    (tie.spec
+    station-of-requires
+    mark-hoped-requires
+    (λ c. search needs)
+    is-kid-requires
+    (λ c. search needs)
+    (λ c. search needs)
+    (λ c. search needs)
+    returns)

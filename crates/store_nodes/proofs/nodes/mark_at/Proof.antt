@@ -1,0 +1,45 @@
+-- The flags of the node are a part of those of the chunk.
+use borrow.Author.Needs.{needs}
+use Rattle.store_nodes.specs.Chunk.{part-64, marked-at, marked-long}
+use Rattle.store_nodes.proofs.nodes.mark_at.Statement.{statement}
+use Rattle.store_nodes.proofs.nodes.mark_at.Tie as tie
+
+mark-node-requires : tie.Need-mark-node-requires
+mark-node-requires c κs = (
+  search needs,
+  search needs,
+  search needs,
+  search needs,
+  search needs,
+  search needs,
+  search needs,
+  search needs,
+  search needs,
+  search needs,
+  search needs,
+  search part-64,
+  search part-64,
+)
+
+returns : tie.Need-returns
+returns c = (search marked-at, search marked-at, search needs, search marked-long, search marked-long)
+
+pub mark-at-spec : {M : Type 1} → statement M
+mark-at-spec =
+    tie.close
+    (tie.spec
+    (λ c. search needs)
+    (λ c. search needs)
+    (λ c. search needs)
+    (λ c. search needs)
+    (λ c. search needs)
+    (λ c. search needs)
+    (λ c. search needs)
+    (λ c. search needs)
+    (λ c. search needs)
+    (λ c. search needs)
+    mark-node-requires
+    (λ c. search needs)
+    (λ c. search needs)
+    (λ c. search needs)
+    returns)
