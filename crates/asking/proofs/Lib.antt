@@ -1,3 +1,1 @@
-pub mod PassLaws
-pub mod RowLaws
 pub mod ShownLaws

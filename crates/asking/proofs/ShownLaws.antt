@@ -14,13 +14,13 @@ use Rattle.replies.specs.declared.Reply.the-variants.{Done, Refused}
 use Rattle.replies.specs.Replies.{reply-done, reply-refused, words-done, words-kept}
 use Rattle.checking.specs.Asked.{queryNumber}
 use Rattle.checking.specs.Yes.{yes-all}
-use Rattle.direct.specs.Choosing.{noPoints, leads}
-use Rattle.asking.specs.Asking.{kept, rows, rowWords}
-use Rattle.asking.specs.Rowed.{LeastKept}
-use Rattle.asking.specs.Leading.{leads-count, leads-none, leads-some}
-use Rattle.asking.specs.Granted.{Granted, all-bounds}
+use Rattle.minutes.specs.Minutes.{noPoints, leads}
+use Rattle.promises.specs.Query.{kept, rows, rowWords}
+use Rattle.query_rows.specs.Rowed.{LeastKept}
+use Rattle.query_rows.specs.Leading.{leads-count, leads-none, leads-some}
+use Rattle.query_rows.specs.Granted.{Granted, all-bounds}
 use Rattle.asking.specs.Shown.{shownNumber, shownReply, shownWords}
-use Rattle.asking.proofs.PassLaws.{rows-are}
+use Rattle.query_rows.proofs.PassLaws.{rows-are}
 
 module _
     (w v s best : List ℕ)

@@ -1,14 +1,1 @@
-pub mod Asking
-pub mod Rowed
-pub mod Merged
-pub mod Collected
-pub mod Sole
-pub mod Won
-pub mod Keys
-pub mod Leading
-pub mod Granted
-pub mod Arcs
 pub mod Shown
-pub mod Trying
-pub mod Leader
-pub mod Found

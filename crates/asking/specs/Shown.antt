@@ -18,8 +18,8 @@ use Rattle.timetable.specs.Check.{length-stations}
 use Rattle.stores.specs.Words.{wellMade}
 use Rattle.checking.specs.Asked.{queryQuestions, queryNumber}
 use Rattle.checking.specs.Yes.{Yes, query-asked, yes-all}
-use Rattle.asking.specs.Asking.{kept, rows, rowWords, lastQuestions, askNumber, askReply, askWords}
-use Rattle.asking.specs.Granted.{Granted}
+use Rattle.promises.specs.Query.{kept, rows, rowWords, lastQuestions, askNumber, askReply, askWords}
+use Rattle.query_rows.specs.Granted.{Granted}
 
 -- ---- questions 14 and 15
 abbrev pub twoQuestions : (w s : List ℕ) (a b u m : ℕ) → List Question

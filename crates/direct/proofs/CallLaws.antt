@@ -3,18 +3,20 @@ use mathlib.Core.Path.{_≡_, refl, sym, ap, _∙_}
 use mathlib.Core.Bool.{cond}
 use mathlib.Core.List.{List, [], _∷_, map}
 use Prim.Native.Nat.{ℕ, suc, _+_, _-_, _≤_, _<_}
+use native.Mathlib.Nat.{sub-zero}
 use native.Mathlib.Numerals.{add-one}
 use native.Mathlib.Omega.{arith}
 use borrow.Author.Tests.{lt-ltb, le-ltb}
-use lib.Dec.{ltb}
+use lib.Dec.{leb, ltb}
 use lib.ListN.{length, getD, length-take, length-drop}
 use lib.Seq.{slice, slice-cons}
-use Rattle.lookup.specs.Lookup.{Line, lineAt, callsPlace}
-use Rattle.lookup.specs.First.{firstTrip}
+use Rattle.lookup.specs.Lookup.{Line, lineAt, departAt, callsPlace}
+use Rattle.lookup.specs.First.{firstFrom, firstTrip}
+use Rattle.lookup.proofs.FirstLaws.{none-left, found, goes-on}
 use Rattle.direct.specs.Candidates.{Call, pairsOf, callsOf, rideOn, reach, firstRead}
-use Rattle.direct.specs.Choosing.{noteAll}
+use Rattle.minutes.specs.Minutes.{noteAll}
 use Rattle.direct.specs.Turns.{firstCalls}
-use Rattle.direct.proofs.NoteLaws.{noteAll-append}
+use Rattle.minutes.proofs.NoteLaws.{noteAll-append}
 
 -- the call of the words at indices k and k + 1
 abbrev callAt : List ℕ → (k : ℕ) → Call
@@ -49,6 +51,25 @@ unfolding callsOf
 calls-are v a k end from-k to-end h =
     let same : a - 1 + 1 ≡ a = omega arith in
     rw (from-k, to-end, same)
+
+-- ---- the first trip: none before place j leaves in time
+pub record Sought (v : List ℕ) (l : Line) (x u j : ℕ) : Type 0 where
+  pub few : j ≤ l .trips
+  pub so-far : firstTrip v l x u ≡ firstFrom (λ j. leb u (departAt v l x j)) j (l .trips - j)
+
+pub sought-first : (v : List ℕ) (l : Line) (x u : ℕ) → Sought v l x u 0
+sought-first v l x u = record { few = omega arith; so-far = rw sub-zero }
+
+module _ (v : List ℕ) (l : Line) (x u j : ℕ) (k : Sought v l x u j) where
+  pub sought-none : l .trips ≤ j → j ≡ firstTrip v l x u
+  sought-none = none-left v l x u j (k .so-far)
+
+  module _ (more : j < l .trips) (r : ℕ) (is : r ≡ departAt v l x j) where
+    pub sought-here : u ≤ r → j ≡ firstTrip v l x u
+    sought-here = found v l x u j (k .so-far) r is more
+
+    pub sought-next : r < u → Sought v l x u (j + 1)
+    sought-next h = record { few = omega arith; so-far = goes-on v l x u j (k .so-far) r is more h }
 
 -- ---- noting
 module _ (v : List ℕ) (a u b k end : ℕ) (old best : List ℕ) where

@@ -57,16 +57,16 @@ unkept-done kept a k h = record { none = λ m g. k .none m (omega arith) }
 -- ---- one ride
 module _ (kept : List ℕ) (m : ℕ) (f stood : Found) (is-stood : stood ≡ keptAt kept m) (r : Bool)
     (is-r : r ≡ goesBefore f stood) where
-  test : goesBefore f (keptAt kept m) ≡ r
-  test = sym (is-r ∙ ap (goesBefore f) is-stood)
+  goes : goesBefore f (keptAt kept m) ≡ r
+  goes = sym (is-r ∙ ap (goesBefore f) is-stood)
 
   pub taken : r ≡ true → (end : List ℕ) → end ≡ put (4 * m) (rideWords f) kept → end ≡ keptWith kept m f
   unfolding keptWith
-  taken h end e = rw (test, h) e
+  taken h end e = rw (goes, h) e
 
   pub passed : r ≡ false → kept ≡ keptWith kept m f
   unfolding keptWith
-  passed h = rw (test, h) refl
+  passed h = rw (goes, h) refl
 
 module _ (v : List ℕ) (l : Line) (x p j points : ℕ) (best kept : List ℕ) (a : ℕ) (is-a : a ≡ arriveAt v l p j) where
   pub too-late : 2880 ≤ a
@@ -74,20 +74,29 @@ module _ (v : List ℕ) (l : Line) (x p j points : ℕ) (best kept : List ℕ) (
   unfolding keptOn
   too-late h = rw (le-ltb (arriveAt v l p j) 2880 (omega (arith, is-a))) refl
 
-  module _ (h : a < 2880) where
-    pub too-dear : (points ≡ getD best a 0 → ⊥)
-        → kept ≡ keptOn best kept (rideOn v l x j (record { place = p; points = points }))
-    unfolding keptOn
-    too-dear g = rw (lt-ltb (arriveAt v l p j) 2880 (omega (arith, is-a)), ← is-a, ne-eqb points (getD best a 0) g) refl
+  module _
+      (h : a < 2880)
+      (stood : ℕ)
+      (is-stood : stood ≡ getD best a 0)
+      (r : Bool)
+      (is-r : r ≡ eqb points stood)
+    where
+      test : eqb points (getD best a 0) ≡ r
+      test = ap (eqb points) (sym is-stood) ∙ sym is-r
 
-    pub kept-on : points ≡ getD best a 0 → (d t : ℕ) → d ≡ departAt v l x j → t ≡ numberAt v l j → (end : List ℕ)
-        → end ≡ keptWith kept a (record { depart = d; trip = t; board = x + 1; alight = p + 1 })
-        → end ≡ keptOn best kept (rideOn v l x j (record { place = p; points = points }))
-    unfolding keptOn
-    kept-on g d t is-d is-t end e =
-        rw
-        (lt-ltb (arriveAt v l p j) 2880 (omega (arith, is-a)), ← is-a, eq-eqb points (getD best a 0) g)
-        (e ∙ (λ i. keptWith kept a (record { depart = is-d i; trip = is-t i; board = x + 1; alight = p + 1 })))
+      pub too-dear : r ≡ false
+          → kept ≡ keptOn best kept (rideOn v l x j (record { place = p; points = points }))
+      unfolding keptOn
+      too-dear g = rw (lt-ltb (arriveAt v l p j) 2880 (omega (arith, is-a)), ← is-a, test, g) refl
+
+      pub kept-on : r ≡ true → (d t : ℕ) → d ≡ departAt v l x j → t ≡ numberAt v l j → (end : List ℕ)
+          → end ≡ keptWith kept a (record { depart = d; trip = t; board = x + 1; alight = p + 1 })
+          → end ≡ keptOn best kept (rideOn v l x j (record { place = p; points = points }))
+      unfolding keptOn
+      kept-on g d t is-d is-t end e =
+          rw
+          (lt-ltb (arriveAt v l p j) 2880 (omega (arith, is-a)), ← is-a, test, g)
+          (e ∙ (λ i. keptWith kept a (record { depart = is-d i; trip = is-t i; board = x + 1; alight = p + 1 })))
 
 -- some rides, then some more
 keepAll-append : (best kept : List ℕ) (a b : List Ride)
@@ -161,11 +170,11 @@ module _ (v : List ℕ) (l : Line) (x first b p points : ℕ) (best kept : List 
       (so-far : keepAll best old (concatMap (tripsFrom v l x first) (reach v l x b))
       ≡ keepAll best kept (concatMap (tripsFrom v l x first) (rest v l b p points)))
     where
-      pub places-more : p + 1 < l .positions → (r : ℕ) → r ≡ pointsAt v l p → (end : List ℕ)
-          → end ≡ keptTo v l x (p + 1) first b (points + r) best kept
+      pub places-more : p + 1 < l .positions → (r sum : ℕ) → r ≡ pointsAt v l p → sum ≡ points + r → (end : List ℕ)
+          → end ≡ keptTo v l x (p + 1) first b sum best kept
           → keepAll best old (concatMap (tripsFrom v l x first) (reach v l x b))
-          ≡ keepAll best end (concatMap (tripsFrom v l x first) (rest v l b (p + 1) (points + r)))
-      places-more h r is-r end e = rw (e, is-r) (so-far ∙ turn h)
+          ≡ keepAll best end (concatMap (tripsFrom v l x first) (rest v l b (p + 1) sum))
+      places-more h r sum is-r is-sum end e = rw (e, is-sum, is-r) (so-far ∙ turn h)
 
       pub places-done : l .positions ≤ p + 1
           → kept ≡ keepAll best old (concatMap (tripsFrom v l x first) (reach v l x b))

@@ -1,6 +1,4 @@
 pub mod FoundLaws
-pub mod NoteLaws
-pub mod LeadLaws
 pub mod ReachLaws
 pub mod CallLaws
 pub mod KeepLaws

@@ -9,8 +9,8 @@ use lib.Dec.{eqb}
 use Rattle.lists.specs.Lists.{keep}
 use Rattle.lookup.specs.Lookup.{Line, stationAt, pointsAt, arriveAt}
 use Rattle.direct.specs.Candidates.{Reach, reachFrom, reach, rideOn}
-use Rattle.direct.specs.Choosing.{noteAll}
-use Rattle.direct.specs.Turns.{lowered, notedAt}
+use Rattle.minutes.specs.Minutes.{noteAll, lowered}
+use Rattle.direct.specs.Turns.{notedAt}
 
 -- the places left behind place p
 abbrev pub rest : List ℕ → Line → (b p points : ℕ) → List Reach
@@ -69,11 +69,11 @@ module _ (v : List ℕ) (l : Line) (x j b p points : ℕ) (best : List ℕ) wher
       (so-far : noteAll old (map (rideOn v l x j) (reach v l x b))
       ≡ noteAll best (map (rideOn v l x j) (rest v l b p points)))
     where
-      pub reach-more : p + 1 < l .positions → (r : ℕ) → r ≡ pointsAt v l p → (end : List ℕ)
-          → end ≡ notedAt v l (p + 1) j b (points + r) best
+      pub reach-more : p + 1 < l .positions → (r sum : ℕ) → r ≡ pointsAt v l p → sum ≡ points + r → (end : List ℕ)
+          → end ≡ notedAt v l (p + 1) j b sum best
           → noteAll old (map (rideOn v l x j) (reach v l x b))
-          ≡ noteAll end (map (rideOn v l x j) (rest v l b (p + 1) (points + r)))
-      reach-more h r is-r end e = rw (e, is-r) (so-far ∙ turn h)
+          ≡ noteAll end (map (rideOn v l x j) (rest v l b (p + 1) sum))
+      reach-more h r sum is-r is-sum end e = rw (e, is-sum, is-r) (so-far ∙ turn h)
 
       pub reach-done : l .positions ≤ p + 1 → best ≡ noteAll old (map (rideOn v l x j) (reach v l x b))
       unfolding noteAll

@@ -5,7 +5,7 @@ use mathlib.Core.List.{List, [], _∷_, _++_}
 use Prim.Native.Nat.{ℕ, _+_, _-_, _*_, _≤_, _<_, min}
 use native.Mathlib.Nat.{zero-add}
 use native.Mathlib.Omega.{arith}
-use borrow.Author.Tests.{lt-ltb, le-ltb, ltb-true, ltb-false}
+use borrow.Author.Tests.{ltb-true, ltb-false}
 use lib.Dec.{ltb}
 use lib.ListN.{length, getD, take, drop, length-append, length-drop, drop-of-length-le}
 use Rattle.words.specs.Put.{put, put-none, put-append}
@@ -13,59 +13,62 @@ use Rattle.words.specs.Written.{left-next, write-some, write-done}
 use Rattle.lists.specs.Lists.{concatMap}
 use Rattle.results.specs.Results.{Cost}
 use Rattle.results.specs.declared.Cost.{Cost as CostStruct}
-use Rattle.direct.specs.Choosing.{Found, noPoints, leads, rowFor}
+use Rattle.minutes.specs.Minutes.{noPoints, leads}
+use Rattle.direct.specs.Choosing.{Found, rowFor}
 use Rattle.direct.specs.Keeping.{keptAt, rowsKept}
-use Rattle.direct.specs.Turns.{costOf, leadWords}
-use Rattle.direct.proofs.LeadLaws.{leads-here, leads-not}
+use Rattle.direct.specs.Turns.{leadWords}
+use Rattle.minutes.proofs.LeadLaws.{leads-here, leads-not}
 
 -- ---- one row, two words at a time
-pub row-written : (at u : ℕ) (cost : CostStruct) (f g : Found) (old one two three : List ℕ) (d : ℕ)
+pub row-written : (at : ℕ) (cost : CostStruct) (f : Found) (old one two three : List ℕ)
     → at + 6 ≤ length old
-    → d ≡ cost .minutes .0 - u
-    → f ≡ g
-    → one ≡ put at (d ∷ cost .points .0 ∷ []) old
+    → one ≡ put at (cost .minutes .0 ∷ cost .points .0 ∷ []) old
     → two ≡ put (at + 2) (1 ∷ f .trip ∷ []) one
     → three ≡ put (at + 4) (f .board ∷ f .alight ∷ []) two
-    → three ≡ put at (rowFor u (costOf cost) g) old
-row-written at u cost f g old one two three d room is-d is-f e₁ e₂ e₃ =
-    let half : two ≡ put at (d ∷ cost .points .0 ∷ 1 ∷ f .trip ∷ []) old =
+    → three ≡ put at (cost .minutes .0 ∷ cost .points .0 ∷ 1 ∷ f .trip ∷ f .board ∷ f .alight ∷ []) old
+row-written at cost f old one two three room e₁ e₂ e₃ =
+    let half : two ≡ put at (cost .minutes .0 ∷ cost .points .0 ∷ 1 ∷ f .trip ∷ []) old =
     e₂
     ∙ ap (put (at + 2) (1 ∷ f .trip ∷ [])) e₁
-    ∙ put-append at 2 (d ∷ cost .points .0 ∷ []) (1 ∷ f .trip ∷ []) old refl (omega arith) in
+    ∙ put-append at 2 (cost .minutes .0 ∷ cost .points .0 ∷ []) (1 ∷ f .trip ∷ []) old refl (omega arith) in
     e₃
     ∙ ap (put (at + 4) (f .board ∷ f .alight ∷ [])) half
-    ∙ put-append at 4 (d ∷ cost .points .0 ∷ 1 ∷ f .trip ∷ []) (f .board ∷ f .alight ∷ []) old refl (omega arith)
-    ∙ (λ i. put at (rowFor′ (is-d i) (is-f i)) old)
-  where
-    rowFor′ : (d : ℕ) → Found → List ℕ
-    rowFor′ d f = d ∷ cost .points .0 ∷ 1 ∷ f .trip ∷ f .board ∷ f .alight ∷ []
+    ∙ put-append at 4 (cost .minutes .0 ∷ cost .points .0 ∷ 1 ∷ f .trip ∷ []) (f .board ∷ f .alight ∷ []) old refl
+    (omega arith)
 
 -- ---- one minute
-module _ (u at least : ℕ) (kept : List ℕ) (cost : CostStruct) (old : List ℕ) where
-  module _ (low : cost .points .0 < least) where
-    lead-is : leadWords u kept (costOf cost) least ≡ rowFor u (costOf cost) (keptAt kept (cost .minutes .0))
+module _ (u at least arrive points : ℕ) (kept old : List ℕ) (r : Bool) (is-r : r ≡ ltb points least) where
+  module _ (low : r ≡ true) where
+    lead-is : leadWords u kept (record { minutes = arrive; points = points }) least
+        ≡ rowFor u (record { minutes = arrive; points = points }) (keptAt kept arrive)
     unfolding leadWords
-    lead-is = rw (lt-ltb (cost .points .0) least low)
+    lead-is = rw (sym is-r ∙ low)
 
-    pub lead-room : at + length (leadWords u kept (costOf cost) least) ≤ length old → at + 6 ≤ length old
+    pub lead-room : at + length (leadWords u kept (record { minutes = arrive; points = points }) least) ≤ length old
+        → at + 6 ≤ length old
     lead-room h = omega (arith, ap length lead-is)
 
-    pub lead-written : (end : List ℕ) → end ≡ put at (rowFor u (costOf cost) (keptAt kept (cost .minutes .0))) old
-        → end ≡ put at (leadWords u kept (costOf cost) least) old
-    lead-written end e = e ∙ ap (λ w. put at w old) (sym lead-is)
+    pub lead-written : (end : List ℕ) (d : ℕ) (f : Found) → d ≡ arrive - u → f ≡ keptAt kept arrive
+        → end ≡ put at (d ∷ points ∷ 1 ∷ f .trip ∷ f .board ∷ f .alight ∷ []) old
+        → end ≡ put at (leadWords u kept (record { minutes = arrive; points = points }) least) old
+    lead-written end d f is-d is-f e =
+        e ∙ (λ i. put at (row (is-d i) (is-f i)) old) ∙ ap (λ w. put at w old) (sym lead-is)
+      where
+        row : (d : ℕ) → Found → List ℕ
+        row d f = d ∷ points ∷ 1 ∷ f .trip ∷ f .board ∷ f .alight ∷ []
 
-    pub lead-end : at + 6 ≡ at + length (leadWords u kept (costOf cost) least)
+    pub lead-end : at + 6 ≡ at + length (leadWords u kept (record { minutes = arrive; points = points }) least)
     lead-end = omega (arith, ap length lead-is)
 
-  module _ (high : least ≤ cost .points .0) where
-    no-lead : leadWords u kept (costOf cost) least ≡ []
+  module _ (high : r ≡ false) where
+    no-lead : leadWords u kept (record { minutes = arrive; points = points }) least ≡ []
     unfolding leadWords
-    no-lead = rw (le-ltb (cost .points .0) least high)
+    no-lead = rw (sym is-r ∙ high)
 
-    pub none-written : old ≡ put at (leadWords u kept (costOf cost) least) old
+    pub none-written : old ≡ put at (leadWords u kept (record { minutes = arrive; points = points }) least) old
     none-written = sym (ap (λ w. put at w old) no-lead ∙ put-none at old)
 
-    pub none-end : at ≡ at + length (leadWords u kept (costOf cost) least)
+    pub none-end : at ≡ at + length (leadWords u kept (record { minutes = arrive; points = points }) least)
     none-end = omega (arith, ap length no-lead)
 
 -- ---- from minute to minute
@@ -139,17 +142,13 @@ module _ (u : ℕ) (kept best old : List ℕ) where
         next-long : length whole ≡ here + (length this + length rest)
         next-long = omega (arith, k .within, length-drop here whole, ap length next, length-append this rest)
 
-        pub row-room : here + length (leadWords u kept (record { minutes = a; points = getD best a 0 }) least)
-            ≤ length out
-        row-room = omega (arith, next-long, fits, k .long)
-
-        pub rows-more : (end : List ℕ) (here′ least′ : ℕ)
-            → end ≡ put here (leadWords u kept (record { minutes = a; points = getD best a 0 }) least) out
+        rows-on : (end : List ℕ) (here′ least′ : ℕ)
+            → end ≡ put here this out
             → length end ≡ length out
-            → here′ ≡ here + length (leadWords u kept (record { minutes = a; points = getD best a 0 }) least)
+            → here′ ≡ here + length this
             → least′ ≡ min least (getD best a 0)
             → Rows u kept best old end here′ least′ (a + 1)
-        rows-more end here′ least′ e f g h =
+        rows-on end here′ least′ e f g h =
             record {
               on = omega arith;
               within = omega (arith, g, next-long);
@@ -164,6 +163,24 @@ module _ (u : ℕ) (kept best old : List ℕ) where
                   ∙ ap (λ m. wordsOf u kept (leads m (a + 1) (drop (a + 1) best))) (sym h);
               long = f ∙ k .long;
             }
+
+        module _ (x : ℕ) (is-x : x ≡ getD best a 0) where
+          same : leadWords u kept (record { minutes = a; points = x }) least ≡ this
+          same = ap (λ y. leadWords u kept (record { minutes = a; points = y }) least) is-x
+
+          pub row-room : here + length (leadWords u kept (record { minutes = a; points = x }) least) ≤ length out
+          row-room = omega (arith, next-long, fits, k .long, ap length same)
+
+          pub rows-more : (end : List ℕ) (here′ least′ : ℕ)
+              → end ≡ put here (leadWords u kept (record { minutes = a; points = x }) least) out
+              → length end ≡ length out
+              → here′ ≡ here + length (leadWords u kept (record { minutes = a; points = x }) least)
+              → least′ ≡ min least x
+              → Rows u kept best old end here′ least′ (a + 1)
+          rows-more end here′ least′ e f g h =
+              rows-on end here′ least′ (e ∙ ap (λ w. put here w out) same) f
+              (g ∙ ap (λ w. here + length w) same)
+              (h ∙ ap (min least) is-x)
 
       pub rows-done : 2880 ≤ a → out ≡ put 0 (concatMap (λ r. r) (rowsKept u kept (leads noPoints 0 best))) old
       unfolding leads rowsKept

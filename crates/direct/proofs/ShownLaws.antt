@@ -13,7 +13,8 @@ use Rattle.replies.specs.Replies.{reply-done, reply-refused, words-done, words-
 use Rattle.checking.specs.Asked.{queryNumber}
 use Rattle.checking.specs.Yes.{yes-all}
 use Rattle.direct.specs.Candidates.{firstRead, allRead}
-use Rattle.direct.specs.Choosing.{noPoints, noteAll, blank, leads, rowsFrom}
+use Rattle.minutes.specs.Minutes.{noPoints, noteAll, blank, leads}
+use Rattle.direct.specs.Choosing.{rowsFrom}
 use Rattle.direct.specs.Keeping.{Keeps, rowsKept, rows-kept}
 use Rattle.direct.specs.Shown.{bestOf, leadsOf, foundNumber, foundWords, foundReply, foundAnswer}
 

@@ -1,37 +1,13 @@
--- How the code comes from rides to rows: the least penalty for each arrival minute, of these the ones below all that
--- are earlier, and for each the ride that goes before all others of its cost. No reader of the promise needs this
--- file: Chosen shows that these rows are the result over the rides.
+-- How the code comes from costs to rows: for each cost that leads, the ride that goes before all others of it. No
+-- reader of the promise needs this file: Chosen shows that these rows are the result over the rides.
 use mathlib.Core.Bool.{Bool, cond, _&&_, _||_}
 use mathlib.Core.List.{List, [], _∷_, map}
-use Prim.Native.Nat.{ℕ, suc, _-_, min}
+use Prim.Native.Nat.{ℕ, _-_}
 use lib.Dec.{ltb, eqb}
-use lib.ListN.{length, getD, set, replicate}
 use Rattle.lists.specs.Lists.{filter, before}
 use Rattle.results.specs.Results.{Cost}
 use Rattle.connections.specs.Rides.{Ride}
 use Rattle.direct.specs.declared.rides.Found.{Found as FoundStruct}
-
--- where no ride arrives
-abbrev pub noPoints : ℕ
-noPoints = 4294967295
-
-abbrev pub noted : List ℕ → Ride → List ℕ
-noted best r = set best (r .arrive) (min (getD best (r .arrive) 0) (r .points))
-
--- the least penalty for each arrival minute, after some rides more
-unfoldable pub noteAll : List ℕ → List Ride → List ℕ
-noteAll best [] = best
-noteAll best (r ∷ l) = noteAll (noted best r) l
-
--- no ride has been noted for any minute
-abbrev pub blank : List ℕ
-blank = replicate 2880 noPoints
-
--- the costs below `least` and all before them, the first of the list being for minute a
-unfoldable pub leads : (least a : ℕ) → List ℕ → List Cost
-leads least a [] = []
-leads least a (x ∷ l) =
-    cond (ltb x least) (record { minutes = a; points = x } ∷ leads x (suc a) l) (leads least (suc a) l)
 
 -- a ride that may be shown: the struct of src/
 abbrev pub Found : Type 0

@@ -16,8 +16,9 @@ use Rattle.connections.specs.Rides.{Ride}
 use Rattle.connections.specs.Connections.{Connection, direct, duration, penalty, cost}
 use Rattle.connections.specs.Planner.{tieKey, measure, rowsOf}
 use Rattle.direct.specs.Bounds.{Bounds}
-use Rattle.direct.specs.Choosing.{noPoints, noteAll, blank, leads, pickFor, rowFor, rowsFrom}
-use Rattle.direct.specs.Noted.{LeastNoted, least-noted, Led, led-exactly, Rises, leads-rise}
+use Rattle.minutes.specs.Minutes.{noPoints, noteAll, blank, leads}
+use Rattle.direct.specs.Choosing.{pickFor, rowFor, rowsFrom}
+use Rattle.minutes.specs.Noted.{LeastNoted, least-noted, Led, led-exactly, Rises, leads-rise}
 use Rattle.direct.specs.Picking.{rideFor, found-for, Shown, ride-for}
 
 -- an undominated cost of a list is one of each list with the same costs

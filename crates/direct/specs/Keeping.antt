@@ -16,21 +16,10 @@ use Rattle.words.specs.Put.{put, put-four, length-put}
 use Rattle.lists.specs.Lists.{_∈_, keep, filter}
 use Rattle.results.specs.Results.{Cost}
 use Rattle.connections.specs.Rides.{Ride}
-use Rattle.direct.specs.Choosing.{
-  Found,
-  foundOf,
-  noFound,
-  noPoints,
-  goesBefore,
-  better,
-  leads,
-  pickFrom,
-  ofCost,
-  pickFor,
-  rowFor,
-  rowsFrom,
-}
-use Rattle.direct.specs.Noted.{getD-any, Led, led-exactly}
+use Rattle.minutes.specs.Minutes.{noPoints, leads}
+use Rattle.direct.specs.Choosing.{Found, foundOf, noFound, goesBefore, better}
+use Rattle.direct.specs.Choosing.{pickFrom, ofCost, pickFor, rowFor, rowsFrom}
+use Rattle.minutes.specs.Noted.{getD-any, Led, led-exactly}
 
 -- the ride that the words of minute m tell
 unfoldable pub keptAt : List ℕ → (m : ℕ) → Found

@@ -1,10 +1,8 @@
-pub mod Direct
 pub mod Candidates
 pub mod Choosing
 pub mod Turns
 pub mod Keeping
 pub mod Bounds
-pub mod Noted
 pub mod Picking
 pub mod Chosen
 pub mod Met

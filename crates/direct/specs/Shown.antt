@@ -27,9 +27,11 @@ use Rattle.checking.specs.Question10.{areTables}
 use Rattle.checking.specs.Asked.{queryQuestions, queryNumber}
 use Rattle.checking.specs.Yes.{Yes, query-asked, yes-all}
 use Rattle.checking.specs.Built.{begins-holds}
-use Rattle.direct.specs.Direct.{rides, rows, rowWords, lastQuestions, directNumber, directReply, directWords}
+use Rattle.promises.specs.Query.{rowWords}
+use Rattle.promises.specs.DirectQuery.{rides, rows, lastQuestions, directNumber, directReply, directWords}
 use Rattle.direct.specs.Candidates.{firstRead, allRead}
-use Rattle.direct.specs.Choosing.{noPoints, noteAll, blank, leads, rowsFrom}
+use Rattle.minutes.specs.Minutes.{noPoints, noteAll, blank, leads}
+use Rattle.direct.specs.Choosing.{rowsFrom}
 use Rattle.direct.specs.Chosen.{rows-chosen, rows-count, none-chosen, rows-long}
 use Rattle.direct.specs.Gathered.{all-read, read-costs, all-bounds, first-bounds}
 

@@ -2,25 +2,16 @@
 -- promise needs this file.
 use mathlib.Core.Bool.{cond}
 use mathlib.Core.List.{List, [], map}
-use Prim.Native.Nat.{ℕ, _-_, min}
+use Prim.Native.Nat.{ℕ, _-_}
 use lib.Dec.{ltb, eqb}
-use lib.ListN.{getD, set}
+use Rattle.minutes.specs.Minutes.{lowered}
 use Rattle.lists.specs.Lists.{concatMap, range}
 use Rattle.results.specs.Results.{Cost}
-use Rattle.results.specs.declared.Cost.{Cost as CostStruct}
 use Rattle.connections.specs.Rides.{Ride}
 use Rattle.lookup.specs.Lookup.{Line, lineAt, stationAt, arriveAt}
 use Rattle.direct.specs.Candidates.{Call, Reach, rideOn, firstOn, allOn}
 use Rattle.direct.specs.Choosing.{rowFor}
 use Rattle.direct.specs.Keeping.{keptAt, keepAll}
-
--- the cost of the struct of src/
-abbrev pub costOf : CostStruct → Cost
-costOf c = record { minutes = c .minutes .0; points = c .points .0 }
-
--- the least penalties, once a ride that arrives at minute a with penalty p is noted
-abbrev pub lowered : List ℕ → (a p : ℕ) → List ℕ
-lowered best a p = set best a (min (getD best a 0) p)
 
 -- place p of a line, to which the ride on the trip at place j has this penalty, if it is of station b
 unfoldable pub notedAt : List ℕ → Line → (p j b points : ℕ) → List ℕ → List ℕ

@@ -1,86 +1,22 @@
 // The costs of a query: the least penalty for each arrival minute, noted from the first trips of the lines.
 ghost use mathlib.Core.Path.{_≡_};
-ghost use mathlib.Core.Bool.{cond};
 ghost use mathlib.Core.List.{map};
-ghost use Prim.Native.Nat.{_≤_, _<_, min};
-ghost use lib.Dec.{ltb};
+ghost use Prim.Native.Nat.{_≤_, _<_};
 ghost use lib.ListN.{length};
-ghost use Rattle.lookup.specs.Lookup.{callsPlace};
+ghost use Rattle.lookup.specs.Lookup.{pointsAt, callsPlace};
+ghost use Rattle.minutes.specs.Minutes.{noteAll, blank};
 ghost use Rattle.direct.specs.Candidates.{rideOn, reach, firstRead};
-ghost use Rattle.direct.specs.Choosing.{noPoints, blank, noteAll, leads};
-ghost use Rattle.direct.specs.Turns.{lowered, notedAt};
+ghost use Rattle.direct.specs.Turns.{notedAt};
 ghost use Rattle.direct.specs.Shown.{bestOf, leadsOf};
 use lookup::Line;
-use results::Cost;
-use results::Minutes;
 use results::Points;
 
-// The minutes in which a trip may arrive: 0 to 2,879.
-pub const MINUTES: usize = 2880;
-
-// The penalty of a minute in which no ride arrives; every ride has less.
-pub const NO_POINTS: u32 = u32::MAX;
-
-// The lesser of two numbers of points.
-pub fn lesser(a: u32, b: u32) -> u32
-    ensures { λ r. ⌜ r ≡ min a b ⌝ }
+// The penalty of the ride from place p of a line to the next.
+pub fn ride_points(v: &[u16], l: Line, p: usize) -> Points
+    requires { ⌜ (l .at < 65536) × (l .trips < 65536) × (p < 65536) ⌝ }
+    ensures { λ r. ⌜ (r .0 ≡ pointsAt (now (v .entry)) l p) × (r .0 < 65536) ⌝ }
 {
-    if b < a {
-        return b;
-    }
-    a
-}
-
-// Notes that a ride arrives at a minute with a penalty; best holds the least penalty for each arrival minute. A minute
-// past its end is not noted: no trip of a timetable arrives then.
-pub fn note(best: &mut [u32], cost: Cost)
-    ensures { λ _. ⌜ now (best .exit)
-        ≡ lowered (now (best .entry)) (cost .minutes .0) (cost .points .0) ⌝ }
-    ensures { λ _. ⌜ length (now (best .exit)) ≡ length (now (best .entry)) ⌝ }
-{
-    let minute = cost.minutes.0 as usize;
-    if minute < best.len() {
-        best[minute] = lesser(best[minute], cost.points.0);
-    }
-}
-
-// Before a query no ride has been noted for any minute.
-pub fn fill_blank(best: &mut [u32])
-    requires { ⌜ length (now best) ≡ 2880 ⌝ }
-    ensures { λ _. ⌜ now (best .exit) ≡ blank ⌝ }
-    ensures { λ _. ⌜ length (now (best .exit)) ≡ length (now (best .entry)) ⌝ }
-{
-    let mut i = 0;
-    while i < MINUTES {
-        best[i] = NO_POINTS;
-        i += 1;
-    }
-}
-
-// 1 if a is below b, else 0.
-fn below(a: u32, b: u32) -> usize
-    ensures { λ r. ⌜ (r ≡ cond (ltb a b) 1 0) × (r ≤ 1) ⌝ }
-{
-    if a < b {
-        return 1;
-    }
-    0
-}
-
-// How many arrival minutes have a penalty below those of all earlier minutes: the rows of the answer.
-pub fn count_rows(best: &[u32]) -> usize
-    requires { ⌜ length (now best) ≡ 2880 ⌝ }
-    ensures { λ r. ⌜ (r ≡ length (leads noPoints 0 (now (best .entry)))) × (r ≤ 2880) ⌝ }
-{
-    let mut rows = 0;
-    let mut least = NO_POINTS;
-    let mut a = 0;
-    while a < MINUTES {
-        rows += below(best[a], least);
-        least = lesser(least, best[a]);
-        a += 1;
-    }
-    rows
+    Points(lookup::points_at(v, l, p) as u32)
 }
 
 // Notes the ride on the trip at place j of a line to place p, if the station there is the one asked for; points is the
@@ -91,8 +27,7 @@ fn note_at(v: &[u16], l: Line, p: usize, j: usize, to: usize, points: Points, be
     ensures { λ _. ⌜ length (now (best .exit)) ≡ length (now (best .entry)) ⌝ }
 {
     if lookup::station_at(v, l, p) == to {
-        let minutes = Minutes(lookup::arrive_at(v, l, p, j) as u32);
-        note(best, Cost { minutes, points });
+        minutes::note(best, lookup::arrive_at(v, l, p, j), points);
     }
 }
 
@@ -103,16 +38,17 @@ fn note_reach(v: &[u16], l: Line, x: usize, j: usize, to: usize, best: &mut [u32
         ≡ noteAll (now (best .entry)) (map (rideOn (now (v .entry)) l x j) (reach (now (v .entry)) l x to)) ⌝ }
     ensures { λ _. ⌜ length (now (best .exit)) ≡ length (now (best .entry)) ⌝ }
 {
-    let mut points: u32 = 0;
+    let mut points = Points(0);
     let mut p = x;
     while p + 1 < l.positions {
-        points += lookup::points_at(v, l, p) as u32;
+        points = minutes::sum(points, ride_points(v, l, p));
         p += 1;
-        note_at(v, l, p, j, to, Points(points), best);
+        note_at(v, l, p, j, to, points, best);
     }
 }
 
-// Notes, at each call of station from, the rides to station to on the first trip that leaves at the minute or later.
+// Notes, at each call of station from, the rides to station to on the first trip that leaves at the minute or later. A
+// line of which no trip leaves then is passed over.
 fn note_first(v: &[u16], from: usize, to: usize, minute: usize, best: &mut [u32])
     requires { ⌜ (1 ≤ from) × (from ≤ 64) × (callsPlace (now v) from ≤ length (now v)) ⌝ }
     ensures { λ _. ⌜ now (best .exit) ≡ noteAll (now (best .entry)) (firstRead (now (v .entry)) from minute to) ⌝ }
@@ -124,15 +60,21 @@ fn note_first(v: &[u16], from: usize, to: usize, minute: usize, best: &mut [u32]
         let l = lookup::call_line(v, k);
         let x = lookup::call_place(v, k);
         k += 2;
-        let first = lookup::first_trip(v, l, x, minute);
-        if l.trips <= first {
-            continue 'calls;
-        }
+        let mut j = 0;
+        let first = loop {
+            if l.trips <= j {
+                continue 'calls;
+            }
+            if minute <= lookup::depart_at(v, l, x, j) {
+                break j;
+            }
+            j += 1;
+        };
         note_reach(v, l, x, first, to, best);
     }
 }
 
-// Notes what the first rides cost, for each minute of arrival. Answers how many rows there will be.
+// Notes what the first rides cost, for each minute of arrival. Returns how many rows there will be.
 pub fn find_costs(v: &[u16], from: usize, to: usize, minute: usize, best: &mut [u32]) -> usize
     requires { ⌜ (1 ≤ from)
         × (from ≤ 64)
@@ -145,5 +87,5 @@ pub fn find_costs(v: &[u16], from: usize, to: usize, minute: usize, best: &mut [
         × (length (now (best .exit)) ≡ 2880) ⌝ }
 {
     note_first(v, from, to, minute, best);
-    count_rows(best)
+    minutes::count_rows(best)
 }

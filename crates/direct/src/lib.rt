@@ -8,19 +8,16 @@ ghost use Prim.Native.Nat.{_≤_};
 ghost use lib.ListN.{length};
 ghost use Rattle.lookup.specs.Lookup.{callsPlace};
 ghost use Rattle.replies.specs.Replies.{valuesOf};
-ghost use Rattle.direct.specs.Direct.{directReply, directValues, directWords};
+ghost use Rattle.promises.specs.DirectQuery.{directReply, directValues, directWords};
 ghost use Rattle.direct.specs.Shown.{foundReply, foundAnswer};
-use costs::MINUTES;
-use costs::NO_POINTS;
+use minutes::MINUTES;
+use minutes::NO_POINTS;
 use replies::Reply;
 use rides::KEPT_WORDS;
 use rows::ROW_WORDS;
 
-// Costs of other rides are noted and counted in the same way.
-pub use costs::count_rows;
-pub use costs::fill_blank;
-pub use costs::lesser;
-pub use costs::note;
+// The penalty of a ride is added up in the same way where rides of connections are gone through.
+pub use costs::ride_points;
 
 // Answers a query from line tables that belong to the timetable. The answer is measured before a word is written.
 fn show(

@@ -9,8 +9,9 @@ ghost use Rattle.direct.specs.Candidates.{rideOn, reach, allRead};
 ghost use Rattle.direct.specs.Choosing.{goesBefore};
 ghost use Rattle.direct.specs.Keeping.{keptAt, rideWords, Unkept, keptWith, keptOn, keepAll, Keeps};
 ghost use Rattle.direct.specs.Turns.{tripsFrom, keptTo};
-use crate::costs::MINUTES;
+use crate::costs;
 use lookup::Line;
+use minutes::MINUTES;
 use results::Points;
 
 // The trip of no ride: every trip has a lower number.
@@ -141,21 +142,17 @@ fn keep_trip(
     if MINUTES <= minute {
         return;
     }
-    if points.0 != best[minute] {
-        return;
-    }
-    let depart = lookup::depart_at(v, l, x, j) as u32;
-    let trip = lookup::number_at(v, l, j) as u32;
-    keep(
-        kept,
-        minute,
-        Found {
+    if minutes::same(points, minutes::points_at(best, minute)) {
+        let depart = lookup::depart_at(v, l, x, j) as u32;
+        let trip = lookup::number_at(v, l, j) as u32;
+        let ride = Found {
             depart,
             trip,
             board: (x + 1) as u32,
             alight: (p + 1) as u32,
-        },
-    );
+        };
+        keep(kept, minute, ride);
+    }
 }
 
 // Keeps the rides from place x to place p of a line, on its trips from place first on; points is their penalty.
@@ -232,12 +229,12 @@ fn keep_reach(v: &[u16], l: Line, x: usize, first: usize, to: usize, best: &[u32
         (concatMap (tripsFrom (now (v .entry)) l x first) (reach (now (v .entry)) l x to)) ⌝ }
     ensures { λ _. ⌜ length (now (kept .exit)) ≡ length (now (kept .entry)) ⌝ }
 {
-    let mut points: u32 = 0;
+    let mut points = Points(0);
     let mut p = x;
     while p + 1 < l.positions {
-        points += lookup::points_at(v, l, p) as u32;
+        points = minutes::sum(points, costs::ride_points(v, l, p));
         p += 1;
-        keep_at(v, l, x, p, first, to, Points(points), best, kept);
+        keep_at(v, l, x, p, first, to, points, best, kept);
     }
 }
 

@@ -1,68 +1,68 @@
 // The rows of the answer, each written from a cost and the ride that is kept for it.
 ghost use mathlib.Core.Path.{_≡_};
-ghost use Prim.Native.Nat.{_+_, _-_, _*_, _≤_, _<_};
+ghost use mathlib.Core.List.{[], _∷_};
+ghost use Prim.Native.Nat.{_+_, _*_, _≤_, _<_};
 ghost use lib.ListN.{length};
 ghost use Rattle.words.specs.Put.{put};
 ghost use Rattle.lists.specs.Lists.{concatMap};
-ghost use Rattle.direct.specs.Choosing.{noPoints, leads, rowFor};
-ghost use Rattle.direct.specs.Keeping.{keptAt, rowsKept};
-ghost use Rattle.direct.specs.Turns.{costOf, leadWords};
-use crate::costs;
-use crate::costs::MINUTES;
-use crate::costs::NO_POINTS;
+ghost use Rattle.minutes.specs.Minutes.{noPoints, leads};
+ghost use Rattle.direct.specs.Keeping.{rowsKept};
+ghost use Rattle.direct.specs.Turns.{leadWords};
 use crate::rides;
+use crate::rides::Found;
+use minutes::MINUTES;
+use minutes::NO_POINTS;
 use results::Cost;
-use results::Minutes;
 use results::Points;
 
 // The words of a row of the answer.
 pub const ROW_WORDS: usize = 6;
 
-// The minutes from one minute to a later one; none if it is not later.
-fn minutes_between(minute: usize, arrive: Minutes) -> Minutes
-    ensures { λ r. ⌜ r .0 ≡ arrive .0 - minute ⌝ }
-{
-    if arrive.0 as usize <= minute {
-        return Minutes(0);
-    }
-    Minutes(arrive.0 - minute as u32)
-}
-
-// The row for a cost, its minutes being those of the arrival, from index at on.
-fn write_row(kept: &[u32], minute: usize, cost: Cost, answer: &mut [u32], at: usize)
-    requires { ⌜ (length (now kept) ≡ 11520)
-        × (cost .minutes .0 < 2880)
-        × (at + 6 ≤ length (now answer)) ⌝ }
+// The row of a cost and the ride that is shown for it, from index at on.
+fn write_row(answer: &mut [u32], at: usize, cost: Cost, ride: Found)
+    requires { ⌜ at + 6 ≤ length (now answer) ⌝ }
     ensures { λ _. ⌜ now (answer .exit)
-        ≡ put at (rowFor minute (costOf cost) (keptAt (now (kept .entry)) (cost .minutes .0))) (now (answer .entry)) ⌝ }
+        ≡ put at
+        (cost .minutes .0 ∷ cost .points .0 ∷ 1 ∷ ride .trip ∷ ride .board ∷ ride .alight ∷ [])
+        (now (answer .entry)) ⌝ }
     ensures { λ _. ⌜ length (now (answer .exit)) ≡ length (now (answer .entry)) ⌝ }
 {
-    let ride = rides::kept_at(kept, cost.minutes.0 as usize);
-    let duration = minutes_between(minute, cost.minutes);
-    words::put_pair(answer, at, duration.0, cost.points.0);
+    minutes::write_cost(answer, at, cost);
     words::put_pair(answer, at + 2, 1, ride.trip);
     words::put_pair(answer, at + 4, ride.board, ride.alight);
 }
 
-// The row for a cost, if its penalty is below the least of all earlier minutes. Answers the index behind what it wrote.
+// The row of who arrives at a minute for some points, if these are below the least of all earlier minutes. Returns the
+// index after what it wrote.
 fn write_lead(
     kept: &[u32],
     minute: usize,
-    cost: Cost,
+    arrive: usize,
+    points: Points,
     least: Points,
     answer: &mut [u32],
     at: usize,
 ) -> usize
     requires { ⌜ (length (now kept) ≡ 11520)
-        × (cost .minutes .0 < 2880)
-        × (at + length (leadWords minute (now kept) (costOf cost) (least .0)) ≤ length (now answer)) ⌝ }
+        × (arrive < 2880)
+        × (at + length (leadWords minute (now kept) (record { minutes = arrive; points = points .0 }) (least .0))
+        ≤ length (now answer)) ⌝ }
     ensures { λ _. ⌜ now (answer .exit)
-        ≡ put at (leadWords minute (now (kept .entry)) (costOf cost) (least .0)) (now (answer .entry)) ⌝ }
+        ≡ put at
+        (leadWords minute (now (kept .entry)) (record { minutes = arrive; points = points .0 }) (least .0))
+        (now (answer .entry)) ⌝ }
     ensures { λ _. ⌜ length (now (answer .exit)) ≡ length (now (answer .entry)) ⌝ }
-    ensures { λ r. ⌜ r ≡ at + length (leadWords minute (now (kept .entry)) (costOf cost) (least .0)) ⌝ }
+    ensures { λ r. ⌜ r
+        ≡ at
+        + length
+        (leadWords minute (now (kept .entry)) (record { minutes = arrive; points = points .0 }) (least .0)) ⌝ }
 {
-    if cost.points.0 < least.0 {
-        write_row(kept, minute, cost, answer, at);
+    if minutes::less(points, least) {
+        let cost = Cost {
+            minutes: minutes::minutes_between(minute, arrive),
+            points,
+        };
+        write_row(answer, at, cost, rides::kept_at(kept, arrive));
         return at + ROW_WORDS;
     }
     at
@@ -81,15 +81,12 @@ pub fn write_rows(best: &[u32], kept: &[u32], minute: usize, answer: &mut [u32])
     ensures { λ _. ⌜ length (now (answer .exit)) ≡ length (now (answer .entry)) ⌝ }
 {
     let mut here = 0;
-    let mut least = NO_POINTS;
-    let mut a = 0;
-    while a < MINUTES {
-        let cost = Cost {
-            minutes: Minutes(a as u32),
-            points: Points(best[a]),
-        };
-        here = write_lead(kept, minute, cost, Points(least), answer, here);
-        least = costs::lesser(least, best[a]);
-        a += 1;
+    let mut least = Points(NO_POINTS);
+    let mut arrive = 0;
+    while arrive < MINUTES {
+        let points = minutes::points_at(best, arrive);
+        here = write_lead(kept, minute, arrive, points, least, answer, here);
+        least = minutes::lesser(least, points);
+        arrive += 1;
     }
 }

@@ -1,18 +1,19 @@
 -- The loops that fill words with a penalty, lower each to the least so far, and look for the first.
 use mathlib.Core.Path.{_≡_, refl, sym, ap, _∙_}
+use mathlib.Core.Bool.{Bool, true, false}
 use mathlib.Core.Logic.{inl, inr}
 use mathlib.Core.List.{List, [], _∷_, _++_}
 use Prim.Native.Nat.{ℕ, zero, suc, _+_, _-_, _≤_, _<_, min}
 use native.Mathlib.Numerals.{add-one}
 use native.Mathlib.Omega.{arith}
 use native.Mathlib.Decide.{decLt}
-use borrow.Author.Tests.{lt-ltb, le-ltb}
+use borrow.Author.Tests.{le-ltb}
 use lib.Dec.{ltb}
 use lib.ListN.{length, getD, set, take, drop, replicate, length-drop, length-replicate, List·getD-eq-default}
 use lib.Seq.{drop-cons, append-snoc, take-suc-set, drop-set-lt, getD-drop, take-at}
 use Rattle.lookup.specs.First.{firstFrom, first-none, first-here, first-later}
-use Rattle.direct.specs.Choosing.{noPoints, blank}
-use Rattle.direct.specs.Noted.{getD-any, getD-blank}
+use Rattle.minutes.specs.Minutes.{noPoints, blank}
+use Rattle.minutes.specs.Noted.{getD-any, getD-blank}
 use Rattle.layers.specs.declared.Span.{Span}
 use Rattle.layers.specs.Spans.{Within}
 use Rattle.layers.specs.Filling.{filled, filled-more, filled-none, filled-rest, filled-front}
@@ -26,8 +27,10 @@ module _
     (long : length p ≡ 2880)
     (so-far : filled old from to x ≡ filled p m to x)
   where
-    pub fill-more : m < to → to ≤ 2880 → filled old from to x ≡ filled (set p m x) (m + 1) to x
-    fill-more h g = so-far ∙ filled-more p m to x h (omega (arith, long))
+    pub fill-more : m < to → to ≤ 2880 → (next : List ℕ) → next ≡ set p m x
+        → filled old from to x ≡ filled next (m + 1) to x
+    fill-more h g next e =
+        so-far ∙ filled-more p m to x h (omega (arith, long)) ∙ ap (λ l. filled l (m + 1) to x) (sym e)
 
     pub fill-done : m ≤ to → to ≤ m → p ≡ filled old from to x
     fill-done h g = sym (so-far ∙ filled-none p m to x (omega arith))
@@ -76,9 +79,9 @@ module _
     (long : length p ≡ 2880)
     (so-far : lowest noPoints old ≡ take m p ++ lowest least (drop m p))
   where
-    pub lowest-more : (x to : ℕ) → m < to → to ≤ 2880 → x ≡ min least (getD p m 0)
+    lowest-on : (x to : ℕ) → m < to → to ≤ 2880 → x ≡ min least (getD p m 0)
         → lowest noPoints old ≡ take (m + 1) (set p m x) ++ lowest x (drop (m + 1) (set p m x))
-    lowest-more x to h most e =
+    lowest-on x to h most e =
         so-far
         ∙ ap (λ l. take m p ++ lowest least l) (drop-cons p m 0 (omega (arith, long)))
         ∙ ap (λ l. take m p ++ l) (lowest-one least (getD p m 0) (drop (suc m) p))
@@ -88,10 +91,16 @@ module _
         ∙ ap (λ l. take (suc m) (set p m x) ++ lowest x l) (sym (drop-set-lt (suc m) p m x (omega arith)))
         ∙ ap (λ k. take k (set p m x) ++ lowest x (drop k (set p m x))) (sym (add-one m))
 
+    pub lowest-more : (next : List ℕ) (x y to : ℕ) → next ≡ set p m x → m < to → to ≤ 2880 → y ≡ getD p m 0
+        → x ≡ min least y → lowest noPoints old ≡ take (m + 1) next ++ lowest x (drop (m + 1) next)
+    lowest-more next x y to is h most is-y is-x =
+        lowest-on x to h most (is-x ∙ ap (min least) is-y)
+        ∙ ap (λ l. take (m + 1) l ++ lowest x (drop (m + 1) l)) (sym is)
+
     -- behind the span nothing has changed yet
     module _ (s : Span) (rest : drop (s .to) p ≡ drop (s .to) old) where
-      pub rest-same : (x : ℕ) → m < s .to → drop (s .to) (set p m x) ≡ drop (s .to) old
-      rest-same x h = drop-set-lt (s .to) p m x h ∙ rest
+      pub rest-same : (next : List ℕ) (x : ℕ) → next ≡ set p m x → m < s .to → drop (s .to) next ≡ drop (s .to) old
+      rest-same next x e h = ap (drop (s .to)) e ∙ drop-set-lt (s .to) p m x h ∙ rest
 
       pub lowest-done : Within s blank old → s .to ≤ m → least ≤ noPoints
           → (last : List ℕ) → last ≡ filled p m 2880 least → last ≡ lowest noPoints old
@@ -127,14 +136,16 @@ module _
     pub none-left : 2880 ≤ m → m ≡ firstValue p
     none-left h = sym (so-far ∙ first-none (λ k. ltb (getD p k 0) noPoints) m 2880 h)
 
-    pub found : m < 2880 → getD p m 0 < noPoints → m ≡ firstValue p
-    found h g =
-        sym (so-far ∙ first-here (λ k. ltb (getD p k 0) noPoints) m 2880 h (lt-ltb (getD p m 0) noPoints g))
+    module _ (more : m < 2880) (x : ℕ) (is-x : x ≡ getD p m 0) (r : Bool) (is-r : r ≡ ltb x noPoints) where
+      test : ltb (getD p m 0) noPoints ≡ r
+      test = ap (λ k. ltb k noPoints) (sym is-x) ∙ sym is-r
 
-    pub goes-on : m < 2880 → noPoints ≤ getD p m 0
-        → firstValue p ≡ firstFrom (λ k. ltb (getD p k 0) noPoints) (m + 1) (2880 - (m + 1))
-    goes-on h g =
-        so-far ∙ first-later (λ k. ltb (getD p k 0) noPoints) m 2880 h (le-ltb (getD p m 0) noPoints g)
+      pub found : r ≡ true → m ≡ firstValue p
+      found g = sym (so-far ∙ first-here (λ k. ltb (getD p k 0) noPoints) m 2880 more (test ∙ g))
+
+      pub goes-on : r ≡ false
+          → firstValue p ≡ firstFrom (λ k. ltb (getD p k 0) noPoints) (m + 1) (2880 - (m + 1))
+      goes-on g = so-far ∙ first-later (λ k. ltb (getD p k 0) noPoints) m 2880 more (test ∙ g)
 
 pub looks : (p : List ℕ) → firstValue p ≡ firstFrom (λ k. ltb (getD p k 0) noPoints) 0 (2880 - 0)
 unfolding firstValue
@@ -148,7 +159,8 @@ skips p long (suc e) h f =
     let none = f e (omega arith) in
     let here : noPoints ≤ getD p e 0 = omega (arith, none, getD-any p e 0 noPoints (omega (arith, long))) in
     let before = skips p long e (omega arith) (λ m g. f m (omega arith)) in
-    goes-on p e before (omega arith) here
+    goes-on p e before (omega arith) (getD p e 0) refl (ltb (getD p e 0) noPoints) refl
+    (le-ltb (getD p e 0) noPoints here)
     ∙ ap (λ j. firstFrom (λ k. ltb (getD p k 0) noPoints) j (2880 - j)) (add-one e)
 
 pub looks-on : (p : List ℕ) (e : ℕ) → length p ≡ 2880 → e ≤ 2880 → NoneBefore e p

@@ -8,8 +8,7 @@ use lib.ListN.{length, getD}
 use Rattle.lists.specs.Lists.{_∈_}
 use Rattle.connections.specs.Rides.{Ride}
 use Rattle.direct.specs.Candidates.{allRead}
-use Rattle.direct.specs.Choosing.{noteAll}
-use Rattle.direct.specs.Turns.{lowered}
+use Rattle.minutes.specs.Minutes.{noteAll, lowered}
 use Rattle.riding.specs.declared.Ride.{Ride as RideStruct}
 use Rattle.riding.specs.declared.Cursor.{Cursor}
 use Rattle.riding.specs.Riding.{Good, Tells, left, rideOf, left-none}
@@ -34,6 +33,20 @@ taken-more p minutes points best r l = refl
 taken-none : (p : List ℕ) (minutes points : ℕ) (best : List ℕ) → takenAll p minutes points best [] ≡ best
 unfolding takenAll noteAll
 taken-none p minutes points best = refl
+
+-- the sums of one ride, as the code adds them up
+pub ride-noted : (p best after : List ℕ) (d x y a b stood one all ready : ℕ) → stood ≡ getD p d 0 → one ≡ stood + x
+    → all ≡ one + y → ready ≡ a + b → after ≡ lowered best ready all
+    → after ≡ lowered best (a + b) (getD p d 0 + x + y)
+ride-noted p best after d x y a b stood one all ready is-stood is-one is-all is-ready e =
+    e ∙ (λ i. lowered best (is-ready i) (sum i))
+  where
+    sum : all ≡ getD p d 0 + x + y
+    sum = is-all ∙ ap (λ k. k + y) (is-one ∙ ap (λ k. k + x) is-stood)
+
+pub ride-widened : (s wider : Span) (a b ready : ℕ) → ready ≡ a + b → wider ≡ widened s ready
+    → wider ≡ widened s (a + b)
+ride-widened s wider a b ready is e = e ∙ ap (widened s) is
 
 module _ (v : List ℕ) (a b u : ℕ) (p : List ℕ) (c : Cursor) where
   -- the rides left fit
@@ -67,7 +80,7 @@ module _ (v : List ℕ) (a b u : ℕ) (p : List ℕ) (c : Cursor) where
     pub noting-more : whole ≡ takenAll p minutes points best (left v a b u c)
         → (s : RideStruct) → Tells s (rideOf v c)
         → (d : Cursor) → left v a b u c ≡ rideOf v c ∷ left v a b u d
-        → (after : List ℕ) → after ≡ lowered best (s .arrive + minutes) (getD p (s .depart) 0 + s .points + points)
+        → (after : List ℕ) → after ≡ lowered best (s .arrive + minutes) (getD p (s .depart) 0 + s .points .0 + points)
         → whole ≡ takenAll p minutes points after (left v a b u d)
     noting-more h s t d e after is =
         h
@@ -75,7 +88,7 @@ module _ (v : List ℕ) (a b u : ℕ) (p : List ℕ) (c : Cursor) where
         ∙ taken-more p minutes points best (rideOf v c) (left v a b u d)
         ∙ sym (ap (λ l. takenAll p minutes points l (left v a b u d)) (is ∙ same))
       where
-        same : lowered best (s .arrive + minutes) (getD p (s .depart) 0 + s .points + points)
+        same : lowered best (s .arrive + minutes) (getD p (s .depart) 0 + s .points .0 + points)
             ≡ lowered best (rideOf v c .arrive + minutes)
             (getD p (rideOf v c .depart) 0 + rideOf v c .points + points)
         same =
@@ -102,10 +115,10 @@ module _ (s : Span) (minutes : ℕ) (r : RideStruct) (wider : Span) (is : wider 
 
   pub span-more : (old best : List ℕ) → Within s old best → length best ≡ length old → length old ≡ 2880
       → (p : List ℕ) (points : ℕ) (after : List ℕ)
-      → after ≡ lowered best (r .arrive + minutes) (getD p (r .depart) 0 + r .points + points)
+      → after ≡ lowered best (r .arrive + minutes) (getD p (r .depart) 0 + r .points .0 + points)
       → Within wider old after
   span-more old best so-far same long p points after e =
-      let x = min (getD best (r .arrive + minutes) 0) (getD p (r .depart) 0 + r .points + points) in
+      let x = min (getD best (r .arrive + minutes) 0) (getD p (r .depart) 0 + r .points .0 + points) in
       subst
       (λ s. Within s old after)
       (sym is)

@@ -4,10 +4,9 @@ use mathlib.Core.Bool.{Bool, true, false, not}
 use mathlib.Core.List.{List}
 use Prim.Native.Nat.{ℕ, _-_, _≤_, _<_}
 use native.Mathlib.Omega.{arith}
-use Rattle.timetable.specs.Timetable.{Station}
 use Rattle.timetable.specs.Words.{isTimetable, stationAt}
 use Rattle.connections.specs.Rides.{Ride}
-use Rattle.direct.specs.Choosing.{noPoints, blank}
+use Rattle.minutes.specs.Minutes.{noPoints, blank}
 use Rattle.layers.specs.Lowest.{lowest}
 use Rattle.layers.specs.Layering.{takenAll, stepOf, firstValue}
 use Rattle.layers.specs.Fitting.{Fitting}
@@ -16,23 +15,22 @@ use Rattle.layers.specs.Onward.{Listed, changeWords, source-few, change-
 
 -- ---- the change at the end of a step
 module _ (w : List ℕ) (y : ℕ) (accepted : isTimetable w ≡ true) (i : Listed w y) where
-  pub place-few : y - 1 < 64
-  place-few = omega (arith, i .some, source-few w accepted y i)
+  pub place-few : y ≤ 64
+  place-few = source-few w accepted y i
 
-  module _ (s : Station) (is : s ≡ stationAt w (y - 1)) where
-    pub change-minutes : s .minutes ≤ 240
-    change-minutes = subst (λ s. s .minutes ≤ 240) (sym is) (change-short w accepted y i)
+  pub change-minutes : (m : ℕ) → m ≡ stationAt w (y - 1) .minutes → m ≤ 240
+  change-minutes m is = omega (arith, is, change-short w accepted y i)
 
-    pub change-points : s .points ≤ 1000
-    change-points = subst (λ s. s .points ≤ 1000) (sym is) (change-cheap w accepted y i)
+  pub change-points : (k : ℕ) → k ≡ stationAt w (y - 1) .points → k ≤ 1000
+  change-points k is = omega (arith, is, change-cheap w accepted y i)
 
 -- ---- a step from blank words
-pub step-is : (w : List ℕ) (y : ℕ) (p : List ℕ) (l : List Ride) (s : Station) → s ≡ stationAt w (y - 1)
-    → (q noted last : List ℕ) → q ≡ blank → noted ≡ takenAll p (s .minutes) (s .points) q l
+pub step-is : (w : List ℕ) (y : ℕ) (p : List ℕ) (l : List Ride) (m k : ℕ) → m ≡ stationAt w (y - 1) .minutes
+    → k ≡ stationAt w (y - 1) .points → (q noted last : List ℕ) → q ≡ blank → noted ≡ takenAll p m k q l
     → last ≡ lowest noPoints noted → last ≡ changeWords w p y l
 unfolding changeWords stepOf
-step-is w y p l s is q noted last e f g =
-    g ∙ ap (lowest noPoints) (f ∙ (λ i. takenAll p (is i .minutes) (is i .points) (e i) l))
+step-is w y p l m k is-m is-k q noted last e f g =
+    g ∙ ap (lowest noPoints) (f ∙ (λ i. takenAll p (is-m i) (is-k i) (e i) l))
 
 -- ---- the arrays have changed places, or have not
 not-true : (b : Bool) → b ≡ true → not b ≡ false

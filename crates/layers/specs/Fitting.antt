@@ -12,7 +12,7 @@ pub record Fits (p : List ℕ) (s : RideStruct) : Type 0 where
   pub depart : s .depart < 2880
   pub arrive : s .arrive < 65536
   pub low : getD p (s .depart) 0 ≤ penaltyMost
-  pub few : s .points ≤ 287900
+  pub few : s .points .0 ≤ 287900
 
 -- all rides of a list
 pub record Fitting (p : List ℕ) (l : List Ride) : Type 0 where

@@ -7,7 +7,7 @@ use lib.Dec.{ltb}
 use lib.ListN.{getD, set}
 use Rattle.connections.specs.Rides.{Ride}
 use Rattle.lookup.specs.First.{firstFrom}
-use Rattle.direct.specs.Choosing.{noPoints, blank, noteAll}
+use Rattle.minutes.specs.Minutes.{noPoints, blank, noteAll}
 use Rattle.layers.specs.Lowest.{lowest}
 
 -- Words p hold the penalty paid before a departure at each minute. A ride, as it is noted for one who takes it: at the

@@ -7,7 +7,7 @@ use Prim.Native.Nat.{ℕ, _≤_}
 use lib.ListN.{length, getD}
 use Rattle.connections.specs.Connections.{Net}
 use Rattle.reckoning.specs.Along.{Ends}
-use Rattle.direct.specs.Choosing.{noPoints}
+use Rattle.minutes.specs.Minutes.{noPoints}
 
 -- the penalty kept for a minute; past the end there is none
 abbrev pub kept : List ℕ → (minute : ℕ) → ℕ

@@ -20,8 +20,8 @@ use Rattle.connections.specs.Sound.{sound, ride-cheap, change-priced}
 use Rattle.lookup.specs.Lookup.{callsPlace}
 use Rattle.checking.specs.Question10.{areTables}
 use Rattle.direct.specs.Candidates.{allRead}
-use Rattle.direct.specs.Choosing.{noPoints}
-use Rattle.direct.specs.Noted.{getD-any}
+use Rattle.minutes.specs.Minutes.{noPoints}
+use Rattle.minutes.specs.Noted.{getD-any}
 use Rattle.direct.specs.Shown.{calls-inside}
 use Rattle.riding.specs.Ridden.{read-rides}
 use Rattle.layers.specs.Layering.{stepOf, takenAll, firstValue}

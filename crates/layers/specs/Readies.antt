@@ -21,8 +21,8 @@ use Rattle.reckoning.specs.Along.{Along, Ends}
 use Rattle.reckoning.specs.Layers.{LeastAlong, Starting, start-least, Last, Stepping, step-least}
 use Rattle.reckoning.specs.Layers.{LastTo, Ending, end-attained, end-below}
 use Rattle.reckoning.specs.Bounds.{penaltyMost, reach-most}
-use Rattle.direct.specs.Choosing.{noPoints, blank}
-use Rattle.direct.specs.Noted.{getD-any, getD-blank}
+use Rattle.minutes.specs.Minutes.{noPoints, blank}
+use Rattle.minutes.specs.Noted.{getD-any, getD-blank}
 use Rattle.direct.specs.Foremost.{Foremost, foremost}
 use Rattle.layers.specs.Lowest.{length-lowest, lowest-below, lowest-stems}
 use Rattle.layers.specs.Layering.{startOf, stepOf, takenAll, firstValue}

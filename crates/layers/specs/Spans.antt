@@ -9,7 +9,7 @@ use borrow.Author.Tests.{lt-ltb, le-ltb}
 use lib.Dec.{ltb}
 use lib.ListN.{length, getD, set}
 use lib.Seq.{set-out, getD-set-other}
-use Rattle.direct.specs.Choosing.{noPoints}
+use Rattle.minutes.specs.Minutes.{noPoints}
 use Rattle.layers.specs.declared.Span.{Span}
 
 -- outside the span the words are as they were

@@ -13,8 +13,8 @@ use Rattle.lists.specs.Lists.{_∈_, filter}
 use Rattle.lists.specs.Tests.{either, T-true, T-false}
 use Rattle.lists.specs.Members.{filter-in, filter-out}
 use Rattle.connections.specs.Rides.{Ride}
-use Rattle.direct.specs.Choosing.{noPoints, blank, noted, noteAll}
-use Rattle.direct.specs.Noted.{Arrives, Noted, all-noted, getD-blank}
+use Rattle.minutes.specs.Minutes.{noPoints, blank, noted, noteAll}
+use Rattle.minutes.specs.Noted.{Arrives, Noted, all-noted, getD-blank}
 use Rattle.layers.specs.Lowest.{lowest, length-lowest}
 use Rattle.layers.specs.Lowest.{Before, lowest-least, lowest-below, lowest-falls, lowest-stems}
 use Rattle.layers.specs.Layering.{taken, takenAll, stepOf}

@@ -9,8 +9,7 @@ ghost use Rattle.connections.specs.Connections.{net};
 ghost use Rattle.lookup.specs.Lookup.{callsPlace};
 ghost use Rattle.checking.specs.Question10.{areTables};
 ghost use Rattle.direct.specs.Candidates.{allRead};
-ghost use Rattle.direct.specs.Choosing.{noPoints, blank};
-ghost use Rattle.direct.specs.Turns.{lowered};
+ghost use Rattle.minutes.specs.Minutes.{noPoints, blank, lowered};
 ghost use Rattle.layers.specs.Lowest.{lowest};
 ghost use Rattle.layers.specs.Spans.{Within, widened};
 ghost use Rattle.layers.specs.Filling.{filled};
@@ -20,17 +19,12 @@ ghost use Rattle.layers.specs.Turning.{held};
 ghost use Rattle.layers.specs.Onward.{Listed, Stations, changeWords};
 ghost use Rattle.layers.specs.Patterns.{changesTo};
 ghost use Rattle.layers.specs.Lowered.{Lowered};
+use minutes::MINUTES;
+use minutes::NO_POINTS;
 use results::Cost;
 use results::Minutes;
 use results::Points;
 use riding::Ride;
-use timetable::Station;
-
-// The minutes in which one may be ready: 0 to 2,879.
-const MINUTES: usize = 2880;
-
-// The penalty of a minute by which no one is ready; all others are less.
-const NO_POINTS: u32 = u32::MAX;
 
 // The minutes from one up to another.
 pub struct Span {
@@ -68,7 +62,7 @@ fn later(a: usize, b: usize) -> usize
     a
 }
 
-// The span with a minute more. A minute behind the two days is left out: nothing is noted for it.
+// The span with a minute more. A minute after the two days is left out: nothing is noted for it.
 fn widen(s: Span, m: usize) -> Span
     ensures { λ r. ⌜ r ≡ widened s m ⌝ }
 {
@@ -82,30 +76,30 @@ fn widen(s: Span, m: usize) -> Span
 }
 
 // The same penalty for all minutes from one up to another.
-fn fill(p: &mut [u32], from: usize, to: usize, points: u32)
+fn fill(p: &mut [u32], from: usize, to: usize, points: Points)
     requires { ⌜ (from ≤ to) × (to ≤ 2880) × (length (now p) ≡ 2880) ⌝ }
-    ensures { λ _. ⌜ now (p .exit) ≡ filled (now (p .entry)) from to points ⌝ }
+    ensures { λ _. ⌜ now (p .exit) ≡ filled (now (p .entry)) from to (points .0) ⌝ }
     ensures { λ _. ⌜ length (now (p .exit)) ≡ length (now (p .entry)) ⌝ }
 {
     let mut m = from;
     while m < to {
-        p[m] = points;
+        minutes::set_points(p, m, points);
         m += 1;
     }
 }
 
 // Who is ready at a minute is ready at each later one: each penalty is lowered to the least so far. Outside the span
-// there is none, so before it none changes, and behind it all are the least of the span.
+// there is none, so before it none changes, and after it all are the least of the span.
 fn lowest_so_far(p: &mut [u32], s: Span)
     requires { ⌜ (length (now p) ≡ 2880) × (s .from ≤ 2880) × Within s blank (now p) ⌝ }
     ensures { λ _. ⌜ now (p .exit) ≡ lowest noPoints (now (p .entry)) ⌝ }
     ensures { λ _. ⌜ length (now (p .exit)) ≡ length (now (p .entry)) ⌝ }
 {
-    let mut least = NO_POINTS;
+    let mut least = Points(NO_POINTS);
     let mut m = s.from;
     while m < s.to {
-        least = direct::lesser(least, p[m]);
-        p[m] = least;
+        least = minutes::lesser(least, minutes::points_at(p, m));
+        minutes::set_points(p, m, least);
         m += 1;
     }
     fill(p, m, MINUTES, least);
@@ -121,7 +115,7 @@ fn first_value(p: &[u32], from: usize) -> usize
         if MINUTES <= m {
             break m;
         }
-        if p[m] < NO_POINTS {
+        if minutes::less(minutes::points_at(p, m), Points(NO_POINTS)) {
             break m;
         }
         m += 1;
@@ -135,59 +129,56 @@ fn start(minute: usize, p: &mut [u32])
     ensures { λ _. ⌜ now (p .exit) ≡ startOf minute ⌝ }
     ensures { λ _. ⌜ length (now (p .exit)) ≡ length (now (p .entry)) ⌝ }
 {
-    fill(p, 0, minute, NO_POINTS);
-    fill(p, minute, MINUTES, 0);
+    fill(p, 0, minute, Points(NO_POINTS));
+    fill(p, minute, MINUTES, Points(0));
 }
 
-// Notes a ride for one who has paid what p holds for its departure: when he can leave again, behind a change that takes
-// and costs so much, and what he has paid by then. Answers the span noted so far with that minute.
-fn note_ride(p: &[u32], ride: Ride, change: Station, best: &mut [u32], noted: Span) -> Span
+// Notes a ride for one who has paid what p holds for its departure: when he can leave again, after a change that takes
+// and costs so much, and what he has paid by then. Returns the span noted so far with that minute.
+fn note_ride(p: &[u32], ride: Ride, change: Cost, best: &mut [u32], noted: Span) -> Span
     requires { ⌜ (length (now p) ≡ 2880)
         × Fits (now p) ride
-        × (change .minutes ≤ 240)
-        × (change .points ≤ 1000) ⌝ }
+        × (change .minutes .0 ≤ 240)
+        × (change .points .0 ≤ 1000) ⌝ }
     ensures { λ _. ⌜ now (best .exit)
         ≡ lowered
         (now (best .entry))
-        (ride .arrive + change .minutes)
-        (getD (now (p .entry)) (ride .depart) 0 + ride .points + change .points) ⌝ }
+        (ride .arrive + change .minutes .0)
+        (getD (now (p .entry)) (ride .depart) 0 + ride .points .0 + change .points .0) ⌝ }
     ensures { λ _. ⌜ length (now (best .exit)) ≡ length (now (best .entry)) ⌝ }
-    ensures { λ r. ⌜ r ≡ widened noted (ride .arrive + change .minutes) ⌝ }
+    ensures { λ r. ⌜ r ≡ widened noted (ride .arrive + change .minutes .0) ⌝ }
 {
-    let depart = ride.depart;
-    let paid = p[depart] + ride.points + change.points;
-    let minute = ride.arrive as u32 + change.minutes;
-    direct::note(
-        best,
-        Cost {
-            minutes: Minutes(minute),
-            points: Points(paid),
-        },
-    );
-    widen(noted, minute as usize)
+    let points = ride.points;
+    let price = change.points;
+    let wait = change.minutes;
+    let stood = minutes::points_at(p, ride.depart);
+    let paid = minutes::sum(minutes::sum(stood, points), price);
+    let ready = minutes::minute_after(ride.arrive, wait);
+    minutes::note(best, ready, paid);
+    widen(noted, ready)
 }
 
-// Notes all rides from one station to another that leave at a minute or later. Answers the span of the minutes noted.
+// Notes all rides from one station to another that leave at a minute or later. Returns the span of the minutes noted.
 fn note_rides(
     lines: &[u16],
     from: usize,
     to: usize,
     earliest: usize,
     p: &[u32],
-    change: Station,
+    change: Cost,
     best: &mut [u32],
 ) -> Span
     requires { ⌜ (1 ≤ from) × (from ≤ 64) × (callsPlace (now lines) from ≤ length (now lines)) ⌝ }
     requires { ⌜ (length (now p) ≡ 2880)
         × (length (now best) ≡ 2880)
         × Fitting (now p) (allRead (now lines) from earliest to)
-        × (change .minutes ≤ 240)
-        × (change .points ≤ 1000) ⌝ }
+        × (change .minutes .0 ≤ 240)
+        × (change .points .0 ≤ 1000) ⌝ }
     ensures { λ _. ⌜ now (best .exit)
         ≡ takenAll
         (now (p .entry))
-        (change .minutes)
-        (change .points)
+        (change .minutes .0)
+        (change .points .0)
         (now (best .entry))
         (allRead (now (lines .entry)) from earliest to) ⌝ }
     ensures { λ _. ⌜ length (now (best .exit)) ≡ length (now (best .entry)) ⌝ }
@@ -202,7 +193,7 @@ fn note_rides(
     noted
 }
 
-// One ride and the change at its end: from the least penalties at station from to those at station to. Answers the
+// One ride and the change at its end: from the least penalties at station from to those at station to. Returns the
 // first minute by which one is ready there.
 fn step(
     words: &[u16],
@@ -223,14 +214,14 @@ fn step(
     ensures { λ _. ⌜ length (now (q .exit)) ≡ length (now (q .entry)) ⌝ }
     ensures { λ r. ⌜ (r ≡ firstValue (now (q .exit))) × (r ≤ 2880) ⌝ }
 {
-    let change = timetable::station_at(words, to - 1);
-    direct::fill_blank(q);
+    let change = riding::change_at(words, to);
+    minutes::fill_blank(q);
     let noted = note_rides(lines, from, to, earliest, p, change, q);
     lowest_so_far(q, noted);
     first_value(q, noted.from)
 }
 
-// The last ride: notes for each minute of arrival the least penalty. Answers the span of the minutes noted.
+// The last ride: notes for each minute of arrival the least penalty. Returns the span of the minutes noted.
 fn finish(
     lines: &[u16],
     from: usize,
@@ -248,9 +239,9 @@ fn finish(
     ensures { λ _. ⌜ length (now (best .exit)) ≡ length (now (best .entry)) ⌝ }
     ensures { λ r. ⌜ Within r (now (best .entry)) (now (best .exit)) ⌝ }
 {
-    let none = Station {
-        minutes: 0,
-        points: 0,
+    let none = Cost {
+        minutes: Minutes(0),
+        points: Points(0),
     };
     note_rides(lines, from, to, earliest, p, none, best)
 }
@@ -319,7 +310,7 @@ fn finish_turned(
 }
 
 // Lowers the penalties of the arrival minutes to those of the connections of one pattern: from the source at the minute
-// or later, with changes at the first r - 1 stations of the path, to the station behind them. Answers the span of the
+// or later, with changes at the first r - 1 stations of the path, to the station after them. Returns the span of the
 // minutes noted: outside it no penalty changes.
 pub fn note_pattern(
     words: &[u16],

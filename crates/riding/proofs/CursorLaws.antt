@@ -7,6 +7,8 @@ use native.Mathlib.Omega.{arith}
 use borrow.Author.Tests.{not-true, not-false}
 use lib.ListN.{length, getD}
 use Rattle.lists.specs.Lists.{concatMap}
+use Rattle.timetable.specs.Timetable.{Station}
+use Rattle.timetable.specs.Words.{stationAt}
 use Rattle.connections.specs.Rides.{Ride}
 use Rattle.tables.proofs.TimesLaws.{range-more, range-none}
 use Rattle.lookup.specs.Lookup.{Line, lineAt, numberAt, arriveAt, departAt, callsPlace}
@@ -22,14 +24,14 @@ use Rattle.riding.specs.Riding.{rest, restAt, callsFrom, alightOf, rideO
 module _ (v : List ℕ) (l : Line) (b x first : ℕ) (s : Place) (behind : List Ride) where
   at-place : s .found ≡ true
       → concatMap (tripsFrom v l x first) (restAt v l b s) ++ behind
-      ≡ tripsFrom v l x first (record { place = s .place; points = s .points })
-      ++ (concatMap (tripsFrom v l x first) (rest v l b (s .place) (s .points)) ++ behind)
+      ≡ tripsFrom v l x first (record { place = s .place; points = s .points .0 })
+      ++ (concatMap (tripsFrom v l x first) (rest v l b (s .place) (s .points .0)) ++ behind)
   unfolding restAt
   at-place e =
       rw e
       (append-assoc
-      (tripsFrom v l x first (record { place = s .place; points = s .points }))
-      (concatMap (tripsFrom v l x first) (rest v l b (s .place) (s .points)))
+      (tripsFrom v l x first (record { place = s .place; points = s .points .0 }))
+      (concatMap (tripsFrom v l x first) (rest v l b (s .place) (s .points .0)))
       behind)
 
   at-none : s .found ≡ false → concatMap (tripsFrom v l x first) (restAt v l b s) ++ behind ≡ behind
@@ -116,7 +118,7 @@ calls-first v a b u k whole so-far from-k h =
 module _ (v : List ℕ) (a b u : ℕ) (c : Cursor) where
   abbrev behind : List Ride
   behind =
-      concatMap (tripsFrom v (c .line) (c .x) (c .first)) (rest v (c .line) b (c .p) (c .points))
+      concatMap (tripsFrom v (c .line) (c .x) (c .first)) (rest v (c .line) b (c .p) (c .points .0))
       ++ callsFrom v a b u (c .call)
 
   left-some : c .more ≡ true → left v a b u c ≡ tripsFrom v (c .line) (c .x) (c .j) (alightOf c) ++ behind
@@ -148,7 +150,7 @@ module _ (v : List ℕ) (a b u : ℕ) (c : Cursor) (good : Good c) (more : c .mo
   next-trip l e = rw e step-on
 
   module _ (l : Line) (is-l : l ≡ c .line) (last : l .trips ≤ c .j + 1) (s : Place) where
-    past : rest v l b (c .p) (c .points) ≡ restAt v l b s
+    past : rest v l b (c .p) (c .points .0) ≡ restAt v l b s
         → left v a b u c
         ≡ rideOf v c ∷ (concatMap (tripsFrom v l (c .x) (c .first)) (restAt v l b s) ++ callsFrom v a b u (c .call))
     past e =
@@ -157,7 +159,7 @@ module _ (v : List ℕ) (a b u : ℕ) (c : Cursor) (good : Good c) (more : c .mo
         (range-none (c .j + 1) (c .line .trips) (subst (λ l. l .trips ≤ c .j + 1) is-l last))
         ∙ rw (← is-l, e)
 
-    pub next-place : rest v l b (c .p) (c .points) ≡ restAt v l b s → s .found ≡ true
+    pub next-place : rest v l b (c .p) (c .points .0) ≡ restAt v l b s → s .found ≡ true
         → left v a b u c
         ≡ rideOf v c ∷ left v a b u
         (record {
@@ -175,7 +177,7 @@ module _ (v : List ℕ) (a b u : ℕ) (c : Cursor) (good : Good c) (more : c .mo
         past e
         ∙ ap (λ m. rideOf v c ∷ m) (at-place v l b (c .x) (c .first) s (callsFrom v a b u (c .call)) f)
 
-    pub next-call : rest v l b (c .p) (c .points) ≡ restAt v l b s → s .found ≡ false → (r : Cursor)
+    pub next-call : rest v l b (c .p) (c .points .0) ≡ restAt v l b s → s .found ≡ false → (r : Cursor)
         → left v a b u r ≡ callsFrom v a b u (c .call)
         → left v a b u c ≡ rideOf v c ∷ left v a b u r
     next-call e f r g =
@@ -184,7 +186,7 @@ module _ (v : List ℕ) (a b u : ℕ) (c : Cursor) (good : Good c) (more : c .mo
 
 -- the first trip stands no later than the one left, so there is one
 pub place-good : (c : Cursor) → Good c → c .more ≡ true → (l : Line) → l ≡ c .line
-    → (s : Place) → s .place < 65536 → s .points ≤ 65535 * s .place
+    → (s : Place) → s .place < 65536 → s .points .0 ≤ 65535 * s .place
     → Good
     (record {
       more = true;
@@ -233,3 +235,11 @@ told v c good l is-l z d m is-z z-few is-d d-few is-m m-few =
       depart-few = d-few;
       arrive-few = m-few;
     }
+
+-- ---- what a change takes and costs
+module _ (w : List ℕ) (i : ℕ) (s : Station) (is : s ≡ stationAt w i) where
+  pub change-minutes : s .minutes ≡ stationAt w i .minutes
+  change-minutes = ap (λ s. s .minutes) is
+
+  pub change-points : s .points ≡ stationAt w i .points
+  change-points = ap (λ s. s .points) is

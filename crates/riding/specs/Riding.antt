@@ -24,7 +24,7 @@ rest v l b p points = reachFrom v l b p (l .positions - (p + 1)) points
 unfoldable pub restAt : List ℕ → Line → (b : ℕ) → Place → List Reach
 restAt v l b s =
     cond (s .found)
-    (record { place = s .place; points = s .points } ∷ rest v l b (s .place) (s .points))
+    (record { place = s .place; points = s .points .0 } ∷ rest v l b (s .place) (s .points .0))
     []
 
 -- the rides from the calls of station a that stand at index k or behind it
@@ -33,7 +33,7 @@ callsFrom v a b u k = allCalls v u b (pairsOf (slice k (callsPlace v a) v))
 
 -- the place alighted at, and the penalty of the ride to it
 abbrev pub alightOf : Cursor → Reach
-alightOf c = record { place = c .p; points = c .points }
+alightOf c = record { place = c .p; points = c .points .0 }
 
 -- the ride at which a cursor stands
 unfoldable pub rideOf : List ℕ → Cursor → Ride
@@ -45,7 +45,7 @@ unfoldable pub left : List ℕ → (a b u : ℕ) → Cursor → List Ride
 left v a b u c =
     cond (c .more)
     (tripsFrom v (c .line) (c .x) (c .j) (alightOf c)
-    ++ (concatMap (tripsFrom v (c .line) (c .x) (c .first)) (rest v (c .line) b (c .p) (c .points))
+    ++ (concatMap (tripsFrom v (c .line) (c .x) (c .first)) (rest v (c .line) b (c .p) (c .points .0))
     ++ callsFrom v a b u (c .call)))
     []
 
@@ -58,7 +58,7 @@ pub record Good (c : Cursor) : Type 0 where
   pub x-few : c .x < 65536
   pub p-few : c .p < 65536
   pub j-few : c .j < 65536
-  pub points-few : c .points ≤ 65535 * c .p
+  pub points-few : c .points .0 ≤ 65535 * c .p
   pub first-before : c .first ≤ c .j
   pub at-trip : c .more ≡ true → c .j < c .line .trips
 
@@ -69,7 +69,7 @@ pub record Tells (s : RideStruct) (r : Ride) : Type 0 where
   pub alight : s .alight ≡ r .alight
   pub depart : s .depart ≡ r .depart
   pub arrive : s .arrive ≡ r .arrive
-  pub points : s .points ≡ r .points
+  pub points : s .points .0 ≡ r .points
   pub trip-few : s .trip < 65536
   pub board-few : s .board ≤ 65536
   pub alight-few : s .alight ≤ 65536

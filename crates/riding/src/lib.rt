@@ -1,13 +1,18 @@
-// The rides from one station to another that leave at a minute or later, one after the other, from line tables.
+// The rides from one station to another that leave at a minute or later, one after the other, from line tables; and
+// what a change between two rides takes and costs.
 ghost use mathlib.Core.Path.{_≡_};
 ghost use mathlib.Core.Bool.{true};
 ghost use mathlib.Core.List.{_∷_};
-ghost use Prim.Native.Nat.{_*_, _≤_, _<_};
+ghost use Prim.Native.Nat.{_-_, _*_, _≤_, _<_};
 ghost use lib.ListN.{length};
+ghost use Rattle.timetable.specs.Words.{stationAt};
 ghost use Rattle.lookup.specs.Lookup.{callsPlace};
 ghost use Rattle.direct.specs.Candidates.{allRead};
 ghost use Rattle.riding.specs.Riding.{Good, Tells, left, rideOf, callsFrom, rest, restAt};
 use lookup::Line;
+use results::Cost;
+use results::Minutes;
+use results::Points;
 
 // A ride, by the numbers by which it is shown, its minutes and its penalty.
 pub struct Ride {
@@ -16,14 +21,14 @@ pub struct Ride {
     pub alight: usize,
     pub depart: usize,
     pub arrive: usize,
-    pub points: u32,
+    pub points: Points,
 }
 
 // A place of a line and the penalty of the ride to it, if one was found.
 pub struct Place {
     pub found: bool,
     pub place: usize,
-    pub points: u32,
+    pub points: Points,
 }
 
 // Where one stands in the rides: the index of the next call of the station boarded at; the line, the place boarded at
@@ -35,24 +40,24 @@ pub struct Cursor {
     pub x: usize,
     pub first: usize,
     pub p: usize,
-    pub points: u32,
+    pub points: Points,
     pub j: usize,
 }
 
-// The next place of the station behind place from of a line; points is the penalty of the ride to place from.
-fn seek_place(v: &[u16], l: Line, to: usize, from: usize, points: u32) -> Place
+// The next place of the station after place from of a line; points is the penalty of the ride to place from.
+fn seek_place(v: &[u16], l: Line, to: usize, from: usize, points: Points) -> Place
     requires { ⌜ (l .at < 65536)
         × (l .positions < 65536)
         × (l .trips < 65536)
         × (from < 65536)
-        × (points ≤ 65535 * from) ⌝ }
-    ensures { λ r. ⌜ rest (now (v .entry)) l to from points ≡ restAt (now (v .entry)) l to r ⌝ }
-    ensures { λ r. ⌜ (r .place < 65536) × (r .points ≤ 65535 * r .place) ⌝ }
+        × (points .0 ≤ 65535 * from) ⌝ }
+    ensures { λ r. ⌜ rest (now (v .entry)) l to from (points .0) ≡ restAt (now (v .entry)) l to r ⌝ }
+    ensures { λ r. ⌜ (r .place < 65536) × (r .points .0 ≤ 65535 * r .place) ⌝ }
 {
     let mut sum = points;
     let mut p = from;
     while p + 1 < l.positions {
-        sum += lookup::points_at(v, l, p) as u32;
+        sum = minutes::sum(sum, direct::ride_points(v, l, p));
         p += 1;
         if lookup::station_at(v, l, p) == to {
             return Place {
@@ -69,7 +74,7 @@ fn seek_place(v: &[u16], l: Line, to: usize, from: usize, points: u32) -> Place
     }
 }
 
-// The first ride from the calls of station from that stand at index call or behind it. Few calls lead to the station
+// The first ride from the calls of station from that stand at index call or after it. Few calls lead to the station
 // sought, so a trip is looked for only where there is a place to alight at.
 fn seek_call(v: &[u16], from: usize, to: usize, minute: usize, call: usize) -> Cursor
     requires { ⌜ (1 ≤ from) × (from ≤ 64) × (callsPlace (now v) from ≤ length (now v)) × (call ≤ 65536) ⌝ }
@@ -78,16 +83,17 @@ fn seek_call(v: &[u16], from: usize, to: usize, minute: usize, call: usize) -> C
 {
     let end = lookup::calls_place(v, from);
     let mut k = call;
-    'calls: while k + 1 < end {
+    while k + 1 < end {
         let l = lookup::call_line(v, k);
         let x = lookup::call_place(v, k);
         k += 2;
-        let s = seek_place(v, l, to, x, 0);
+        let s = seek_place(v, l, to, x, Points(0));
         if !s.found {
-            continue 'calls;
+            continue;
         }
         let first = lookup::first_trip(v, l, x, minute);
         if first < l.trips {
+            let points = s.points;
             return Cursor {
                 more: true,
                 call: k,
@@ -95,7 +101,7 @@ fn seek_call(v: &[u16], from: usize, to: usize, minute: usize, call: usize) -> C
                 x,
                 first,
                 p: s.place,
-                points: s.points,
+                points,
                 j: first,
             };
         }
@@ -111,7 +117,7 @@ fn seek_call(v: &[u16], from: usize, to: usize, minute: usize, call: usize) -> C
         x: 0,
         first: 0,
         p: 0,
-        points: 0,
+        points: Points(0),
         j: 0,
     }
 }
@@ -124,7 +130,7 @@ pub fn begin(v: &[u16], from: usize, to: usize, minute: usize) -> Cursor
     seek_call(v, from, to, minute, lookup::calls_place(v, from - 1))
 }
 
-// The ride behind the one at which c stands: on the next trip of the line; else to the next place of the station, with
+// The ride after the one at which c stands: on the next trip of the line; else to the next place of the station, with
 // the first trip again; else from the next call.
 pub fn next(v: &[u16], from: usize, to: usize, minute: usize, c: Cursor) -> Cursor
     requires { ⌜ (1 ≤ from)
@@ -137,6 +143,7 @@ pub fn next(v: &[u16], from: usize, to: usize, minute: usize, c: Cursor) -> Curs
         × Good r ⌝ }
 {
     let l = c.line;
+    let points = c.points;
     if c.j + 1 < l.trips {
         return Cursor {
             more: true,
@@ -145,12 +152,13 @@ pub fn next(v: &[u16], from: usize, to: usize, minute: usize, c: Cursor) -> Curs
             x: c.x,
             first: c.first,
             p: c.p,
-            points: c.points,
+            points,
             j: c.j + 1,
         };
     }
-    let s = seek_place(v, l, to, c.p, c.points);
+    let s = seek_place(v, l, to, c.p, points);
     if s.found {
+        let further = s.points;
         return Cursor {
             more: true,
             call: c.call,
@@ -158,7 +166,7 @@ pub fn next(v: &[u16], from: usize, to: usize, minute: usize, c: Cursor) -> Curs
             x: c.x,
             first: c.first,
             p: s.place,
-            points: s.points,
+            points: further,
             j: c.first,
         };
     }
@@ -171,6 +179,7 @@ pub fn tell(v: &[u16], c: Cursor) -> Ride
     ensures { λ r. ⌜ Tells r (rideOf (now (v .entry)) c) ⌝ }
 {
     let l = c.line;
+    let points = c.points;
     let trip = lookup::number_at(v, l, c.j);
     let depart = lookup::depart_at(v, l, c.x, c.j);
     let arrive = lookup::arrive_at(v, l, c.p, c.j);
@@ -180,6 +189,19 @@ pub fn tell(v: &[u16], c: Cursor) -> Ride
         alight: c.p + 1,
         depart,
         arrive,
-        points: c.points,
+        points,
+    }
+}
+
+// What a change at a station takes and costs.
+pub fn change_at(words: &[u16], station: usize) -> Cost
+    requires { ⌜ (16384 ≤ length (now words)) × (1 ≤ station) × (station ≤ 64) ⌝ }
+    ensures { λ r. ⌜ (r .minutes .0 ≡ stationAt (now (words .entry)) (station - 1) .minutes)
+        × (r .points .0 ≡ stationAt (now (words .entry)) (station - 1) .points) ⌝ }
+{
+    let change = timetable::station_at(words, station - 1);
+    Cost {
+        minutes: Minutes(change.minutes),
+        points: Points(change.points),
     }
 }

@@ -1,13 +1,14 @@
 -- One ride more is tried, and all rides of a cursor one after the other.
 use mathlib.Core.Path.{_≡_, sym, ap, _∙_}
-use mathlib.Core.Bool.{Bool, true, false, cond}
+use mathlib.Core.Bool.{Bool, true, false, not, cond}
 use mathlib.Core.List.{List, _∷_}
-use Prim.Native.Nat.{ℕ, _+_, _≤_, _<_}
+use Prim.Native.Nat.{ℕ, _+_, _-_, _≤_}
 use native.Mathlib.Omega.{arith}
-use borrow.Author.Tests.{lt-ltb, le-ltb, le-leb, lt-leb}
+use borrow.Author.Tests.{le-leb, lt-leb, ltb-true, ltb-false, not-true, not-false}
+use lib.Dec.{ltb}
 use lib.ListN.{getD}
 use Rattle.direct.specs.Candidates.{allRead}
-use Rattle.direct.specs.Choosing.{noPoints}
+use Rattle.minutes.specs.Minutes.{noPoints}
 use Rattle.riding.specs.declared.Ride.{Ride as RideStruct}
 use Rattle.riding.specs.declared.Cursor.{Cursor}
 use Rattle.riding.specs.Riding.{Tells, left, rideOf, left-none}
@@ -28,38 +29,53 @@ module _
     (z : List ℕ)
     (p : ℕ)
     (best s : RideStruct)
-    (rest top : ℕ)
+    (rest : ℕ)
     (is : rest ≡ getD z (s .arrive) noPoints)
-    (e : top ≡ 4294967295)
+    (some : Bool)
+    (is-some : some ≡ ltb rest noPoints)
   where
-    pub try-none : top ≤ rest → best ≡ tried first z p best s
+    something : ltb (getD z (s .arrive) noPoints) noPoints ≡ some
+    something = ap (λ k. ltb k noPoints) (sym is) ∙ sym is-some
+
+    pub try-none : not some ≡ true → best ≡ tried first z p best s
     unfolding tried
-    try-none h = simp (le-ltb (getD z (s .arrive) noPoints) noPoints (omega (arith, is)))
+    try-none h = simp (something, not-true some h)
 
-    module _ (some : rest < top) where
-      pub try-dear : p < s .points + rest → best ≡ tried first z p best s
+    module _ (h : not some ≡ false) (short : Bool) (is-short : short ≡ ltb p (s .points .0)) where
+      pub try-short : short ≡ true → best ≡ tried first z p best s
       unfolding tried
-      try-dear h =
-          simp (
-            lt-ltb (getD z (s .arrive) noPoints) noPoints (omega (arith, is)),
-            lt-leb (s .points + getD z (s .arrive) noPoints) p (omega (arith, is)),
-          )
+      try-short e =
+          let less = ltb-true p (s .points .0) (sym is-short ∙ e) in
+          let dear = lt-leb (s .points .0 + getD z (s .arrive) noPoints) p (omega arith) in
+          simp (something, not-false some h, dear)
 
-      module _ (pays : s .points + rest ≤ p) (r : Bool) (goes : r ≡ comesBefore first s best) where
-        tried-is : tried first z p best s ≡ cond r s best
-        unfolding tried
-        tried-is =
-            rw (
-              lt-ltb (getD z (s .arrive) noPoints) noPoints (omega (arith, is)),
-              le-leb (s .points + getD z (s .arrive) noPoints) p (omega (arith, is)),
-            )
-            (ap (λ b. cond b s best) (sym goes))
+      module _ (e : short ≡ false) (over : ℕ) (is-over : over ≡ p - s .points .0) where
+        enough : s .points .0 ≤ p
+        enough = ltb-false p (s .points .0) (sym is-short ∙ e)
 
-        pub try-takes : r ≡ true → s ≡ tried first z p best s
-        try-takes h = sym (tried-is ∙ ap (λ b. cond b s best) h)
+        module _ (lacks : Bool) (is-lacks : lacks ≡ ltb over rest) where
+          pub try-dear : lacks ≡ true → best ≡ tried first z p best s
+          unfolding tried
+          try-dear g =
+              let less = ltb-true over rest (sym is-lacks ∙ g) in
+              let dear = lt-leb (s .points .0 + getD z (s .arrive) noPoints) p
+              (omega (arith, less, is-over, is, enough)) in
+              simp (something, not-false some h, dear)
 
-        pub try-keeps : r ≡ false → best ≡ tried first z p best s
-        try-keeps h = sym (tried-is ∙ ap (λ b. cond b s best) h)
+          module _ (g : lacks ≡ false) (r : Bool) (goes : r ≡ comesBefore first s best) where
+            tried-is : tried first z p best s ≡ cond r s best
+            unfolding tried
+            tried-is =
+                let more = ltb-false over rest (sym is-lacks ∙ g) in
+                let pays = le-leb (s .points .0 + getD z (s .arrive) noPoints) p
+                (omega (arith, more, is-over, is, enough)) in
+                rw (something, not-false some h, pays) (ap (λ b. cond b s best) (sym goes))
+
+            pub try-takes : r ≡ true → s ≡ tried first z p best s
+            try-takes t = sym (tried-is ∙ ap (λ b. cond b s best) t)
+
+            pub try-keeps : r ≡ false → best ≡ tried first z p best s
+            try-keeps t = sym (tried-is ∙ ap (λ b. cond b s best) t)
 
 module _ (lines : List ℕ) (from to ready : ℕ) (first : Bool) (z : List ℕ) (p : ℕ) where
   abbrev whole : RideStruct

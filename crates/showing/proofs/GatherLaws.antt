@@ -4,11 +4,10 @@ use mathlib.Core.Bool.{false}
 use mathlib.Core.List.{List, _∷_}
 use Prim.Native.Nat.{ℕ, _+_, _-_, _≤_}
 use lib.ListN.{length, getD}
-use Rattle.timetable.specs.Timetable.{Station}
 use Rattle.timetable.specs.Words.{stationAt}
 use Rattle.lookup.specs.Lookup.{callsPlace}
 use Rattle.direct.specs.Candidates.{allRead}
-use Rattle.direct.specs.Choosing.{noPoints, noteAll, blank}
+use Rattle.minutes.specs.Minutes.{noPoints, noteAll, blank}
 use Rattle.riding.specs.declared.Ride.{Ride as RideStruct}
 use Rattle.riding.specs.declared.Cursor.{Cursor}
 use Rattle.riding.specs.Riding.{Tells, left, rideOf, left-none}
@@ -51,17 +50,18 @@ pub calls-same : (lines : List ℕ) (x from : ℕ) → from ≡ x → callsPlace
     → callsPlace lines from ≤ length lines
 calls-same lines x from e h = subst (λ k. callsPlace lines k ≤ length lines) (sym e) h
 
-module _ (w lines path : List ℕ) (minute j : ℕ) (old z full : List ℕ) (from to : ℕ) (x : Station) where
-  pub gathered : from ≡ getD path (j - 1) 0 → to ≡ getD path j 0 → x ≡ stationAt w (from - 1)
-      → full ≡ noteAll z (catches (x .minutes) (x .points) old (allRead lines from (minute + x .minutes) to))
+module _ (w lines path : List ℕ) (minute j : ℕ) (old z full : List ℕ) (from to cm cp ready : ℕ) where
+  pub gathered : from ≡ getD path (j - 1) 0 → to ≡ getD path j 0 → cm ≡ stationAt w (from - 1) .minutes
+      → cp ≡ stationAt w (from - 1) .points → ready ≡ minute + cm
+      → full ≡ noteAll z (catches cm cp old (allRead lines from ready to))
       → full ≡ gatherBack w lines minute path j old z
   unfolding gatherBack
-  gathered d e s f =
-      let there : x ≡ stationAt w (getD path (j - 1) 0 - 1) = s ∙ ap (λ k. stationAt w (k - 1)) d in
-      f
-      ∙ (λ i.
-      noteAll z
-      (catches (there i .minutes) (there i .points) old (allRead lines (d i) (minute + there i .minutes) (e i))))
+  gathered d e is-m is-p is-ready f =
+      let there = ap (λ k. stationAt w (k - 1)) d in
+      let minutes = is-m ∙ ap (λ x. x .minutes) there in
+      let points = is-p ∙ ap (λ x. x .points) there in
+      let leaves = is-ready ∙ ap (λ k. minute + k) minutes in
+      f ∙ (λ i. noteAll z (catches (minutes i) (points i) old (allRead lines (d i) (leaves i) (e i))))
 
 module _ (w lines path : List ℕ) (minute j : ℕ) (z copy empty full : List ℕ) where
   -- the words over which a step goes, as what was left before it

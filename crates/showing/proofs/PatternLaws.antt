@@ -20,7 +20,7 @@ use Rattle.checking.specs.Question10.{areTables}
 use Rattle.lookup.specs.Lookup.{callsPlace}
 use Rattle.direct.specs.Candidates.{allRead}
 use Rattle.direct.specs.Shown.{calls-inside}
-use Rattle.direct.specs.Choosing.{blank}
+use Rattle.minutes.specs.Minutes.{blank}
 use Rattle.riding.specs.Ridden.{read-rides, read-bounds}
 use Rattle.showing.specs.Rests.{Rests, RestsAt}
 use Rattle.showing.specs.Spans.{Spans, Arrived}

@@ -1,14 +1,15 @@
 -- The words of what is left: filled, copied, read, lowered, and settled from the end.
 use mathlib.Core.Path.{_≡_, refl, sym, ap, subst, _∙_}
+use mathlib.Core.Bool.{Bool, true, false}
 use mathlib.Core.List.{List, [], _∷_, _++_}
 use Prim.Native.Nat.{ℕ, suc, _+_, _-_, _≤_, _<_, min}
 use native.Mathlib.Omega.{arith}
-use borrow.Author.Tests.{lt-ltb, le-ltb, le-leb, lt-leb}
+use borrow.Author.Tests.{le-leb, lt-leb}
+use lib.Dec.{ltb}
 use lib.ListN.{length, getD, set, take, drop, take-append-drop, List·getD-eq-default}
 use lib.Seq.{set-out, set-getD, drop-cons, take-suc, append-snoc, set-at, getD-at, getD-drop, length-take-le}
-use Rattle.direct.specs.Choosing.{noPoints, blank}
-use Rattle.direct.specs.Noted.{getD-any, getD-blank}
-use Rattle.direct.specs.Turns.{lowered}
+use Rattle.minutes.specs.Minutes.{noPoints, blank, lowered}
+use Rattle.minutes.specs.Noted.{getD-any, getD-blank}
 use Rattle.riding.specs.declared.Ride.{Ride as RideStruct}
 use Rattle.showing.specs.Settling.{least, settled, settledFrom, least-none, settled-none}
 use Rattle.showing.specs.Spans.{Spans, Arrived, Stored, spans-blank}
@@ -17,9 +18,11 @@ use Rattle.showing.specs.Stepping.{settled-spans}
 use Rattle.showing.specs.Turns.{caughtBy}
 
 -- ---- filled and copied
-module _ (old z : List ℕ) (x a n i : ℕ) (so-far : Stored (λ k. x) a i old z) where
-  pub filled-more : a ≤ i → i < n → n ≤ length old → length z ≡ length old → Stored (λ k. x) a (i + 1) old (set z i x)
-  filled-more h g l e = stored-more (λ k. x) a old i z so-far x h (omega arith) refl
+module _ (f : ℕ → ℕ) (old z next : List ℕ) (x i : ℕ) (is : next ≡ set z i x) where
+  pub filled-more : (a n : ℕ) → x ≡ f i → Stored f a i old z → a ≤ i → i < n → n ≤ length old
+      → length z ≡ length old → Stored f a (i + 1) old next
+  filled-more a n same so-far h g l e =
+      subst (Stored f a (i + 1) old) (sym is) (stored-more f a old i z so-far x h (omega arith) same)
 
 module _ (z first : List ℕ) (t v : ℕ) (timely : v ≤ 2879) (spans : Spans t v z) (firsts : Spans t v first) where
   module _ (old : List ℕ) (m : ℕ) (so-far : Stored (λ k. getD z k noPoints) t m first old) where
@@ -61,10 +64,10 @@ module _ (z : List ℕ) (m s : ℕ) where
   pub note-past : length z ≤ m → z ≡ lowered z m s
   note-past h = sym (set-out z m (min (getD z m 0) s) h)
 
-  pub note-less : (r : ℕ) → r ≡ getD z m 0 → s < r → set z m s ≡ lowered z m s
-  note-less r e h =
+  pub note-less : (r : ℕ) (new : List ℕ) → r ≡ getD z m 0 → s < r → new ≡ set z m s → new ≡ lowered z m s
+  note-less r new e h is =
       let less : s ≡ min (getD z m 0) s = omega (arith, e) in
-      ap (set z m) less
+      is ∙ ap (set z m) less
 
   pub note-more : (r : ℕ) → r ≡ getD z m 0 → r ≤ s → z ≡ lowered z m s
   note-more r e h =
@@ -72,24 +75,33 @@ module _ (z : List ℕ) (m s : ℕ) where
       sym (ap (set z m) more ∙ set-getD z m 0)
 
 -- ---- one ride noted
-module _ (cm cp : ℕ) (old z : List ℕ) (s : RideStruct) (left : ℕ) (is : left ≡ getD old (s .arrive) noPoints) where
-  pub catch-none : (top : ℕ) → top ≡ 4294967295 → top ≤ left → z ≡ caughtBy cm cp old z s
-  unfolding caughtBy
-  catch-none top e h =
-      simp (le-ltb (getD old (s .arrive) noPoints) noPoints (omega (arith, is)))
+module _
+    (cm cp : ℕ)
+    (old z : List ℕ)
+    (s : RideStruct)
+    (left : ℕ)
+    (is : left ≡ getD old (s .arrive) noPoints)
+    (r : Bool)
+    (is-r : r ≡ ltb left noPoints)
+  where
+    some : ltb (getD old (s .arrive) noPoints) noPoints ≡ r
+    some = ap (λ k. ltb k noPoints) (sym is) ∙ sym is-r
 
-  module _ (top : ℕ) (e : top ≡ 4294967295) (some : left < top) where
-    pub catch-late : s .depart < cm → z ≡ caughtBy cm cp old z s
+    pub catch-none : r ≡ false → z ≡ caughtBy cm cp old z s
     unfolding caughtBy
-    catch-late h =
-        simp (lt-ltb (getD old (s .arrive) noPoints) noPoints (omega (arith, is)), lt-leb cm (s .depart) h)
+    catch-none h = simp (some, h)
 
-    pub catch-one : (new : List ℕ) → cm ≤ s .depart → new ≡ lowered z (s .depart - cm) (cp + s .points + left)
-        → new ≡ caughtBy cm cp old z s
-    unfolding caughtBy
-    catch-one new h g =
-        rw (lt-ltb (getD old (s .arrive) noPoints) noPoints (omega (arith, is)), le-leb cm (s .depart) h)
-        (g ∙ ap (λ k. lowered z (s .depart - cm) (cp + s .points + k)) is)
+    module _ (h : r ≡ true) where
+      pub catch-late : s .depart < cm → z ≡ caughtBy cm cp old z s
+      unfolding caughtBy
+      catch-late g = simp (some, h, lt-leb cm (s .depart) g)
+
+      pub catch-one : (new : List ℕ) (m : ℕ) → cm ≤ s .depart → m ≡ s .depart - cm
+          → new ≡ lowered z m (cp + s .points .0 + left) → new ≡ caughtBy cm cp old z s
+      unfolding caughtBy
+      catch-one new m g is-m e =
+          rw (some, h, le-leb cm (s .depart) g)
+          (e ∙ (λ i. lowered z (is-m i) (cp + s .points .0 + is i)))
 
 -- ---- settled from the end
 module _ (old : List ℕ) (t v : ℕ) (timely : v ≤ 2879) (spans : Spans t v old) where
@@ -149,15 +161,16 @@ module _ (old : List ℕ) (t v : ℕ) (timely : v ≤ 2879) (spans : Spans t v o
             ap (λ l. getD l k 0) apart
             ∙ getD-at (take k old) (getD old k 0) (settled noPoints (drop m old)) 0 k long-front
 
-        pub low-more : (r : ℕ) → r ≡ min (getD z (m - 1) 0) low → r ≡ least noPoints (drop (m - 1) old)
+        pub low-more : (x r : ℕ) → x ≡ getD z (m - 1) 0 → r ≡ min x low → r ≡ least noPoints (drop (m - 1) old)
         unfolding least
-        low-more r e = rw at (omega (arith, e, word, is))
+        low-more x r is-x e = rw at (omega (arith, e, is-x, word, is))
 
-        pub settle-more : (r : ℕ) → r ≡ min (getD z (m - 1) 0) low
-            → set z (m - 1) r ≡ settledFrom noPoints (m - 1) old
+        pub settle-more : (next : List ℕ) (x r : ℕ) → next ≡ set z (m - 1) r → x ≡ getD z (m - 1) 0 → r ≡ min x low
+            → next ≡ settledFrom noPoints (m - 1) old
         unfolding settled settledFrom
-        settle-more r e =
-            let lowest : r ≡ min (getD old k 0) (least noPoints (drop m old)) = omega (arith, e, word, is) in
-            ap (λ l. set l k r) apart
+        settle-more next x r is-next is-x e =
+            let lowest : r ≡ min (getD old k 0) (least noPoints (drop m old)) = omega (arith, e, is-x, word, is) in
+            is-next
+            ∙ ap (λ l. set l k r) apart
             ∙ set-at (take k old) (getD old k 0) (settled noPoints (drop m old)) r k long-front
             ∙ rw (at, lowest)

@@ -9,8 +9,9 @@ use native.Mathlib.Omega.{arith}
 use lib.ListN.{length, getD, set, take, drop, length-append, length-take}
 use lib.Seq.{slice, slice-empty, slice-cons, take-at}
 use Rattle.words.specs.Put.{put, put-more}
-use Rattle.timetable.specs.Timetable.{Timetable, Station}
+use Rattle.timetable.specs.Timetable.{Timetable}
 use Rattle.timetable.specs.Words.{stationCount, stationAt, timetableOf, isTimetable}
+use Rattle.results.specs.declared.Points.{Points}
 use Rattle.connections.specs.Rides.{Ride}
 use Rattle.connections.specs.Connections.{Change, net, Connection, Boards, ready}
 use Rattle.lists.specs.Lists.{_∈_}
@@ -49,19 +50,22 @@ take-three i ws old e h =
     let long : length (take (3 * i) old ++ ws) ≡ 3 * (i + 1) = simp (length-append, length-take) (omega arith) in
     take-at (take (3 * i) old ++ ws) (drop (3 * i + length ws) old) (3 * (i + 1)) long
 
-pub moved : (w path : List ℕ) (i left to paid : ℕ) (s : RideStruct) (x : Station) (old new : List ℕ)
+pub moved : (w path : List ℕ) (i left to ready : ℕ) (s : RideStruct) (m k one : ℕ) (paid : Points) (old new : List ℕ)
     → new ≡ put (3 * i) (s .trip ∷ s .board ∷ s .alight ∷ []) old
     → to ≡ getD path i 0
-    → x ≡ stationAt w (to - 1)
-    → paid ≡ left - (s .points + x .points)
-    → Moved w path i left s old new (record { from = to; ready = s .arrive + x .minutes; left = paid })
-moved w path i left to paid s x old new e f g h =
-    let there : x ≡ stationAt w (getD path i 0 - 1) = g ∙ ap (λ k. stationAt w (k - 1)) f in
+    → m ≡ stationAt w (to - 1) .minutes
+    → k ≡ stationAt w (to - 1) .points
+    → ready ≡ s .arrive + m
+    → one ≡ left - s .points .0
+    → paid .0 ≡ one - k
+    → Moved w path i left s old new (record { from = to; ready = ready; left = paid })
+moved w path i left to ready s m k one paid old new e f is-m is-k is-ready is-one is-paid =
+    let there = ap (λ k. stationAt w (k - 1)) f in
     record {
       wrote = e;
       from = f;
-      ready = ap (λ x. s .arrive + x .minutes) there;
-      left-then = h ∙ ap (λ x. left - (s .points + x .points)) there;
+      ready = is-ready ∙ ap (λ m. s .arrive + m) (is-m ∙ ap (λ x. x .minutes) there);
+      left-then = omega (arith, is-paid, is-one, is-k, ap (λ x. x .points) there);
     }
 
 -- ---- along the path
@@ -98,7 +102,7 @@ module _ (w lines path : List ℕ) (r v : ℕ) (given : Given w lines path r v) 
       → Standing w minute at
       → RestsAt w path r v minute i z
       → to ≡ getD path i 0
-      → s ≡ tellsOf (headOf first z (at .left) (allRead lines (at .from) (at .ready) to))
+      → s ≡ tellsOf (headOf first z (at .left .0) (allRead lines (at .from) (at .ready) to))
       → Headed w path r v first i at s
   unfolding RestsAt Headed
   head-taken minute i to at first z s inside stands rests is-to is =
@@ -117,7 +121,7 @@ module _ (w lines path : List ℕ) (r v : ℕ) (given : Given w lines path r v) 
       u = at .ready
 
       p : ℕ
-      p = at .left
+      p = at .left .0
 
       rides : List Ride
       rides = allRead lines x u y
@@ -185,20 +189,20 @@ module _ (w lines path : List ℕ) (r v : ℕ) (given : Given w lines path r v) 
         minute : ready ride w′ ≡ next .ready
         minute = omega (arith, ap (λ s. s .arrive) tells, there .minutes, move .ready)
 
-        points : left - (ride .points + w′ .points) ≡ next .left
+        points : left - (ride .points + w′ .points) ≡ next .left .0
         points =
-            ap (λ s. left - (s .points + w′ .points)) (sym tells)
-            ∙ ap (λ k. left - (s .points + k)) (there .points)
+            ap (λ s. left - (s .points .0 + w′ .points)) (sym tells)
+            ∙ ap (λ k. left - (s .points .0 + k)) (there .points)
             ∙ sym (move .left-then)
 
         moves : (whole : List ℕ)
             → Going t b v whole a m p₀ (take (3 * i) old ++ rideNumbers ride) d q (w′ .to) (ready ride w′)
             (left - (ride .points + w′ .points))
-            → Going t b v whole a m p₀ (take (3 * (i + 1)) new) d q (next .from) (next .ready) (next .left)
+            → Going t b v whole a m p₀ (take (3 * (i + 1)) new) d q (next .from) (next .ready) (next .left .0)
         moves whole g =
-            subst (λ k. Going t b v whole a m p₀ k d q (next .from) (next .ready) (next .left)) written
-            (subst (λ x. Going t b v whole a m p₀ done d q x (next .ready) (next .left)) station
-            (subst (λ u. Going t b v whole a m p₀ done d q (w′ .to) u (next .left)) minute
+            subst (λ k. Going t b v whole a m p₀ k d q (next .from) (next .ready) (next .left .0)) written
+            (subst (λ x. Going t b v whole a m p₀ done d q x (next .ready) (next .left .0)) station
+            (subst (λ u. Going t b v whole a m p₀ done d q (w′ .to) u (next .left .0)) minute
             (subst (λ p. Going t b v whole a m p₀ done d q (w′ .to) (ready ride w′) p) points g)))
           where
             done : List ℕ
@@ -221,10 +225,10 @@ module _ (w lines path : List ℕ) (r v : ℕ) (given : Given w lines path r v) 
     unfolding Rode
     under-on a m p₀ d at step old new rooms under rode = go rode
       where
-        here : Left t b v (take r path) a m p₀ (take (3 * i) old) d (y ∷ q) (at .from) (at .ready) (at .left)
+        here : Left t b v (take r path) a m p₀ (take (3 * i) old) d (y ∷ q) (at .from) (at .ready) (at .left .0)
         here =
             subst
-            (λ q. Going t b v (take r path) a m p₀ (take (3 * i) old) d q (at .from) (at .ready) (at .left))
+            (λ q. Going t b v (take r path) a m p₀ (take (3 * i) old) d q (at .from) (at .ready) (at .left .0))
             (on i inside)
             (under .going)
 
@@ -233,19 +237,19 @@ module _ (w lines path : List ℕ) (r v : ℕ) (given : Given w lines path r v) 
         go (inl h) =
             let e = here .some in
             let back = sym (on i inside) in
-            absurd (h .none e (subst (λ q. Fitting t b v q (at .from) (at .ready) (at .left) e) back (here .fits)))
+            absurd (h .none e (subst (λ q. Fitting t b v q (at .from) (at .ready) (at .left .0) e) back (here .fits)))
         go (inr h) =
             let ride = h .taken .ride in
             let chosen =
-            subst (λ q. Chosen t b v false q (at .from) (at .ready) (at .left) ride) (on i inside) (h .taken .chosen)
+            subst (λ q. Chosen t b v false q (at .from) (at .ready) (at .left .0) ride) (on i inside) (h .taken .chosen)
             in
             record {
-              least = next-least (at .left) (h .ride) old new (step .at) (h .moved);
-              most = next-most (at .left) (h .ride) old new (step .at) (h .moved);
+              least = next-least (at .left .0) (h .ride) old new (step .at) (h .moved);
+              most = next-most (at .left .0) (h .ride) old new (step .at) (h .moved);
               going =
-                  moves a m p₀ d (at .left) (h .ride) ride (h .taken .tells) old new (step .at) (h .moved)
+                  moves a m p₀ d (at .left .0) (h .ride) ride (h .taken .tells) old new (step .at) (h .moved)
                   (omega (arith, given .few)) (take r path)
-                  (goes t (is-valid w accepted) b v (take r path) a m p₀ y (at .from) (at .ready) (at .left) ride
+                  (goes t (is-valid w accepted) b v (take r path) a m p₀ y (at .from) (at .ready) (at .left .0) ride
                   (there .change) (there .listed) (there .at) q (take (3 * i) old) d here chosen);
             }
 
@@ -257,24 +261,24 @@ module _ (w lines path : List ℕ) (r v : ℕ) (given : Given w lines path r v) 
       omega (arith, takes-time (net t) (sound t (is-valid w accepted)) a m b e (f .feasible), f .timely)
 
   -- ---- the first ride
-  module _ (a m p : ℕ) (step : Next) where
+  module _ (a m : ℕ) (p : Points) (step : Next) where
     abbrev start : At
     start = record { from = a; ready = m; left = p }
 
     under-first : (old new : List ℕ) → 1 ≤ r → length old ≡ 192
         → Rode w path r v true 0 (record { from = a; ready = m; left = p }) old new step
         → not (step .found) ≡ false
-        → Under w path r v a m p (step .depart) 1 new (step .at)
+        → Under w path r v a m (p .0) (step .depart) 1 new (step .at)
     unfolding Rode
     under-first old new some rooms rode found = go rode
       where
         Goes : List ℕ → ℕ → Type 0
         Goes whole d =
             let at = step .at in
-            Going t b v whole a m p (take (3 * 1) new) d (slice 1 r path) (at .from) (at .ready) (at .left)
+            Going t b v whole a m (p .0) (take (3 * 1) new) d (slice 1 r path) (at .from) (at .ready) (at .left .0)
 
         go : Stopped w path r v 0 start step ⊎ Gone w path r v true 0 start old new step
-            → Under w path r v a m p (step .depart) 1 new (step .at)
+            → Under w path r v a m (p .0) (step .depart) 1 new (step .at)
         go (inl h) = absurd (true-false (sym (ap not (h .found)) ∙ found))
         go (inr h) =
             let ride = h .taken .ride in
@@ -282,16 +286,16 @@ module _ (w lines path : List ℕ) (r v : ℕ) (given : Given w lines path r v) 
             let q = slice 1 r path in
             let on-way = on 0 (omega arith) in
             let c = there 0 (omega arith) in
-            let chosen = subst (λ q. Chosen t b v true q a m p ride) on-way (h .taken .chosen) in
-            let first = begins t (is-valid w accepted) b v y a m p ride (c .change) (c .listed) (c .at) q chosen in
+            let chosen = subst (λ q. Chosen t b v true q a m (p .0) ride) on-way (h .taken .chosen) in
+            let first = begins t (is-valid w accepted) b v y a m (p .0) ride (c .change) (c .listed) (c .at) q chosen in
             let goes-on =
-            moves 0 (omega arith) a m p (ride .depart) p (h .ride) ride (h .taken .tells) old new (step .at) (h .moved)
-            (omega arith) (y ∷ q) first
+            moves 0 (omega arith) a m (p .0) (ride .depart) (p .0) (h .ride) ride (h .taken .tells) old new (step .at)
+            (h .moved) (omega arith) (y ∷ q) first
             in
             let leaves = h .departs ∙ ap (λ s. s .depart) (h .taken .tells) in
             record {
-              least = next-least 0 (omega arith) p (h .ride) old new (step .at) (h .moved);
-              most = next-most 0 (omega arith) p (h .ride) old new (step .at) (h .moved);
+              least = next-least 0 (omega arith) (p .0) (h .ride) old new (step .at) (h .moved);
+              most = next-most 0 (omega arith) (p .0) (h .ride) old new (step .at) (h .moved);
               going =
                   subst (Goes (take r path)) (sym leaves) (subst (λ l. Goes l (ride .depart)) (sym on-way) goes-on);
             }
@@ -299,7 +303,7 @@ module _ (w lines path : List ℕ) (r v : ℕ) (given : Given w lines path r v) 
     pub starts : (old new : List ℕ) → 1 ≤ r → length old ≡ 192 → length new ≡ length old
         → Rode w path r v true 0 (record { from = a; ready = m; left = p }) old new step
         → not (step .found) ≡ false
-        → Riding w lines path r v a m p (step .depart) 1 new (step .at)
+        → Riding w lines path r v a m (p .0) (step .depart) 1 new (step .at)
     starts old new some rooms same rode found =
         record {
           given = given;
@@ -308,16 +312,22 @@ module _ (w lines path : List ℕ) (r v : ℕ) (given : Given w lines path r v) 
           under = under-first old new some rooms rode found;
         }
 
-    pub none-fits : (old new : List ℕ) → Rode w path r v true 0 (record { from = a; ready = m; left = p }) old new step
+    none-there : (old new : List ℕ) → Rode w path r v true 0 (record { from = a; ready = m; left = p }) old new step
         → not (step .found) ≡ true
-        → FoundAt w path r v a m p (record { found = false; depart = 0 }) new
+        → FoundAt w path r v a m (p .0) (record { found = false; depart = 0 }) new
     unfolding Rode FoundAt
-    none-fits old new rode e = go rode
+    none-there old new rode e = go rode
       where
         go : Stopped w path r v 0 start step ⊎ Gone w path r v true 0 start old new step
-            → (e : Connection) → ¬ Fitting t b v (take r path) a m p e
+            → (e : Connection) → ¬ Fitting t b v (take r path) a m (p .0) e
         go (inl h) = h .none
         go (inr h) = absurd (true-false (sym e ∙ ap not (h .found)))
+
+  pub none-fits : (a m p : ℕ) (step : Next) (old new : List ℕ)
+      → Rode w path r v true 0 (record { from = a; ready = m; left = record { 0 = p } }) old new step
+      → not (step .found) ≡ true
+      → FoundAt w path r v a m p (record { found = false; depart = 0 }) new
+  none-fits a m p = none-there a m (record { 0 = p })
 
 module _
     (w lines path : List ℕ)
@@ -329,7 +339,7 @@ module _
     abbrev Goes : (i : ℕ) (q : List ℕ) → Type 0
     Goes i q =
         let b = getD path (r - 1) 0 in
-        Going (timetableOf w) b v (take r path) a m p (take (3 * i) rides) d q (at .from) (at .ready) (at .left)
+        Going (timetableOf w) b v (take r path) a m p (take (3 * i) rides) d q (at .from) (at .ready) (at .left .0)
 
     -- while a station is left, one can leave no earlier than one began
     pub stands-there : i < r → Standing w m at
@@ -381,7 +391,7 @@ module _
         go (inl h) = inl (record { found = refl; none = h .none })
         go (inr h) = absurd (omega (arith, e, ap (λ s. s .trip) (h .tells), h .chosen .few))
 
-    pub rode-one : (old new : List ℕ) (next : At) → ¬ (s .trip ≡ 65536) → Moved w path i (at .left) s old new next
+    pub rode-one : (old new : List ℕ) (next : At) → ¬ (s .trip ≡ 65536) → Moved w path i (at .left .0) s old new next
         → Rode w path r v first i at old new (record { found = true; depart = s .depart; at = next })
     unfolding Rode Headed
     rode-one old new next e move = go headed
@@ -399,6 +409,6 @@ module _ (w lines path : List ℕ) (r v i : ℕ) (given : Given w lines path r v
   pub next-few : getD path i 0 ≤ 64
   next-few = station-few w (given .accepted) (getD path i 0) next-first (given .listed .at i inside .1)
 
-pub starts-there : (w : List ℕ) (source minute p : ℕ) → 1 ≤ source → source ≤ stationCount w
+pub starts-there : (w : List ℕ) (source minute : ℕ) (p : Points) → 1 ≤ source → source ≤ stationCount w
     → Standing w minute (record { from = source; ready = minute; left = p })
 starts-there w source minute p h g = record { least = h; most = g; later = omega arith }

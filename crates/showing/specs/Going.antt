@@ -18,7 +18,7 @@ use Rattle.connections.specs.Planner.{numbers}
 use Rattle.connections.specs.Named.{named}
 use Rattle.connections.specs.Sound.{sound}
 use Rattle.connections.specs.Feasibility.{has-stations}
-use Rattle.reckoning.specs.Sets.{firstRide}
+use Rattle.reckoning.specs.Ways.{firstRide}
 use Rattle.reckoning.specs.Greedy.{First, rideNumbers, first-direct, first-onward, tie-direct, tie-onward}
 use Rattle.showing.specs.Showing.{Fitting, Shown}
 use Rattle.showing.specs.Heads.{Chosen}

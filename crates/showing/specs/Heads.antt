@@ -18,9 +18,9 @@ use Rattle.connections.specs.RideLaws.{rides-out}
 use Rattle.connections.specs.Connections.{Net, net, Connection, Boards}
 use Rattle.connections.specs.Sound.{Sound, sound}
 use Rattle.connections.specs.Feasibility.{penalty-most}
-use Rattle.reckoning.specs.Sets.{firstRide}
+use Rattle.reckoning.specs.Ways.{firstRide}
 use Rattle.reckoning.specs.Greedy.{rideNumbers}
-use Rattle.direct.specs.Choosing.{noPoints}
+use Rattle.minutes.specs.Minutes.{noPoints}
 use Rattle.showing.specs.Rests.{Rests, begun, parted}
 use Rattle.showing.specs.Showing.{Fitting}
 use Rattle.showing.specs.Foremost.{foremost, foremost-cases, Leading}

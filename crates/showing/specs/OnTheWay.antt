@@ -34,12 +34,12 @@ module _ (w path : List ℕ) (r v : ℕ) where
   pub record Taken (first : Bool) (i : ℕ) (at : At) (s : RideStruct) : Type 0 where
     pub ride : Ride
     pub tells : s ≡ tellsOf ride
-    pub chosen : Chosen (timetableOf w) b v first (slice i r path) (at .from) (at .ready) (at .left) ride
+    pub chosen : Chosen (timetableOf w) b v first (slice i r path) (at .from) (at .ready) (at .left .0) ride
 
   -- nothing fits
   pub record Nothing (i : ℕ) (at : At) (s : RideStruct) : Type 0 where
     pub trip : s .trip ≡ 65536
-    pub none : (e : Connection) → ¬ Fitting (timetableOf w) b v (slice i r path) (at .from) (at .ready) (at .left) e
+    pub none : (e : Connection) → ¬ Fitting (timetableOf w) b v (slice i r path) (at .from) (at .ready) (at .left .0) e
 
   unfoldable pub Headed : (first : Bool) (i : ℕ) (at : At) (s : RideStruct) → Type 0
   Headed first i at s = Nothing i at s ⊎ Taken first i at s
@@ -50,20 +50,20 @@ module _ (w path : List ℕ) (r v : ℕ) where
     pub least : 1 ≤ at .from
     pub most : at .from ≤ stationCount w
     pub going : Going (timetableOf w) b v (take r path) a t p (take (3 * i) rides) d (slice i r path) (at .from)
-        (at .ready) (at .left)
+        (at .ready) (at .left .0)
 
 -- ride s to station i of the path is written, and one has changed behind it
 pub record Moved (w path : List ℕ) (i left : ℕ) (s : RideStruct) (old new : List ℕ) (next : At) : Type 0 where
   pub wrote : new ≡ put (3 * i) (s .trip ∷ s .board ∷ s .alight ∷ []) old
   pub from : next .from ≡ getD path i 0
   pub ready : next .ready ≡ s .arrive + (stationAt w (getD path i 0 - 1)) .minutes
-  pub left-then : next .left ≡ left - (s .points + (stationAt w (getD path i 0 - 1)) .points)
+  pub left-then : next .left .0 ≡ left - (s .points .0 + (stationAt w (getD path i 0 - 1)) .points)
 
 -- what became of the ride to station i of the path: there is none to take
 pub record Stopped (w path : List ℕ) (r v i : ℕ) (at : At) (step : Next) : Type 0 where
   pub found : step .found ≡ false
   pub none : (e : Connection)
-      → ¬ Fitting (timetableOf w) (getD path (r - 1) 0) v (slice i r path) (at .from) (at .ready) (at .left) e
+      → ¬ Fitting (timetableOf w) (getD path (r - 1) 0) v (slice i r path) (at .from) (at .ready) (at .left .0) e
 
 -- or it is taken
 pub record Gone (w path : List ℕ) (r v : ℕ) (first : Bool) (i : ℕ) (at : At) (old new : List ℕ) (step : Next) : Type 0
@@ -72,7 +72,7 @@ pub record Gone (w path : List ℕ) (r v : ℕ) (first : Bool) (i : ℕ) (at : A
     pub ride : RideStruct
     pub departs : step .depart ≡ ride .depart
     pub taken : Taken w path r v first i at ride
-    pub moved : Moved w path i (at .left) ride old new (step .at)
+    pub moved : Moved w path i (at .left .0) ride old new (step .at)
 
 unfoldable pub Rode : (w path : List ℕ) (r v : ℕ) (first : Bool) (i : ℕ) (at : At) (old new : List ℕ) (step : Next)
     → Type 0

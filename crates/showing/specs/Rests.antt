@@ -13,8 +13,8 @@ use Rattle.connections.specs.Rides.{Ride}
 use Rattle.connections.specs.Connections.{Change, Net, net, Connection, direct, onward, Boards, Feasible}
 use Rattle.connections.specs.Connections.{arrival, penalty, stations}
 use Rattle.connections.specs.Feasibility.{has-stations}
-use Rattle.reckoning.specs.Sets.{firstRide}
-use Rattle.direct.specs.Choosing.{noPoints}
+use Rattle.reckoning.specs.Ways.{firstRide}
+use Rattle.minutes.specs.Minutes.{noPoints}
 
 module _ (n : Net) (b v : ℕ) where
   -- one who arrives at x at minute m changes there and goes on by the stations q to b, there by minute v, for s points

@@ -11,8 +11,8 @@ use lib.Dec.{T, leb, ltb, leb→le, nleb→lt, ltb→lt, nltb→le}
 use lib.ListN.{length, getD, set, length-replicate}
 use lib.Seq.{ext-getD, getD-set-same, getD-set-other}
 use Rattle.lists.specs.Tests.{either}
-use Rattle.direct.specs.Choosing.{noPoints, blank}
-use Rattle.direct.specs.Noted.{getD-blank}
+use Rattle.minutes.specs.Minutes.{noPoints, blank}
+use Rattle.minutes.specs.Noted.{getD-blank}
 
 -- z has a word for each minute, and something is left only for minutes from t to v
 pub record Spans (t v : ℕ) (z : List ℕ) : Type 0 where

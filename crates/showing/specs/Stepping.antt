@@ -18,9 +18,9 @@ use Rattle.connections.specs.Connections.{Change, Net, net, Boards}
 use Rattle.connections.specs.Named.{named}
 use Rattle.connections.specs.Sound.{Sound, sound}
 use Rattle.connections.specs.Feasibility.{penalty-most}
-use Rattle.reckoning.specs.Sets.{firstRide}
-use Rattle.direct.specs.Choosing.{noPoints, noteAll, blank}
-use Rattle.direct.specs.Noted.{Noted, Arrives, all-noted, LeastNoted, least-noted}
+use Rattle.reckoning.specs.Ways.{firstRide}
+use Rattle.minutes.specs.Minutes.{noPoints, noteAll, blank}
+use Rattle.minutes.specs.Noted.{Noted, Arrives, all-noted, LeastNoted, least-noted}
 use Rattle.showing.specs.Rests.{Rest, Rests, begun, parted}
 use Rattle.showing.specs.Settling.{settledFrom, length-from, from-kept, from-low, from-is}
 use Rattle.showing.specs.Spans.{Spans, Arrived, spans-blank, spans-in}

@@ -9,8 +9,7 @@ use Rattle.timetable.specs.Words.{stationAt}
 use Rattle.lists.specs.Lists.{before, keep, filter}
 use Rattle.connections.specs.Rides.{Ride}
 use Rattle.direct.specs.Candidates.{allRead}
-use Rattle.direct.specs.Choosing.{noPoints, noteAll, blank}
-use Rattle.direct.specs.Turns.{lowered}
+use Rattle.minutes.specs.Minutes.{noPoints, noteAll, blank, lowered}
 use Rattle.riding.specs.declared.Ride.{Ride as RideStruct}
 use Rattle.riding.specs.Riding.{Tells}
 use Rattle.showing.specs.Settling.{settledFrom}
@@ -27,7 +26,7 @@ tellsOf r =
       alight = r .alight;
       depart = r .depart;
       arrive = r .arrive;
-      points = r .points;
+      points = record { 0 = r .points };
     }
 
 pub tells-is : (s : RideStruct) (r : Ride) → Tells s r → s ≡ tellsOf r
@@ -39,7 +38,7 @@ tells-is s r t =
       alight = t .alight i;
       depart = t .depart i;
       arrive = t .arrive i;
-      points = t .points i;
+      points = record { 0 = t .points i };
     }
 
 -- ---- what is left, once one ride more is counted
@@ -47,7 +46,7 @@ unfoldable pub caughtBy : (cm cp : ℕ) (old z : List ℕ) → RideStruct → Li
 caughtBy cm cp old z s =
     cond
     (ltb (getD old (s .arrive) noPoints) noPoints && leb cm (s .depart))
-    (lowered z (s .depart - cm) (cp + s .points + getD old (s .arrive) noPoints))
+    (lowered z (s .depart - cm) (cp + s .points .0 + getD old (s .arrive) noPoints))
     z
 
 pub catches-none : (cm cp : ℕ) (old z : List ℕ) → noteAll z (catches cm cp old []) ≡ z
@@ -88,7 +87,7 @@ comesBefore first g f = before (keyOf first g) (keyOf first f)
 unfoldable pub tried : (first : Bool) (z : List ℕ) (p : ℕ) (best s : RideStruct) → RideStruct
 tried first z p best s =
     cond
-    (ltb (getD z (s .arrive) noPoints) noPoints && leb (s .points + getD z (s .arrive) noPoints) p)
+    (ltb (getD z (s .arrive) noPoints) noPoints && leb (s .points .0 + getD z (s .arrive) noPoints) p)
     (cond (comesBefore first s best) s best)
     best
 

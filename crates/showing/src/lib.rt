@@ -1,4 +1,4 @@
-// The connection of one stored pattern that is shown for a row: what is left behind each station, station by station
+// The connection of one stored pattern that is shown for a row: what is left after each station, station by station
 // from the target back, and then ride by ride the first that can be taken.
 mod rests;
 mod rides;
@@ -9,16 +9,18 @@ ghost use lib.ListN.{length};
 ghost use Rattle.timetable.specs.Words.{stationCount};
 ghost use Rattle.showing.specs.Showing.{Given, FoundAt};
 ghost use Rattle.showing.specs.Spans.{Spans};
-use rests::NO_POINTS;
+use minutes::MINUTES;
+use minutes::NO_POINTS;
+use results::Points;
 
 // Where one is on the way: the station, the minute from which one can leave, and the points left to pay.
 pub struct At {
     pub from: usize,
     pub ready: usize,
-    pub left: usize,
+    pub left: Points,
 }
 
-// Whether a ride was taken, when it departs, and where one is behind it.
+// Whether a ride was taken, when it departs, and where one is after it.
 pub struct Next {
     pub found: bool,
     pub depart: usize,
@@ -41,7 +43,7 @@ fn first_in_time(
     path: &[u16],
     r: usize,
     v: usize,
-    p: u32,
+    p: Points,
     rides: &mut [u32],
     z: &mut [u32],
     old: &mut [u32],
@@ -54,13 +56,14 @@ fn first_in_time(
         × (minute ≤ v)
         × Spans minute v (now z)
         × Spans minute v (now old) ⌝ }
-    ensures { λ f. ⌜ FoundAt (now (words .entry)) (now (path .entry)) r v source minute p f (now (rides .exit)) ⌝ }
+    ensures { λ f. ⌜ FoundAt (now (words .entry)) (now (path .entry)) r v source minute (p .0) f (now (rides .exit)) ⌝ }
     ensures { λ _. ⌜ length (now (rides .exit)) ≡ length (now (rides .entry)) ⌝ }
 {
+    let most = p.0;
     let start = At {
         from: source,
         ready: minute,
-        left: p as usize,
+        left: Points(most),
     };
     let head = rides::ride_on(
         words,
@@ -82,6 +85,7 @@ fn first_in_time(
             depart: 0,
         };
     }
+    let depart = head.depart;
     let mut at = head.at;
     let mut i = 1;
     while i < r {
@@ -104,7 +108,7 @@ fn first_in_time(
     }
     First {
         found: true,
-        depart: head.depart,
+        depart,
     }
 }
 
@@ -117,7 +121,7 @@ pub fn first_of_pattern(
     path: &[u16],
     r: usize,
     v: usize,
-    p: u32,
+    p: Points,
     rides: &mut [u32],
 ) -> First
     requires { ⌜ Given (now words) (now lines) (now path) r v
@@ -125,7 +129,7 @@ pub fn first_of_pattern(
         × (1 ≤ source)
         × (source ≤ stationCount (now words))
         × (length (now rides) ≡ 192) ⌝ }
-    ensures { λ f. ⌜ FoundAt (now (words .entry)) (now (path .entry)) r v source minute p f (now (rides .exit)) ⌝ }
+    ensures { λ f. ⌜ FoundAt (now (words .entry)) (now (path .entry)) r v source minute (p .0) f (now (rides .exit)) ⌝ }
     ensures { λ _. ⌜ length (now (rides .exit)) ≡ length (now (rides .entry)) ⌝ }
 {
     if v < minute {
@@ -134,8 +138,8 @@ pub fn first_of_pattern(
             depart: 0,
         };
     }
-    let mut z = [NO_POINTS; 2880];
-    let mut old = [NO_POINTS; 2880];
+    let mut z = [NO_POINTS; MINUTES];
+    let mut old = [NO_POINTS; MINUTES];
     first_in_time(
         words,
         lines,

@@ -1,80 +1,77 @@
-// What is left to pay behind each station of a path, station by station from the target back.
+// What is left to pay after each station of a path, station by station from the target back.
 //
 // There is a word for each minute of the two days, but only the minutes from the query's to the row's can matter, and
 // only their words are stored: all others say throughout that nothing is left.
 ghost use mathlib.Core.Path.{_≡_};
-ghost use Prim.Native.Nat.{_+_, _-_, _≤_, _<_, min};
+ghost use Prim.Native.Nat.{_+_, _-_, _≤_, _<_};
 ghost use lib.ListN.{length, getD};
 ghost use Rattle.lookup.specs.Lookup.{callsPlace};
 ghost use Rattle.direct.specs.Candidates.{allRead};
-ghost use Rattle.direct.specs.Choosing.{noPoints, noteAll, blank};
-ghost use Rattle.direct.specs.Turns.{lowered};
+ghost use Rattle.minutes.specs.Minutes.{noPoints, noteAll, blank, lowered};
 ghost use Rattle.showing.specs.Showing.{Given};
 ghost use Rattle.showing.specs.Rests.{RestsAt};
 ghost use Rattle.showing.specs.Settling.{settledFrom};
 ghost use Rattle.showing.specs.Spans.{Spans, Stored, Arrived};
 ghost use Rattle.showing.specs.Stepping.{catches};
 ghost use Rattle.showing.specs.Turns.{caughtBy, gatherBack, stepBack};
+use minutes::NO_POINTS;
+use results::Cost;
+use results::Points;
 use riding::Ride;
-use timetable::Station;
 
-// The penalty where nothing is left that arrives in time; all that does has less.
-pub const NO_POINTS: u32 = u32::MAX;
-
-// Stores x in the words from `from` to before `to`.
-fn fill(z: &mut [u32], from: usize, to: usize, x: u32)
+// Stores the same points for the minutes from `from` to before `to`.
+fn fill(z: &mut [u32], from: usize, to: usize, points: Points)
     requires { ⌜ (from ≤ to) × (to ≤ length (now z)) ⌝ }
-    ensures { λ _. ⌜ Stored (λ _. x) from to (now (z .entry)) (now (z .exit)) ⌝ }
+    ensures { λ _. ⌜ Stored (λ _. points .0) from to (now (z .entry)) (now (z .exit)) ⌝ }
     ensures { λ _. ⌜ length (now (z .exit)) ≡ length (now (z .entry)) ⌝ }
 {
     let mut i = from;
     while i < to {
-        z[i] = x;
+        minutes::set_points(z, i, points);
         i += 1;
     }
 }
 
-// The same number of points, wide enough for a sum of several.
-pub fn wide(x: u32) -> usize
-    ensures { λ r. ⌜ (r ≡ x) × (r ≤ 4294967295) ⌝ }
-{
-    x as usize
-}
-
 // What is left for one who arrives at minute m; no minute past the end is in time.
-pub fn rest_at(z: &[u32], m: usize) -> usize
-    ensures { λ r. ⌜ (r ≡ getD (now (z .entry)) m noPoints) × (r ≤ 4294967295) ⌝ }
+pub fn rest_at(z: &[u32], m: usize) -> Points
+    ensures { λ r. ⌜ r .0 ≡ getD (now (z .entry)) m noPoints ⌝ }
 {
     if m < z.len() {
-        return wide(z[m]);
+        return minutes::points_at(z, m);
     }
-    wide(NO_POINTS)
+    Points(NO_POINTS)
 }
 
-// Notes s points for minute m, if that is less than what stands there.
-fn note(z: &mut [u32], m: usize, s: usize)
-    ensures { λ _. ⌜ now (z .exit) ≡ lowered (now (z .entry)) m s ⌝ }
+// Notes the sum of three numbers of points for minute m, if that is less than what stands there. The sum may be more
+// than fits the word of a minute; it is not stored then, as nothing that stands there is more.
+fn note_sum(z: &mut [u32], m: usize, price: Points, points: Points, left: Points)
+    ensures { λ _. ⌜ now (z .exit) ≡ lowered (now (z .entry)) m (price .0 + points .0 + left .0) ⌝ }
     ensures { λ _. ⌜ length (now (z .exit)) ≡ length (now (z .entry)) ⌝ }
 {
+    let all = price.0 as usize + points.0 as usize + left.0 as usize;
     if m < z.len() {
-        if s < wide(z[m]) {
-            z[m] = s as u32;
+        let stood = minutes::points_at(z, m);
+        if all < stood.0 as usize {
+            minutes::set_points(z, m, Points(all as u32));
         }
     }
 }
 
 // Notes one ride for the latest minute in which one can arrive before it and change: what the change and the ride cost,
-// and what is left behind it.
-fn catch_ride(z: &mut [u32], old: &[u32], ride: Ride, change: Station)
+// and what is left after it.
+fn catch_ride(z: &mut [u32], old: &[u32], ride: Ride, change: Cost)
     ensures { λ _. ⌜ now (z .exit)
-        ≡ caughtBy (change .minutes) (change .points) (now (old .entry)) (now (z .entry)) ride ⌝ }
+        ≡ caughtBy (change .minutes .0) (change .points .0) (now (old .entry)) (now (z .entry)) ride ⌝ }
     ensures { λ _. ⌜ length (now (z .exit)) ≡ length (now (z .entry)) ⌝ }
 {
     let left = rest_at(old, ride.arrive);
-    if left < wide(NO_POINTS) {
-        if change.minutes as usize <= ride.depart {
-            let points = change.points as usize + ride.points as usize + left;
-            note(z, ride.depart - change.minutes as usize, points);
+    let wait = change.minutes;
+    let price = change.points;
+    let points = ride.points;
+    if minutes::less(left, Points(NO_POINTS)) {
+        if wait.0 as usize <= ride.depart {
+            let m = minutes::minute_before(ride.depart, wait);
+            note_sum(z, m, price, points, left);
         }
     }
 }
@@ -85,14 +82,14 @@ fn gather(
     from: usize,
     to: usize,
     minute: usize,
-    change: Station,
+    change: Cost,
     old: &[u32],
     z: &mut [u32],
 )
     requires { ⌜ (1 ≤ from) × (from ≤ 64) × (callsPlace (now lines) from ≤ length (now lines)) ⌝ }
     ensures { λ _. ⌜ now (z .exit)
         ≡ noteAll (now (z .entry))
-        (catches (change .minutes) (change .points) (now (old .entry))
+        (catches (change .minutes .0) (change .points .0) (now (old .entry))
         (allRead (now (lines .entry)) from minute to)) ⌝ }
     ensures { λ _. ⌜ length (now (z .exit)) ≡ length (now (z .entry)) ⌝ }
 {
@@ -104,16 +101,6 @@ fn gather(
     }
 }
 
-// The lesser of two numbers of points.
-fn lesser(a: u32, b: u32) -> u32
-    ensures { λ r. ⌜ r ≡ min a b ⌝ }
-{
-    if b < a {
-        return b;
-    }
-    a
-}
-
 // Who arrives earlier can wait: each minute takes the least of its own and all later ones.
 fn settle(z: &mut [u32], minute: usize, v: usize)
     requires { ⌜ (minute ≤ v) × (v ≤ 2879) × Spans minute v (now z) ⌝ }
@@ -121,12 +108,12 @@ fn settle(z: &mut [u32], minute: usize, v: usize)
         × Spans minute v (now (z .exit)) ⌝ }
     ensures { λ _. ⌜ length (now (z .exit)) ≡ length (now (z .entry)) ⌝ }
 {
-    let mut low = NO_POINTS;
+    let mut low = Points(NO_POINTS);
     let mut m = v + 1;
     while minute < m {
         m -= 1;
-        low = lesser(z[m], low);
-        z[m] = low;
+        low = minutes::lesser(minutes::points_at(z, m), low);
+        minutes::set_points(z, m, low);
     }
 }
 
@@ -157,7 +144,7 @@ fn clear(z: &mut [u32], minute: usize, v: usize)
     ensures { λ _. ⌜ now (z .exit) ≡ blank ⌝ }
     ensures { λ _. ⌜ length (now (z .exit)) ≡ length (now (z .entry)) ⌝ }
 {
-    fill(z, minute, v + 1, NO_POINTS);
+    fill(z, minute, v + 1, Points(NO_POINTS));
 }
 
 // Notes all rides from the station before station j of a path to station j, for one who arrives at the minute or later:
@@ -185,19 +172,13 @@ fn gather_back(
 {
     let from = station(path, j - 1);
     let to = station(path, j);
-    let change = timetable::station_at(words, from - 1);
-    gather(
-        lines,
-        from,
-        to,
-        minute + change.minutes as usize,
-        change,
-        old,
-        z,
-    );
+    let change = riding::change_at(words, from);
+    let wait = change.minutes;
+    let earliest = minutes::minute_after(minute, wait);
+    gather(lines, from, to, earliest, change, old, z);
 }
 
-// From what is left behind station j of a path to what is left behind the one before it.
+// From what is left after station j of a path to what is left after the one before it.
 fn step(
     words: &[u16],
     lines: &[u16],
@@ -232,10 +213,10 @@ fn fill_last(z: &mut [u32], minute: usize, v: usize)
     ensures { λ _. ⌜ Arrived minute v (now (z .exit)) ⌝ }
     ensures { λ _. ⌜ length (now (z .exit)) ≡ length (now (z .entry)) ⌝ }
 {
-    fill(z, minute, v + 1, 0);
+    fill(z, minute, v + 1, Points(0));
 }
 
-// What is left behind station i of a path of r stations, for one who is to arrive at the last by minute v.
+// What is left after station i of a path of r stations, for one who is to arrive at the last by minute v.
 pub fn rest(
     words: &[u16],
     lines: &[u16],

@@ -1,5 +1,5 @@
-// The ride to take next along a path: of those behind which all that is left can be paid, the one that comes first. It
-// is written, and one changes behind it.
+// The ride to take next along a path: of those after which all that is left can be paid, the one that comes first. It
+// is written, and one changes after it.
 ghost use mathlib.Core.Path.{_≡_};
 ghost use mathlib.Core.List.{[], _∷_};
 ghost use Prim.Native.Nat.{_+_, _-_, _*_, _≤_, _<_};
@@ -15,7 +15,8 @@ ghost use Rattle.showing.specs.Turns.{tellsOf, numbersBefore, comesBefor
 use crate::At;
 use crate::Next;
 use crate::rests;
-use crate::rests::NO_POINTS;
+use minutes::NO_POINTS;
+use results::Points;
 use riding::Ride;
 
 // The last minute in which a trip may arrive.
@@ -24,7 +25,7 @@ const LAST_MINUTE: usize = 2879;
 // The trip of no ride: every trip has a lower number.
 const NO_TRIP: usize = 65536;
 
-// a - b, or 0 if b is more.
+// By how many minutes of the day b is before a, or 0 if it is after it.
 fn less(a: usize, b: usize) -> usize
     ensures { λ r. ⌜ r ≡ a - b ⌝ }
 {
@@ -78,16 +79,20 @@ fn goes_before(first: bool, g: Ride, f: Ride) -> bool
     numbers_before(g, f)
 }
 
-// One ride more: taken if something is left behind it that can be paid, and it comes before the best so far.
-fn try_ride(first: bool, z: &[u32], left: usize, best: Ride, ride: Ride) -> Ride
+// One ride more: taken if something is left after it that can be paid, and it comes before the best so far.
+fn try_ride(first: bool, z: &[u32], left: Points, best: Ride, ride: Ride) -> Ride
     requires { ⌜ Sized best × Sized ride ⌝ }
-    ensures { λ r. ⌜ (r ≡ tried first (now (z .entry)) left best ride) × Sized r ⌝ }
+    ensures { λ r. ⌜ (r ≡ tried first (now (z .entry)) (left .0) best ride) × Sized r ⌝ }
 {
     let rest = rests::rest_at(z, ride.arrive);
-    if rests::wide(NO_POINTS) <= rest {
+    if !minutes::less(rest, Points(NO_POINTS)) {
         return best;
     }
-    if left < ride.points as usize + rest {
+    let points = ride.points;
+    if minutes::less(left, points) {
+        return best;
+    }
+    if minutes::less(minutes::left_of(left, points), rest) {
         return best;
     }
     if goes_before(first, ride, best) {
@@ -103,12 +108,12 @@ fn choose(
     to: usize,
     ready: usize,
     first: bool,
-    left: usize,
+    left: Points,
     z: &[u32],
 ) -> Ride
     requires { ⌜ (1 ≤ from) × (from ≤ 64) × (callsPlace (now lines) from ≤ length (now lines)) ⌝ }
     ensures { λ r. ⌜ (r
-        ≡ tellsOf (headOf first (now (z .entry)) left (allRead (now (lines .entry)) from ready to)))
+        ≡ tellsOf (headOf first (now (z .entry)) (left .0) (allRead (now (lines .entry)) from ready to)))
         × Sized r ⌝ }
 {
     let mut best = Ride {
@@ -117,7 +122,7 @@ fn choose(
         alight: 0,
         depart: 0,
         arrive: 0,
-        points: 0,
+        points: Points(0),
     };
     let mut c = riding::begin(lines, from, to, ready);
     while c.more {
@@ -156,15 +161,9 @@ fn take_ride(
         × (length (now (old .exit)) ≡ length (now (old .entry))) ⌝ }
 {
     rests::rest(words, lines, minute, path, i, r, v, z, old);
-    choose(
-        lines,
-        at.from,
-        rests::station(path, i),
-        at.ready,
-        first,
-        at.left,
-        z,
-    )
+    let left = at.left;
+    let to = rests::station(path, i);
+    choose(lines, at.from, to, at.ready, first, left, z)
 }
 
 // Writes the numbers of ride i.
@@ -179,8 +178,8 @@ fn put_ride(rides: &mut [u32], i: usize, ride: Ride)
     rides[at + 2] = ride.alight as u32;
 }
 
-// Writes ride i, and changes behind it.
-fn move_on(words: &[u16], path: &[u16], i: usize, left: usize, ride: Ride, rides: &mut [u32]) -> At
+// Writes ride i, and changes after it.
+fn move_on(words: &[u16], path: &[u16], i: usize, left: Points, ride: Ride, rides: &mut [u32]) -> At
     requires { ⌜ (16384 ≤ length (now words))
         × (i < length (now path))
         × (1 ≤ getD (now path) i 0)
@@ -188,19 +187,22 @@ fn move_on(words: &[u16], path: &[u16], i: usize, left: usize, ride: Ride, rides
         × (i < 64)
         × (3 * i + 3 ≤ length (now rides))
         × Sized ride ⌝ }
-    ensures { λ r. ⌜ Moved (now (words .entry)) (now (path .entry)) i left ride (now (rides .entry))
+    ensures { λ r. ⌜ Moved (now (words .entry)) (now (path .entry)) i (left .0) ride (now (rides .entry))
         (now (rides .exit)) r ⌝ }
     ensures { λ _. ⌜ length (now (rides .exit)) ≡ length (now (rides .entry)) ⌝ }
 {
     put_ride(rides, i, ride);
     let to = rests::station(path, i);
-    let change = timetable::station_at(words, to - 1);
-    let ready = ride.arrive + change.minutes as usize;
-    let paid = ride.points as usize + change.points as usize;
+    let change = riding::change_at(words, to);
+    let wait = change.minutes;
+    let price = change.points;
+    let points = ride.points;
+    let ready = minutes::minute_after(ride.arrive, wait);
+    let rest = minutes::left_of(minutes::left_of(left, points), price);
     At {
         from: to,
         ready,
-        left: less(left, paid),
+        left: rest,
     }
 }
 
@@ -242,7 +244,8 @@ pub fn ride_on(
             at,
         };
     }
-    let next = move_on(words, path, i, at.left, ride, rides);
+    let left = at.left;
+    let next = move_on(words, path, i, left, ride, rides);
     Next {
         found: true,
         depart: ride.depart,

@@ -1,5 +1,5 @@
 -- What was answered if no question is in the way; number and count are those of the reply.
-use Rattle.asking.specs.Asking.{ask-values}
+use Rattle.promises.specs.Query.{ask-values}
 use borrow.Author.Needs.{needs}
 use Rattle.asking.proofs.query.Statement.{statement}
 use Rattle.asking.proofs.query.Tie as tie

@@ -1,5 +1,5 @@
 -- What was answered if no question is in the way; number and count are those of the reply.
-use Rattle.direct.specs.Direct.{direct-values}
+use Rattle.promises.specs.DirectQuery.{direct-values}
 use borrow.Author.Needs.{needs}
 use Rattle.direct.proofs.direct.Statement.{statement}
 use Rattle.direct.proofs.direct.Tie as tie

@@ -10,7 +10,7 @@ use Rattle.layers.proofs.fill.Tie as tie
 
 abbrev Inv-loop : tie.InvT-loop
 Inv-loop p₀ from to points m₀ p m =
-    (m ≤ to) × (length p ≡ 2880) × (filled p₀ from to points ≡ filled p m to points)
+    (m ≤ to) × (length p ≡ 2880) × (filled p₀ from to (points .0) ≡ filled p m to (points .0))
 
 abbrev μ-loop : tie.MeasureT-loop
 μ-loop p₀ from to points m₀ p m = to - m
@@ -31,7 +31,6 @@ fill-spec =
     Inv-loop
     μ-loop
     loop-holds
-    (λ c. search needs)
     (λ c. search needs)
     (λ c. search needs)
     (λ c. search needs)

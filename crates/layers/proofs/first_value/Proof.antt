@@ -5,7 +5,7 @@ use lib.Dec.{ltb}
 use lib.ListN.{getD}
 use borrow.Author.Needs.{needs}
 use Rattle.lookup.specs.First.{firstFrom}
-use Rattle.direct.specs.Choosing.{noPoints}
+use Rattle.minutes.specs.Minutes.{noPoints}
 use Rattle.layers.specs.Layering.{firstValue}
 use Rattle.layers.proofs.LowestLaws.{looks-on, none-left, found, goes-on}
 use Rattle.layers.proofs.first_value.Statement.{statement}

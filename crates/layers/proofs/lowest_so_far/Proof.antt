@@ -5,7 +5,7 @@ use mathlib.Core.Path.{_≡_, refl}
 use Prim.Native.Nat.{_≤_, _-_}
 use lib.ListN.{length, take, drop}
 use borrow.Author.Needs.{needs}
-use Rattle.direct.specs.Choosing.{noPoints}
+use Rattle.minutes.specs.Minutes.{noPoints}
 use Rattle.layers.specs.Lowest.{lowest}
 use Rattle.layers.proofs.LowestLaws.{lowest-short, lowest-first, rest-same, lowest-more, lowest-done}
 use Rattle.layers.proofs.lowest_so_far.Statement.{statement}
@@ -15,10 +15,10 @@ abbrev Inv-loop : tie.InvT-loop
 Inv-loop p₀ s least₀ m₀ p least m =
     (m ≤ 2880)
     × (s .to ≤ 2880)
-    × (least ≤ noPoints)
+    × (least .0 ≤ noPoints)
     × (length p ≡ 2880)
     × (drop (s .to) p ≡ drop (s .to) p₀)
-    × (lowest noPoints p₀ ≡ take m p ++ lowest least (drop m p))
+    × (lowest noPoints p₀ ≡ take m p ++ lowest (least .0) (drop m p))
 
 abbrev μ-loop : tie.MeasureT-loop
 μ-loop p₀ s least₀ m₀ p least m = 2880 - m
@@ -27,7 +27,18 @@ loop-holds : tie.Need-loop-holds Inv-loop μ-loop
 loop-holds c = (search needs, search lowest-short, search needs, search needs, refl, search lowest-first)
 
 loop-again : tie.Need-loop-again Inv-loop μ-loop
-loop-again c = (search needs, search needs, search needs, search needs, search rest-same, search lowest-more)
+loop-again c =
+    let chosen = c .before .before .before .before in
+    let stood = chosen .before .before .before .before .before in (
+      search needs,
+      search needs,
+      search needs,
+      search needs,
+      search rest-same,
+      lowest-more _ _ (stood .loop .least .0) (stood .loop .m) (stood .loop .inv .3) (stood .loop .inv .5) _ _ _ _
+          (c .before .before .set-points .ensures .0) (search needs) (stood .loop .inv .1)
+          (chosen .before .points-at .ensures) (chosen .lesser .ensures),
+    )
 
 returns : tie.Need-returns Inv-loop μ-loop
 returns c = (search lowest-done, search needs)
@@ -39,8 +50,6 @@ lowest-so-far-spec =
     Inv-loop
     μ-loop
     loop-holds
-    (λ c. search needs)
-    (λ c. search needs)
     (λ c. search needs)
     (λ c. search needs)
     (λ c. search needs)

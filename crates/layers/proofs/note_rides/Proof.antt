@@ -27,8 +27,8 @@ Inv-loop lines from to earliest p change best₀ noted₀ c₀ best noted c =
     × (length best ≡ length best₀)
     × Within noted best₀ best
     × (noted .from ≤ 2880)
-    × (takenAll p (change .minutes) (change .points) best₀ (allRead lines from earliest to)
-    ≡ takenAll p (change .minutes) (change .points) best (left lines from to earliest c))
+    × (takenAll p (change .minutes .0) (change .points .0) best₀ (allRead lines from earliest to)
+    ≡ takenAll p (change .minutes .0) (change .points .0) best (left lines from to earliest c))
 
 abbrev μ-loop : tie.MeasureT-loop
 μ-loop lines from to earliest p change best₀ noted₀ c₀ best noted c = length (left lines from to earliest c)

@@ -6,8 +6,8 @@ use Rattle.layers.proofs.StepLaws.{place-few, change-minutes, change-po
 use Rattle.layers.proofs.step.Statement.{statement}
 use Rattle.layers.proofs.step.Tie as tie
 
-station-at-requires : tie.Need-station-at-requires
-station-at-requires c κs = (search needs, search place-few)
+change-at-requires : tie.Need-change-at-requires
+change-at-requires c κs = (search needs, search needs, search place-few)
 
 note-rides-requires : tie.Need-note-rides-requires
 note-rides-requires c κs =
@@ -26,8 +26,7 @@ pub step-spec : {M : Type 1} → statement M
 step-spec =
     tie.close
     (tie.spec
-    (λ c. search needs)
-    station-at-requires
+    change-at-requires
     (λ c. search needs)
     note-rides-requires
     lowest-so-far-requires

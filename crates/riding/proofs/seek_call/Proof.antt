@@ -8,45 +8,45 @@ use Rattle.riding.proofs.CursorLaws.{calls-none, call-past, call-late, 
 use Rattle.riding.proofs.seek_call.Statement.{statement}
 use Rattle.riding.proofs.seek_call.Tie as tie
 
-abbrev Inv-calls : tie.InvT-calls
-Inv-calls v from to minute call end k₀ k =
+abbrev Inv-loop : tie.InvT-loop
+Inv-loop v from to minute call end k₀ k =
     (k ≤ 65536) × (callsFrom v from to minute call ≡ callsFrom v from to minute k)
 
-abbrev μ-calls : tie.MeasureT-calls
-μ-calls v from to minute call end k₀ k = end - k
+abbrev μ-loop : tie.MeasureT-loop
+μ-loop v from to minute call end k₀ k = end - k
 
-calls-holds : tie.Need-calls-holds Inv-calls μ-calls
-calls-holds c = (search needs, refl)
+loop-holds : tie.Need-loop-holds Inv-loop μ-loop
+loop-holds c = (search needs, refl)
 
-calls-again : tie.Need-calls-again Inv-calls μ-calls
-calls-again c = (search needs, search call-past)
+loop-again : tie.Need-loop-again Inv-loop μ-loop
+loop-again c = (search needs, search call-past)
 
-returns : tie.Need-returns Inv-calls μ-calls
+returns : tie.Need-returns Inv-loop μ-loop
 returns c = (search call-found, search needs)
 
-calls-again-2 : tie.Need-calls-again-2 Inv-calls μ-calls
-calls-again-2 c = (search needs, search call-late)
+loop-again-2 : tie.Need-loop-again-2 Inv-loop μ-loop
+loop-again-2 c = (search needs, search call-late)
 
-returns-2 : tie.Need-returns-2 Inv-calls μ-calls
+returns-2 : tie.Need-returns-2 Inv-loop μ-loop
 returns-2 c = (search calls-none, search needs)
 
 pub seek-call-spec : {M : Type 1} → statement M
 seek-call-spec =
     tie.close
     (tie.spec
-    Inv-calls
-    μ-calls
+    Inv-loop
+    μ-loop
     (λ c. search needs)
-    calls-holds
-    (λ c. search needs)
-    (λ c. search needs)
+    loop-holds
     (λ c. search needs)
     (λ c. search needs)
     (λ c. search needs)
     (λ c. search needs)
-    calls-again
+    (λ c. search needs)
+    (λ c. search needs)
+    loop-again
     (λ c. search needs)
     returns
     (λ c. search needs)
-    calls-again-2
+    loop-again-2
     returns-2)

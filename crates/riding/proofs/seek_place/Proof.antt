@@ -8,11 +8,11 @@ use Rattle.riding.proofs.seek_place.Statement.{statement}
 use Rattle.riding.proofs.seek_place.Tie as tie
 
 abbrev Inv-loop : tie.InvT-loop
-Inv-loop v l to from points sum₀ p₀ sum p =
-    (p < 65536) × (sum ≤ 65535 * p) × (rest v l to from points ≡ rest v l to p sum)
+Inv-loop v l to from sum₀ p₀ sum p =
+    (p < 65536) × (sum .0 ≤ 65535 * p) × (rest v l to from (sum₀ .0) ≡ rest v l to p (sum .0))
 
 abbrev μ-loop : tie.MeasureT-loop
-μ-loop v l to from points sum₀ p₀ sum p = l .positions - p
+μ-loop v l to from sum₀ p₀ sum p = l .positions - p
 
 loop-holds : tie.Need-loop-holds Inv-loop μ-loop
 loop-holds c = (search needs, search needs, refl)
@@ -33,7 +33,6 @@ seek-place-spec =
     Inv-loop
     μ-loop
     loop-holds
-    (λ c. search needs)
     (λ c. search needs)
     (λ c. search needs)
     (λ c. search needs)

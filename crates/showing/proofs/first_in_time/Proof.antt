@@ -8,14 +8,14 @@ use Rattle.showing.proofs.first_in_time.Statement.{statement}
 use Rattle.showing.proofs.first_in_time.Tie as tie
 
 abbrev Inv-loop : tie.InvT-loop
-Inv-loop words lines source minute path r v p rides₀ z₀ old₀ head at₀ i₀ rides z old at i =
-    Riding words lines path r v source minute p (head .depart) i rides at
+Inv-loop words lines source minute path r v rides₀ z₀ old₀ most depart at₀ i₀ rides z old at i =
+    Riding words lines path r v source minute most depart i rides at
     × (minute ≤ v)
     × Spans minute v z
     × Spans minute v old
 
 abbrev μ-loop : tie.MeasureT-loop
-μ-loop words lines source minute path r v p rides₀ z₀ old₀ head at₀ i₀ rides z old at i = r - i
+μ-loop words lines source minute path r v rides₀ z₀ old₀ most depart at₀ i₀ rides z old at i = r - i
 
 ride-on-requires : tie.Need-ride-on-requires Inv-loop μ-loop
 ride-on-requires c κs =

@@ -1,16 +1,23 @@
--- The rides noted so far, and then those of the calls that are left, make the same penalties as all first rides. A call
--- with no trip adds no ride.
+-- The rides of the calls passed are noted; those of the calls that are left make the rest. Inside, no trip before place
+-- j leaves in time: where none is left the call has no rides, and where one leaves, it is the first that does.
 use mathlib.Core.Path.{_≡_}
 use Prim.Native.Nat.{_≤_, _-_}
 use lib.ListN.{length}
 use lib.Seq.{slice}
 use borrow.Author.Needs.{needs}
+use Rattle.minutes.specs.Minutes.{noteAll}
 use Rattle.direct.specs.Candidates.{pairsOf, firstRead}
-use Rattle.direct.specs.Choosing.{noteAll}
 use Rattle.direct.specs.Turns.{firstCalls}
+use Rattle.direct.proofs.CallLaws.{Sought, sought-first, sought-none, sought-here, sought-next}
 use Rattle.direct.proofs.CallLaws.{first-begins, first-done, no-trip, some-trip}
 use Rattle.direct.proofs.costs.note_first.Statement.{statement}
 use Rattle.direct.proofs.costs.note_first.Tie as tie
+
+abbrev Inv-loop : tie.InvT-loop
+Inv-loop v from to minute best end k l x j₀ j = Sought v l x minute j
+
+abbrev μ-loop : tie.MeasureT-loop
+μ-loop v from to minute best end k l x j₀ j = l .trips - j
 
 abbrev Inv-calls : tie.InvT-calls
 Inv-calls v from to minute best₀ end k₀ best k =
@@ -21,22 +28,33 @@ Inv-calls v from to minute best₀ end k₀ best k =
 abbrev μ-calls : tie.MeasureT-calls
 μ-calls v from to minute best₀ end k₀ best k = end - k
 
-calls-holds : tie.Need-calls-holds Inv-calls μ-calls
+calls-holds : tie.Need-calls-holds Inv-loop μ-loop Inv-calls μ-calls
 calls-holds c = (search needs, search needs, search first-begins)
 
-calls-again : tie.Need-calls-again Inv-calls μ-calls
-calls-again c = (search needs, search needs, search no-trip)
+loop-holds : tie.Need-loop-holds Inv-loop μ-loop Inv-calls μ-calls
+loop-holds c = search sought-first
 
-calls-again-2 : tie.Need-calls-again-2 Inv-calls μ-calls
-calls-again-2 c = (search needs, search needs, search some-trip)
+calls-again : tie.Need-calls-again Inv-loop μ-loop Inv-calls μ-calls
+calls-again c = (search needs, search needs, search (no-trip, sought-none))
 
-returns : tie.Need-returns Inv-calls μ-calls
+loop-again : tie.Need-loop-again Inv-loop μ-loop Inv-calls μ-calls
+loop-again c =
+    let test = c .before .before in
+    sought-next _ _ _ _ _ (test .before .before .loop .inv) (test .if1 .left) _ (c .before .depart-at .ensures .0)
+    (c .if2 .left)
+
+calls-again-2 : tie.Need-calls-again-2 Inv-loop μ-loop Inv-calls μ-calls
+calls-again-2 c = (search needs, search needs, search (some-trip, sought-here))
+
+returns : tie.Need-returns Inv-loop μ-loop Inv-calls μ-calls
 returns c = (search first-done, search needs)
 
 pub note-first-spec : {M : Type 1} → statement M
 note-first-spec =
     tie.close
     (tie.spec
+    Inv-loop
+    μ-loop
     Inv-calls
     μ-calls
     (λ c. search needs)
@@ -47,9 +65,13 @@ note-first-spec =
     (λ c. search needs)
     (λ c. search needs)
     (λ c. search needs)
-    (λ c. search needs)
+    loop-holds
     (λ c. search needs)
     calls-again
+    (λ c. search needs)
+    (λ c. search needs)
+    (λ c. search needs)
+    loop-again
     (λ c. search needs)
     (λ c. search needs)
     calls-again-2

@@ -5,7 +5,7 @@ use Prim.Native.Nat.{_≤_, _<_, _-_, _*_}
 use mathlib.Core.List.{map}
 use lib.ListN.{length}
 use Rattle.direct.specs.Candidates.{rideOn, reach}
-use Rattle.direct.specs.Choosing.{noteAll}
+use Rattle.minutes.specs.Minutes.{noteAll}
 use Rattle.direct.proofs.ReachLaws.{rest, reach-more, reach-done}
 use borrow.Author.Needs.{needs}
 use Rattle.direct.proofs.costs.note_reach.Statement.{statement}
@@ -14,10 +14,10 @@ use Rattle.direct.proofs.costs.note_reach.Tie as tie
 abbrev Inv-loop : tie.InvT-loop
 Inv-loop v l x j to best₀ points₀ p₀ best points p =
     (p < 65536)
-    × (points ≤ 65535 * p)
+    × (points .0 ≤ 65535 * p)
     × (length best ≡ length best₀)
     × (noteAll best₀ (map (rideOn v l x j) (reach v l x to))
-    ≡ noteAll best (map (rideOn v l x j) (rest v l to p points)))
+    ≡ noteAll best (map (rideOn v l x j) (rest v l to p (points .0))))
 
 abbrev μ-loop : tie.MeasureT-loop
 μ-loop v l x j to best₀ points₀ p₀ best points p = l .positions - p
@@ -38,7 +38,6 @@ note-reach-spec =
     Inv-loop
     μ-loop
     loop-holds
-    (λ c. search needs)
     (λ c. search needs)
     (λ c. search needs)
     (λ c. search needs)

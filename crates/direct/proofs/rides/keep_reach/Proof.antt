@@ -16,10 +16,10 @@ use Rattle.direct.proofs.rides.keep_reach.Tie as tie
 abbrev Inv-loop : tie.InvT-loop
 Inv-loop v l x first to best kept₀ points₀ p₀ kept points p =
     (p < 65536)
-    × (points ≤ 65535 * p)
+    × (points .0 ≤ 65535 * p)
     × (length kept ≡ 11520)
     × (keepAll best kept₀ (concatMap (tripsFrom v l x first) (reach v l x to))
-    ≡ keepAll best kept (concatMap (tripsFrom v l x first) (rest v l to p points)))
+    ≡ keepAll best kept (concatMap (tripsFrom v l x first) (rest v l to p (points .0))))
 
 abbrev μ-loop : tie.MeasureT-loop
 μ-loop v l x first to best kept₀ points₀ p₀ kept points p = l .positions - p
@@ -40,7 +40,6 @@ keep-reach-spec =
     Inv-loop
     μ-loop
     loop-holds
-    (λ c. search needs)
     (λ c. search needs)
     (λ c. search needs)
     (λ c. search needs)

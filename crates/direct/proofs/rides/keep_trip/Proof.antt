@@ -8,10 +8,10 @@ returns : tie.Need-returns
 returns c = (search too-late, search needs)
 
 returns-2 : tie.Need-returns-2
-returns-2 c = (search too-dear, search needs)
+returns-2 c = (search kept-on, search needs)
 
 returns-3 : tie.Need-returns-3
-returns-3 c = (search kept-on, search needs)
+returns-3 c = (search too-dear, search needs)
 
 pub keep-trip-spec : {M : Type 1} → statement M
 keep-trip-spec =
@@ -21,15 +21,15 @@ keep-trip-spec =
     returns
     (λ c. search needs)
     (λ c. search needs)
+    (λ c. search needs)
+    (λ c. search needs)
+    (λ c. search needs)
+    (λ c. search needs)
+    (λ c. search needs)
+    (λ c. search needs)
+    (λ c. search needs)
+    (λ c. search needs)
+    (λ c. search needs)
+    (λ c. search needs)
     returns-2
-    (λ c. search needs)
-    (λ c. search needs)
-    (λ c. search needs)
-    (λ c. search needs)
-    (λ c. search needs)
-    (λ c. search needs)
-    (λ c. search needs)
-    (λ c. search needs)
-    (λ c. search needs)
-    (λ c. search needs)
     returns-3)

@@ -5,7 +5,7 @@ use Rattle.direct.proofs.rows.write_lead.Statement.{statement}
 use Rattle.direct.proofs.rows.write_lead.Tie as tie
 
 write-row-requires : tie.Need-write-row-requires
-write-row-requires c κs = (search needs, search needs, search lead-room)
+write-row-requires c κs = search lead-room
 
 returns : tie.Need-returns
 returns c = (search lead-written, (search needs, search lead-end))
@@ -14,4 +14,14 @@ returns-2 : tie.Need-returns-2
 returns-2 c = (search none-written, (search needs, search none-end))
 
 pub write-lead-spec : {M : Type 1} → statement M
-write-lead-spec = tie.close (tie.spec write-row-requires (λ c. search needs) (λ c. search needs) returns returns-2)
+write-lead-spec =
+    tie.close
+    (tie.spec
+    (λ c. search needs)
+    (λ c. search needs)
+    (λ c. search needs)
+    write-row-requires
+    (λ c. search needs)
+    (λ c. search needs)
+    returns
+    returns-2)

@@ -6,11 +6,11 @@ use Rattle.direct.proofs.rows.write_rows.Statement.{statement}
 use Rattle.direct.proofs.rows.write_rows.Tie as tie
 
 abbrev Inv-loop : tie.InvT-loop
-Inv-loop best kept minute answer₀ here₀ least₀ a₀ answer here least a =
-    Rows minute kept best answer₀ answer here least a
+Inv-loop best kept minute answer₀ here₀ least₀ arrive₀ answer here least arrive =
+    Rows minute kept best answer₀ answer here (least .0) arrive
 
 abbrev μ-loop : tie.MeasureT-loop
-μ-loop best kept minute answer₀ here₀ least₀ a₀ answer here least a = 2880 - a
+μ-loop best kept minute answer₀ here₀ least₀ arrive₀ answer here least arrive = 2880 - arrive
 
 loop-holds : tie.Need-loop-holds Inv-loop μ-loop
 loop-holds c = search rows-first
@@ -32,11 +32,7 @@ write-rows-spec =
     μ-loop
     loop-holds
     (λ c. search needs)
-    (λ c. search needs)
-    (λ c. search needs)
     write-lead-requires
-    (λ c. search needs)
-    (λ c. search needs)
     (λ c. search needs)
     (λ c. search needs)
     (λ c. search needs)

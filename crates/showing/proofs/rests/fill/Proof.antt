@@ -9,10 +9,10 @@ use Rattle.showing.proofs.rests.fill.Statement.{statement}
 use Rattle.showing.proofs.rests.fill.Tie as tie
 
 abbrev Inv-loop : tie.InvT-loop
-Inv-loop z₀ from to x i₀ z i = (from ≤ i) × (i ≤ to) × (length z ≡ length z₀) × Stored (λ k. x) from i z₀ z
+Inv-loop z₀ from to points i₀ z i = (from ≤ i) × (i ≤ to) × (length z ≡ length z₀) × Stored (λ k. points .0) from i z₀ z
 
 abbrev μ-loop : tie.MeasureT-loop
-μ-loop z₀ from to x i₀ z i = to - i
+μ-loop z₀ from to points i₀ z i = to - i
 
 loop-holds : tie.Need-loop-holds Inv-loop μ-loop
 loop-holds c = (search needs, search needs, search needs, search stored-none)
@@ -30,7 +30,6 @@ fill-spec =
     Inv-loop
     μ-loop
     loop-holds
-    (λ c. search needs)
     (λ c. search needs)
     (λ c. search needs)
     (λ c. search needs)

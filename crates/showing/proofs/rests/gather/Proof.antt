@@ -3,7 +3,7 @@ use mathlib.Core.Path.{_≡_}
 use lib.ListN.{length}
 use borrow.Author.Needs.{needs}
 use Rattle.direct.specs.Candidates.{allRead}
-use Rattle.direct.specs.Choosing.{noteAll}
+use Rattle.minutes.specs.Minutes.{noteAll}
 use Rattle.riding.specs.Riding.{Good, left, left-falls}
 use Rattle.showing.specs.Stepping.{catches}
 use Rattle.showing.proofs.GatherLaws.{gather-begins, gather-more, gather-done}
@@ -14,8 +14,8 @@ abbrev Inv-loop : tie.InvT-loop
 Inv-loop lines from to minute change old z₀ c₀ z c =
     Good c
     × (length z ≡ length z₀)
-    × (noteAll z₀ (catches (change .minutes) (change .points) old (allRead lines from minute to))
-    ≡ noteAll z (catches (change .minutes) (change .points) old (left lines from to minute c)))
+    × (noteAll z₀ (catches (change .minutes .0) (change .points .0) old (allRead lines from minute to))
+    ≡ noteAll z (catches (change .minutes .0) (change .points .0) old (left lines from to minute c)))
 
 abbrev μ-loop : tie.MeasureT-loop
 μ-loop lines from to minute change old z₀ c₀ z c = length (left lines from to minute c)

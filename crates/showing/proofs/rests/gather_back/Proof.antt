@@ -19,8 +19,6 @@ gather-back-spec =
     (λ c. search needs)
     (λ c. search needs)
     (λ c. search needs)
-    (λ c. search needs)
-    (λ c. search needs)
     gather-requires
     (λ c. search needs)
     returns)

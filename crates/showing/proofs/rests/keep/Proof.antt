@@ -3,7 +3,7 @@ use mathlib.Core.Path.{_≡_}
 use Prim.Native.Nat.{_≤_, _+_, _-_}
 use lib.ListN.{length, getD}
 use borrow.Author.Needs.{needs}
-use Rattle.direct.specs.Choosing.{noPoints}
+use Rattle.minutes.specs.Minutes.{noPoints}
 use Rattle.showing.specs.Spans.{Stored, stored-none}
 use Rattle.showing.proofs.RestLaws.{kept-more, kept}
 use Rattle.showing.proofs.rests.keep.Statement.{statement}

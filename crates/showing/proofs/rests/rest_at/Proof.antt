@@ -5,12 +5,15 @@ use Rattle.showing.proofs.rests.rest_at.Statement.{statement}
 use Rattle.showing.proofs.rests.rest_at.Tie as tie
 
 returns : tie.Need-returns
-returns c = (search read-here, search needs)
+returns c = search read-here
 
 returns-2 : tie.Need-returns-2
-returns-2 c = (search read-past, search needs)
+returns-2 c = search read-past
 
 pub rest-at-spec : {M : Type 1} → statement M
 rest-at-spec =
     tie.close
-    (tie.spec (λ c. search needs) (λ c. search needs) (λ c. search needs) returns (λ c. search needs) returns-2)
+    (tie.spec
+    (λ c. search needs)
+    returns
+    returns-2)

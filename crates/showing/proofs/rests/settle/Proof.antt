@@ -4,7 +4,7 @@ use mathlib.Core.Path.{_≡_}
 use Prim.Native.Nat.{_≤_, _+_}
 use lib.ListN.{length, drop}
 use borrow.Author.Needs.{needs}
-use Rattle.direct.specs.Choosing.{noPoints}
+use Rattle.minutes.specs.Minutes.{noPoints}
 use Rattle.showing.specs.Settling.{least, settledFrom}
 use Rattle.showing.proofs.RestLaws.{settle-begins, low-begins, settle-more, low-more, settle-done, settle-spans}
 use Rattle.showing.proofs.rests.settle.Statement.{statement}
@@ -16,7 +16,7 @@ Inv-loop z₀ minute v low₀ m₀ z low m =
     × (m ≤ v + 1)
     × (length z ≡ 2880)
     × (z ≡ settledFrom noPoints m z₀)
-    × (low ≡ least noPoints (drop m z₀))
+    × (low .0 ≡ least noPoints (drop m z₀))
 
 abbrev μ-loop : tie.MeasureT-loop
 μ-loop z₀ minute v low₀ m₀ z low m = m
@@ -38,8 +38,6 @@ settle-spec =
     μ-loop
     (λ c. search needs)
     loop-holds
-    (λ c. search needs)
-    (λ c. search needs)
     (λ c. search needs)
     (λ c. search needs)
     (λ c. search needs)

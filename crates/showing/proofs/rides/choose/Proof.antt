@@ -14,8 +14,8 @@ abbrev Inv-loop : tie.InvT-loop
 Inv-loop lines from to ready first left z best₀ c₀ best c =
     Good c
     × Sized best
-    × (triedAll first z left (tellsOf noRide) (allRead lines from ready to)
-    ≡ triedAll first z left best (rides-left lines from to ready c))
+    × (triedAll first z (left .0) (tellsOf noRide) (allRead lines from ready to)
+    ≡ triedAll first z (left .0) best (rides-left lines from to ready c))
 
 abbrev μ-loop : tie.MeasureT-loop
 μ-loop lines from to ready first left z best₀ c₀ best c = length (rides-left lines from to ready c)

@@ -1,5 +1,5 @@
 -- A ride behind which nothing is left, or that costs too much, leaves the best as it is; else the order decides.
-use Rattle.showing.proofs.ChooseLaws.{try-none, try-dear, try-takes, try-keeps}
+use Rattle.showing.proofs.ChooseLaws.{try-none, try-short, try-dear, try-takes, try-keeps}
 use borrow.Author.Needs.{needs}
 use Rattle.showing.proofs.rides.try_ride.Statement.{statement}
 use Rattle.showing.proofs.rides.try_ride.Tie as tie
@@ -8,13 +8,16 @@ returns : tie.Need-returns
 returns c = (search try-none, search needs)
 
 returns-2 : tie.Need-returns-2
-returns-2 c = (search try-dear, search needs)
+returns-2 c = (search try-short, search needs)
 
 returns-3 : tie.Need-returns-3
-returns-3 c = (search try-takes, search needs)
+returns-3 c = (search try-dear, search needs)
 
 returns-4 : tie.Need-returns-4
-returns-4 c = (search try-keeps, search needs)
+returns-4 c = (search try-takes, search needs)
+
+returns-5 : tie.Need-returns-5
+returns-5 c = (search try-keeps, search needs)
 
 pub try-ride-spec : {M : Type 1} → statement M
 try-ride-spec =
@@ -24,8 +27,10 @@ try-ride-spec =
     (λ c. search needs)
     returns
     (λ c. search needs)
-    (λ c. search needs)
     returns-2
     (λ c. search needs)
+    (λ c. search needs)
     returns-3
-    returns-4)
+    (λ c. search needs)
+    returns-4
+    returns-5)

@@ -1,0 +1,3 @@
+pub mod PassLaws
+pub mod PointLaws
+pub mod RowLaws

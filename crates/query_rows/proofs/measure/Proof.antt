@@ -1,0 +1,55 @@
+-- The words counted so far are those of the rows before the minute, each of which has the word of its arc.
+use mathlib.Core.Path.{_≡_}
+use Prim.Native.Nat.{_≤_, _*_, _-_}
+use lib.ListN.{length}
+use Rattle.promises.specs.Query.{rows}
+use Rattle.query_rows.specs.Leader.{AllNamed}
+use Rattle.query_rows.proofs.PassLaws.{Counting, counting-begin, all-counted, all-led-now}
+use Rattle.query_rows.proofs.PointLaws.{count-skip-at, count-leading-at, count-named-at, count-row-at, named-at}
+use borrow.Author.Needs.{needs}
+use Rattle.query_rows.proofs.measure.Statement.{statement}
+use Rattle.query_rows.proofs.measure.Tie as tie
+
+abbrev Inv-loop : tie.InvT-loop
+Inv-loop words lines store from to minute best who₀ count₀ least₀ m₀ who count least m =
+    (m ≤ 2880)
+    × (count ≤ 192 * m)
+    × (length who ≡ 2880)
+    × AllNamed words store from to minute best who
+    × Counting best who (rows words store from to minute) count (least .0) m
+
+abbrev μ-loop : tie.MeasureT-loop
+μ-loop words lines store from to minute best who₀ count₀ least₀ m₀ who count least m = 2880 - m
+
+loop-holds : tie.Need-loop-holds Inv-loop μ-loop
+loop-holds c = (search needs, search needs, search needs, search needs, search counting-begin)
+
+loop-again : tie.Need-loop-again Inv-loop μ-loop
+loop-again c = (search needs, search needs, search needs, search needs, search count-skip-at)
+
+name-arc-requires : tie.Need-name-arc-requires Inv-loop μ-loop
+name-arc-requires c κs = (search needs, search count-leading-at, search count-named-at, search needs, search needs)
+
+loop-again-2 : tie.Need-loop-again-2 Inv-loop μ-loop
+loop-again-2 c = (search needs, search needs, search needs, search named-at, search count-row-at)
+
+returns : tie.Need-returns Inv-loop μ-loop
+returns c = ((search all-counted, search all-led-now), search needs)
+
+pub measure-spec : {M : Type 1} → statement M
+measure-spec =
+    tie.close
+    (tie.spec
+    Inv-loop
+    μ-loop
+    loop-holds
+    (λ c. search needs)
+    (λ c. search needs)
+    (λ c. search needs)
+    loop-again
+    name-arc-requires
+    (λ c. search needs)
+    (λ c. search needs)
+    loop-again-2
+    (λ c. search needs)
+    returns)

@@ -1,0 +1,108 @@
+-- The penalties are the least of the connections that go by one of the arcs so far, and a minute has an arc only if no
+-- other of them has its penalty.
+use mathlib.Core.Path.{_≡_, refl}
+use Prim.Native.Nat.{_≤_, _-_}
+use lib.ListN.{length}
+use Rattle.wellmade.specs.Entries.{arcCount}
+use Rattle.minutes.specs.Minutes.{blank}
+use Rattle.query_rows.specs.Merged.{Bound, bound-first}
+use Rattle.query_rows.specs.Arcs.{NotedAll, noted-first, noted-skip, noted-all}
+use Rattle.query_rows.specs.Arcs.{store-words, store-present}
+use Rattle.query_rows.specs.Trying.{target-of}
+use Rattle.query_rows.specs.Leader.{noted-named}
+use borrow.Author.Needs.{needs}
+use Rattle.query_rows.proofs.note_arcs.Statement.{statement}
+use Rattle.query_rows.proofs.note_arcs.Tie as tie
+
+abbrev Inv-loop : tie.InvT-loop
+Inv-loop words lines store from to minute best₀ who₀ mine₀ arcs k₀ best who mine k =
+    (k ≤ arcs)
+    × (arcs ≡ arcCount store)
+    × (length best ≡ 2880)
+    × (length who ≡ 2880)
+    × (length mine ≡ 2880)
+    × (mine ≡ blank)
+    × Bound best who
+    × NotedAll words store from to minute k best who
+
+abbrev μ-loop : tie.MeasureT-loop
+μ-loop words lines store from to minute best₀ who₀ mine₀ arcs k₀ best who mine k = arcs - k
+
+arc-count-requires : tie.Need-arc-count-requires Inv-loop μ-loop
+arc-count-requires c κs = search store-words
+
+loop-holds : tie.Need-loop-holds Inv-loop μ-loop
+loop-holds c = (
+  search needs,
+  search needs,
+  search needs,
+  search needs,
+  search needs,
+  refl,
+  search bound-first,
+  search noted-first,
+)
+
+arc-target-requires : tie.Need-arc-target-requires Inv-loop μ-loop
+arc-target-requires c κs = (search store-present, search needs)
+
+loop-again : tie.Need-loop-again Inv-loop μ-loop
+loop-again c = (
+  search needs,
+  search needs,
+  search needs,
+  search needs,
+  search needs,
+  search needs,
+  search needs,
+  search noted-skip,
+)
+
+note-arc-requires : tie.Need-note-arc-requires Inv-loop μ-loop
+note-arc-requires c κs = (
+  search needs,
+  search needs,
+  search target-of,
+  search needs,
+  search needs,
+  search needs,
+  search needs,
+  search needs,
+  search needs,
+)
+
+loop-again-2 : tie.Need-loop-again-2 Inv-loop μ-loop
+loop-again-2 c = (
+  search needs,
+  search needs,
+  search needs,
+  search needs,
+  search needs,
+  search needs,
+  search needs,
+  search needs,
+)
+
+returns : tie.Need-returns Inv-loop μ-loop
+returns c = (search noted-all, search noted-named, search needs, search needs)
+
+pub note-arcs-spec : {M : Type 1} → statement M
+note-arcs-spec =
+    tie.close
+    (tie.spec
+    Inv-loop
+    μ-loop
+    (λ c. search needs)
+    arc-count-requires
+    loop-holds
+    (λ c. search needs)
+    arc-target-requires
+    (λ c. search needs)
+    loop-again
+    (λ c. search needs)
+    note-arc-requires
+    (λ c. search needs)
+    loop-again-2
+    (λ c. search needs)
+    (λ c. search needs)
+    returns)

@@ -1,0 +1,206 @@
+-- The least penalties of a store's sequences, collected arc by arc: after k arcs the array has, for each minute, the
+-- least penalty of those who arrive then by one of the first k sequences; after all arcs it has that of the list kept.
+use mathlib.Core.Path.{_≡_, refl, sym, ap, subst, _∙_}
+use mathlib.Core.Logic.{_≢_, inl, inr}
+use mathlib.Core.List.{List, [], _∷_, _++_, reverseAux, List·Memᴰ·head as here, Memᴰ·append-left, Memᴰ·append-right}
+use Prim.Native.Nat.{ℕ, zero, suc, _+_, _≤_, _<_}
+use native.Mathlib.Omega.{arith, by-contra}
+use lib.ListN.{length, getD, take, replicate, length-replicate, List·getD-eq-default}
+use lib.Seq.{take-suc, take-all}
+use Rattle.lists.specs.Lists.{_∈_}
+use Rattle.lists.specs.Members.{none, append-cases, cons-cases}
+use Rattle.results.specs.Picks.{lead}
+use Rattle.connections.specs.Connections.{Net, Connection, direct, onward, Feasible, ready, arrival, penalty, stations}
+use Rattle.connections.specs.Sound.{Sound}
+use Rattle.connections.specs.Feasibility.{takes-time}
+use Rattle.reckoning.specs.Along.{Ends}
+use Rattle.reckoning.specs.AlongLaws.{Sequenced, sequence-ends, reverse-twice}
+use Rattle.stores.specs.Words.{readable, keptList}
+use Rattle.stores.specs.KeptLaws.{kept-exactly}
+use Rattle.minutes.specs.Minutes.{noPoints, blank}
+use Rattle.minutes.specs.Noted.{getD-any}
+use Rattle.layers.specs.Lowered.{Lowered}
+use Rattle.query_rows.specs.Rowed.{At, LeastKept, Bounds}
+
+-- the last station of a connection is where it ends
+stations-end : (n : Net) (x u b : ℕ) (c : Connection) (m : List ℕ) → Feasible n x u b c
+    → lead (reverseAux (stations c) m) ≡ b
+stations-end n x u b (direct r) m f = f .1
+stations-end n x u b (onward r z c) m f = stations-end n (z .to) (ready r z) b c (z .from ∷ m) (f .2)
+
+pub sequence-end : (n : Net) (x u b : ℕ) (c : Connection) (rev : List ℕ) (y : ℕ) → Feasible n x u b c
+    → stations c ≡ reverseAux rev (y ∷ []) → b ≡ y
+sequence-end n x u b c rev y f e =
+    sym (stations-end n x u b c [] f) ∙ ap (λ q. lead (reverseAux q [])) e ∙ ap lead (reverse-twice rev (y ∷ []))
+
+pub arrives-in-time : (n : Net) → Sound n → (x u b : ℕ) (c : Connection) → Feasible n x u b c → arrival c < 2880
+arrives-in-time n ok x u b (direct r) f = omega (arith, ok .bounded r (f .0 .listed))
+arrives-in-time n ok x u b (onward r z c) f = arrives-in-time n ok (z .to) (ready r z) b c (f .2)
+
+-- the first k + 1 sequences are the first k and the one at place k
+module _ (s : List ℕ) (k : ℕ) (inside : k < length (readable s)) where
+  pub next-sequence : take (suc k) (readable s) ≡ take k (readable s) ++ (getD (readable s) k [] ∷ [])
+  next-sequence = take-suc (readable s) k [] inside
+
+  pub sequence-cases : {G : Type 0} (q : List ℕ) → q ∈ take (suc k) (readable s) → (q ∈ take k (readable s) → G)
+      → (q ≡ getD (readable s) k [] → G) → G
+  sequence-cases q i f g =
+      append-cases (take k (readable s)) (subst (λ l. q ∈ l) next-sequence i) f
+      (λ j. cons-cases j g (λ z. none z))
+
+-- for a query from a at minute u to b
+module _ (n : Net) (ok : Sound n) (s : List ℕ) (a u b : ℕ) where
+  -- one who goes by one of the first k sequences arrives at minute m for p points
+  pub record Held (k m p : ℕ) : Type 0 where
+    pub one : Connection
+    pub feasible : Feasible n a u b one
+    pub held : stations one ∈ take k (readable s)
+    pub arrives : arrival one ≡ m
+    pub pays : penalty one ≡ p
+
+  pub record Collected (k : ℕ) (w : List ℕ) : Type 0 where
+    pub long : length w ≡ 2880
+    pub attained : (m : ℕ) → m < 2880 → getD w m 0 < noPoints → Held k m (getD w m 0)
+    pub low : (c : Connection) → Feasible n a u b c → stations c ∈ take k (readable s)
+        → getD w (arrival c) 0 ≤ penalty c
+
+  getD-blank : (k m : ℕ) → m < k → getD (replicate k noPoints) m 0 ≡ noPoints
+  getD-blank zero m h = absurd (omega arith)
+  getD-blank (suc k) zero h = refl
+  getD-blank (suc k) (suc m) h = getD-blank k m (omega arith)
+
+  pub collected-first : Collected 0 blank
+  collected-first =
+      record {
+        long = length-replicate {A = ℕ} 2880 noPoints;
+        attained = λ m h g. absurd (omega (arith, getD-blank 2880 m h));
+        low = λ c f i. none i;
+      }
+
+  module _ (k : ℕ) (w : List ℕ) (inside : k < length (readable s)) (so-far : Collected k w) where
+    abbrev this : List ℕ
+    this = getD (readable s) k []
+
+    next : take (suc k) (readable s) ≡ take k (readable s) ++ (this ∷ [])
+    next = next-sequence s k inside
+
+    earlier : (q : List ℕ) → q ∈ take k (readable s) → q ∈ take (suc k) (readable s)
+    earlier q i = subst (λ l. q ∈ l) (sym next) (Memᴰ·append-left (this ∷ []) i)
+
+    keep : (m p : ℕ) → Held k m p → Held (suc k) m p
+    keep m p h =
+        record {
+          one = h .one;
+          feasible = h .feasible;
+          held = earlier (stations (h .one)) (h .held);
+          arrives = h .arrives;
+          pays = h .pays;
+        }
+
+    -- a sequence that ends elsewhere has no connection to b
+    pub collected-skip : (rev : List ℕ) (y : ℕ) → this ≡ reverseAux rev (y ∷ []) → y ≢ b → Collected (suc k) w
+    collected-skip rev y e other =
+        record {
+          long = so-far .long;
+          attained = λ m h g. keep m (getD w m 0) (so-far .attained m h g);
+          low =
+              λ c f i.
+              sequence-cases s k inside (stations c) i (so-far .low c f)
+              (λ z. absurd (other (sym (sequence-end n a u b c rev y f (z ∙ e)))));
+        }
+
+    module _ (rev : List ℕ) (e : this ≡ reverseAux rev (b ∷ [])) (new : List ℕ) (l : Lowered n a u rev b w new) where
+      -- within the array what is read past its end does not matter
+      before-is : (m : ℕ) → m < 2880 → getD w m noPoints ≡ getD w m 0
+      before-is m h = getD-any w m noPoints 0 (omega (arith, so-far .long))
+
+      after-is : (m : ℕ) → m < 2880 → getD new m noPoints ≡ getD new m 0
+      after-is m h = getD-any new m noPoints 0 (omega (arith, l .long, so-far .long))
+
+      attained : (m : ℕ) → m < 2880 → getD new m 0 < noPoints → Held (suc k) m (getD new m 0)
+      attained m h g = elim (l .stems m) [
+        | inl z ↦ old (sym (after-is m h) ∙ z ∙ before-is m h)
+        | inr z ↦
+            fresh (sequence-ends n a u rev b m (getD new m 0) .0 (subst (Ends n a u rev b m) (after-is m h) z))
+      ]
+        where
+          old : getD new m 0 ≡ getD w m 0 → Held (suc k) m (getD new m 0)
+          old z =
+              subst (Held (suc k) m) (sym z)
+              (keep m (getD w m 0) (so-far .attained m h (omega (arith, g, z))))
+
+          fresh : Sequenced n a u rev b m (getD new m 0) → Held (suc k) m (getD new m 0)
+          fresh z =
+              record {
+                one = z .connection;
+                feasible = z .feasible;
+                held =
+                    subst (λ r. stations (z .connection) ∈ r) (sym next)
+                    (Memᴰ·append-right (take k (readable s)) (here (z .sequence ∙ sym e)));
+                arrives = z .arrives;
+                pays = z .pays;
+              }
+
+      pub collected-more : Collected (suc k) new
+      collected-more = record { long = l .long ∙ so-far .long; attained = attained; low = low }
+        where
+          low : (c : Connection) → Feasible n a u b c → stations c ∈ take (suc k) (readable s)
+              → getD new (arrival c) 0 ≤ penalty c
+          low c f i =
+              let h = arrives-in-time n ok a u b c f in
+              sequence-cases s k inside (stations c) i
+              (λ z.
+              omega (
+                arith,
+                l .lower (arrival c),
+                before-is (arrival c) h,
+                after-is (arrival c) h,
+                so-far .low c f z,
+              ))
+              (λ z.
+              let ends =
+              sequence-ends n a u rev b (arrival c) (penalty c) .1
+              (record { connection = c; feasible = f; sequence = z ∙ e; arrives = refl; pays = refl }) in
+              omega (arith, l .below (arrival c) (penalty c) ends, after-is (arrival c) h))
+
+  -- all sequences: the list kept
+  pub collected-all : (k : ℕ) (w : List ℕ) → length (readable s) ≤ k → Collected k w
+      → LeastKept u (keptList n s a u b) w
+  collected-all k w all c = record { attained = attained; low = low }
+    where
+      whole : take k (readable s) ≡ readable s
+      whole = take-all k (readable s) all
+
+      inside : (m : ℕ) → getD w m noPoints < noPoints → m < length w
+      inside m h = by-contra (suc m) (length w) past
+        where
+          past : length w < suc m → ⊥
+          past g = omega (arith, List·getD-eq-default w noPoints {n = m} (omega arith))
+
+      attained : (m : ℕ) → getD w m noPoints < noPoints → At u (keptList n s a u b) m (getD w m noPoints)
+      attained m h =
+          let i = inside m h in
+          let same = getD-any w m noPoints 0 i in
+          let z = c .attained m (omega (arith, i, c .long)) (omega (arith, h, same)) in
+          record {
+            one = z .one;
+            listed =
+                kept-exactly n ok s a u b (z .one) .1
+                (record { feasible = z .feasible; held = subst (λ l. stations (z .one) ∈ l) whole (z .held) });
+            arrives = z .arrives;
+            pays = z .pays ∙ sym same;
+          }
+
+      low : (e : Connection) → e ∈ keptList n s a u b → getD w (arrival e) noPoints ≤ penalty e
+      low e i =
+          let z = kept-exactly n ok s a u b e .0 i in
+          let h = arrives-in-time n ok a u b e (z .feasible) in
+          let same = getD-any w (arrival e) noPoints 0 (omega (arith, h, c .long)) in
+          omega (arith, same, c .low e (z .feasible) (subst (λ l. stations e ∈ l) (sym whole) (z .held)))
+
+  -- the bounds of those on the list
+  pub kept-bounds : ((c : Connection) → Feasible n a u b c → penalty c < noPoints)
+      → (c : Connection) → c ∈ keptList n s a u b → Bounds u (keptList n s a u b) c
+  kept-bounds small c i =
+      let f = kept-exactly n ok s a u b c .0 i .feasible in
+      record { from = omega (arith, takes-time n ok a u b c f); small = small c f }
