@@ -1,4 +1,4 @@
-// Standard input, line by line.
+// The bytes of a file, and standard input line by line.
 ghost use mathlib.Core.Path.{_≡_};
 ghost use Prim.Native.Nat.{_≤_};
 ghost use lib.ListN.{length};
@@ -6,10 +6,14 @@ use libc::STDIN_FILENO;
 
 const LINE_END: u8 = 10;
 
-// The bytes of a chunk that have been read from the input and not yet been looked at: from index at up to index end.
+pub const CHUNK_BYTES: usize = 4096;
+
+// The bytes of a chunk that have been read and not yet been looked at: from index at up to index end. There are none
+// where the last read failed.
 pub struct Unread {
     pub at: usize,
     pub end: usize,
+    pub failed: bool,
 }
 
 // How a line ended: with byte 10, or with the input. Of its bytes the first len were kept.
@@ -19,8 +23,31 @@ pub struct Line {
     pub unread: Unread,
 }
 
-// Reads a chunk if no byte is left unread. None is left after it only where the input has ended.
-fn refill(chunk: &mut [u8], unread: Unread) -> Unread
+// How many bytes of a file were kept, and whether a read failed before its end.
+pub struct Kept {
+    pub len: usize,
+    pub failed: bool,
+}
+
+// Reads once, and again where a signal interrupts it. Returns what the last read returned.
+fn read(fd: i32, chunk: &mut [u8]) -> isize {
+    let mut got = libc::read(fd, chunk);
+    let mut turns = u64::MAX;
+    while turns > 0 {
+        if 0 <= got {
+            break;
+        }
+        if os::errno() != libc::EINTR {
+            break;
+        }
+        got = libc::read(fd, chunk);
+        turns -= 1;
+    }
+    got
+}
+
+// Reads a chunk if no byte is left unread. None is left after it only where the bytes have ended or a read failed.
+fn refill(fd: i32, chunk: &mut [u8], unread: Unread) -> Unread
     requires { ⌜ (unread .at ≤ unread .end) × (unread .end ≤ length (now chunk)) ⌝ }
     ensures { λ r. ⌜ (r .at ≤ r .end)
         × (r .end ≤ length (now (chunk .exit)))
@@ -29,12 +56,48 @@ fn refill(chunk: &mut [u8], unread: Unread) -> Unread
     if unread.at < unread.end {
         return unread;
     }
-    let got = libc::read(STDIN_FILENO, chunk);
+    let got = read(fd, chunk);
     let end = io::count(got, chunk);
-    Unread { at: 0, end }
+    Unread {
+        at: 0,
+        end,
+        failed: got < 0,
+    }
 }
 
-// Keeps a byte of a line, if there is room for it. Answers how many are kept.
+// Reads a file to its end, or until there is no room for more of it.
+pub fn read_file(fd: i32, text: &mut [u8]) -> Kept
+    ensures { λ r. ⌜ r .len ≤ length (now (text .exit)) ⌝ }
+{
+    let mut chunk = [0u8; CHUNK_BYTES];
+    let mut unread = Unread {
+        at: 0,
+        end: 0,
+        failed: false,
+    };
+    let mut len = 0;
+    while len < text.len() {
+        unread = refill(fd, &mut chunk, unread);
+        let at = unread.at;
+        let end = unread.end;
+        if at == end {
+            break;
+        }
+        text[len] = chunk[at];
+        unread = Unread {
+            at: at + 1,
+            end,
+            failed: false,
+        };
+        len += 1;
+    }
+    Kept {
+        len,
+        failed: unread.failed,
+    }
+}
+
+// Keeps a byte of a line, if there is room for it. Returns how many are kept.
 fn keep(line: &mut [u8], len: usize, b: u8) -> usize
     requires { ⌜ len ≤ length (now line) ⌝ }
     ensures { λ r. ⌜ (r ≤ length (now (line .exit))) × (length (now (line .exit)) ≡ length (now (line .entry))) ⌝ }
@@ -59,14 +122,18 @@ pub fn read_line(chunk: &mut [u8], start: Unread, line: &mut [u8]) -> Line
     let mut len = 0;
     let mut turns = u64::MAX;
     while turns > 0 {
-        unread = refill(chunk, unread);
+        unread = refill(STDIN_FILENO, chunk, unread);
         let at = unread.at;
         let end = unread.end;
         if at == end {
             break;
         }
         let b = chunk[at];
-        unread = Unread { at: at + 1, end };
+        unread = Unread {
+            at: at + 1,
+            end,
+            failed: false,
+        };
         if b == LINE_END {
             return Line {
                 whole: true,

@@ -1,194 +1,117 @@
-// The listing: reads `timetable.txt` and queries from standard input, and prints for each query its rows or the number
-// of its refusal. A refused timetable is told, and nothing else.
+// The listing: reads `timetable.txt` and queries from standard input, and writes what they print. It only moves bytes;
+// which ones it writes is said and proved in the crate answering.
 mod input;
-mod output;
 
 ghost use mathlib.Core.Path.{_≡_};
 ghost use Prim.Native.Nat.{_≤_};
 ghost use lib.ListN.{length};
-ghost use Rattle.io.specs.Counts.{Counts};
+use answering::OUT_BYTES;
+use answering::STORE_WORDS;
+use answering::TABLE_WORDS;
+use input::CHUNK_BYTES;
+use input::Kept;
 use input::Unread;
-use queries::Input;
-use queries::Query;
-use replies::Reply;
+use libc::STDOUT_FILENO;
 
 // One byte more than a text may have shows a text that is too long.
 const TEXT_BYTES: usize = 65537;
 
-const TABLE_WORDS: usize = 16384;
-
-const STORE_WORDS: usize = 32768;
-
-const ANSWER_WORDS: usize = 16384;
-
-const CHUNK_BYTES: usize = 4096;
-
-// One byte more than a query may have: what the first bytes of a line ask is what the line asks, by the law `cut`.
+// One byte more than a query may have: what the first bytes of a line print is what the line prints, by the law
+// `cut-printed`.
 const LINE_BYTES: usize = queries::BYTES_MOST + 1;
 
-// The source whose store was asked for last, 0 where none was, and the number that the call answered.
-pub struct Made {
-    pub source: u32,
-    pub number: u32,
-}
+// No query with this source makes a store: it is refused by its 11.
+const NO_SOURCE: u32 = 0;
 
-// Reads the timetable's file, and answers how many bytes it has, as far as there is room for them. A file that cannot
-// be opened counts as empty.
-fn read_file(text: &mut [u8]) -> usize
-    ensures { λ r. ⌜ Counts r (now (text .exit)) ⌝ }
+// Reads the timetable's file, as far as there is room for it. A file that cannot be opened counts as empty.
+fn read_text(text: &mut [u8]) -> Kept
+    ensures { λ r. ⌜ r .len ≤ length (now (text .exit)) ⌝ }
 {
     let fd = os::open_read(b"timetable.txt");
     if fd < 0 {
-        return 0;
+        return Kept {
+            len: 0,
+            failed: false,
+        };
     }
-    let n = io::read_full(fd, text);
+    let kept = input::read_file(fd, text);
+    if kept.failed {
+        os::fail(b"timetable.txt");
+    }
     libc::close(fd);
-    n
+    kept
 }
 
-// Reads the timetable and builds its line tables; or prints why it is refused, and answers false.
-fn load(timetable: &mut [u16], lines: &mut [u16], work: &mut [u32]) -> bool {
+// Writes the first bytes of out to standard output.
+fn write(out: &[u8], count: usize)
+    requires { ⌜ count ≤ length (now out) ⌝ }
+{
+    io::write_all(STDOUT_FILENO, &out[0..count]);
+}
+
+// Reads the timetable and builds its line tables, and writes what it prints. Returns whether it was read to its end and
+// accepted.
+fn load(timetable: &mut [u16], lines: &mut [u16], work: &mut [u32], out: &mut [u8]) -> bool
+    requires { ⌜ (length (now timetable) ≡ 16384) × (length (now out) ≡ 196654) ⌝ }
+{
     let mut text = [0u8; TEXT_BYTES];
-    let n = read_file(&mut text);
-    match reading::read(&text[..n], timetable) {
-        reading::Reply::Done { .. } => {
-            tables::build(timetable, lines, work);
-            return true;
-        }
-        reading::Reply::Refused { number, line } => {
-            output::timetable_refused(number, line);
-            return false;
-        }
+    let kept = read_text(&mut text);
+    if kept.failed {
+        return false;
+    }
+    let len = kept.len;
+    let count = answering::load(&text[0..len], timetable, lines, work, out);
+    write(out, count);
+    count == 0
+}
+
+// Ends the input after so many bytes without a line end, which are a misshapen line.
+fn end_input(len: usize, failed: bool, out: &mut [u8])
+    requires { ⌜ length (now out) ≡ 196654 ⌝ }
+{
+    if failed {
+        os::fail(b"standard input");
+        return;
+    }
+    if 0 < len {
+        let count = answering::misshapen(out);
+        write(out, count);
     }
 }
 
-// Makes the store of a source, unless it is the one that was made last.
-fn make(
-    timetable: &[u16],
-    lines: &[u16],
-    work: &mut [u32],
-    source: u32,
-    store: &mut [u16],
-    last: Made,
-) -> Made {
-    if last.source == source {
-        return last;
-    }
-    match storing::make_store(timetable, lines, work, source, store) {
-        Reply::Done { .. } => {
-            return Made { source, number: 0 };
-        }
-        Reply::Refused { number } => {
-            return Made { source, number };
-        }
-    }
-}
-
-// Prints the rows of a query from the store of its source, or its 14 or 15.
-fn show(
-    timetable: &[u16],
-    lines: &[u16],
-    store: &[u16],
-    work: &mut [u32],
-    query: Query,
-    answer: &mut [u32],
-) {
-    match asking::query(
-        timetable,
-        lines,
-        store,
-        work,
-        query.from,
-        query.to,
-        query.minute,
-        answer,
-    ) {
-        Reply::Done { count } => {
-            output::query_answered(query, count, answer);
-        }
-        Reply::Refused { number } => {
-            output::query_refused(query, number);
-        }
-    }
-}
-
-// Prints what a query comes to: its 11 or 12, then the 15 of its source's store, then its own 14 or 15, or its rows.
-// Answers which store was made last.
-fn answer_query(
-    timetable: &[u16],
-    lines: &[u16],
-    store: &mut [u16],
-    work: &mut [u32],
-    query: Query,
-    answer: &mut [u32],
-    last: Made,
-) -> Made {
-    let number = checking::query_number(timetable, lines, work, query.from, query.to, query.minute);
-    if number != 0 {
-        output::query_refused(query, number);
-        return last;
-    }
-    let made = make(timetable, lines, work, query.from, store, last);
-    if made.number != 0 {
-        output::query_refused(query, made.number);
-        return made;
-    }
-    show(timetable, lines, store, work, query, answer);
-    made
-}
-
-// Prints what a line of the input comes to. Answers which store was made last.
-fn answer_line(
-    timetable: &[u16],
-    lines: &[u16],
-    store: &mut [u16],
-    work: &mut [u32],
-    line: &[u8],
-    answer: &mut [u32],
-    last: Made,
-) -> Made {
-    match queries::read_query(line) {
-        Input::Asked(query) => {
-            return answer_query(timetable, lines, store, work, query, answer, last);
-        }
-        Input::Misshapen => {
-            output::misshapen();
-            return last;
-        }
-    }
-}
-
-// Prints what each line of the input comes to; bytes after the last line end are a misshapen line.
-fn answer_input(timetable: &[u16], lines: &[u16], work: &mut [u32]) {
+// Writes what each line of the input prints.
+fn answer_input(timetable: &[u16], lines: &[u16], work: &mut [u32], out: &mut [u8])
+    requires { ⌜ (length (now work) ≡ 16384) × (length (now out) ≡ 196654) ⌝ }
+{
     let mut store = [0u16; STORE_WORDS];
-    let mut answer = [0u32; ANSWER_WORDS];
     let mut chunk = [0u8; CHUNK_BYTES];
     let mut bytes = [0u8; LINE_BYTES];
-    let mut unread = Unread { at: 0, end: 0 };
-    let mut made = Made {
-        source: 0,
-        number: 0,
+    let mut unread = Unread {
+        at: 0,
+        end: 0,
+        failed: false,
     };
+    let mut made = answering::make(timetable, lines, work, NO_SOURCE, &mut store);
     let mut turns = u64::MAX;
     while turns > 0 {
         let line = input::read_line(&mut chunk, unread, &mut bytes);
         let len = line.len;
+        unread = line.unread;
         if !line.whole {
-            if 0 < len {
-                output::misshapen();
-            }
+            end_input(len, unread.failed, out);
             break;
         }
-        made = answer_line(
+        let printed = answering::answer_line(
             timetable,
             lines,
             &mut store,
             work,
             &bytes[0..len],
-            &mut answer,
             made,
+            out,
         );
-        unread = line.unread;
+        write(out, printed.count);
+        made = printed.made;
         turns -= 1;
     }
 }
@@ -197,7 +120,8 @@ fn main() {
     let mut timetable = [0u16; TABLE_WORDS];
     let mut lines = [0u16; TABLE_WORDS];
     let mut work = [0u32; TABLE_WORDS];
-    if load(&mut timetable, &mut lines, &mut work) {
-        answer_input(&timetable, &lines, &mut work);
+    let mut out = [0u8; OUT_BYTES];
+    if load(&mut timetable, &mut lines, &mut work, &mut out) {
+        answer_input(&timetable, &lines, &mut work, &mut out);
     }
 }

@@ -1,20 +1,63 @@
--- What is unread lies within the chunk, and every array keeps its length.
+-- The store is that of the source which was made last; what is unread lies within the chunk, and every array keeps its
+-- length.
 use mathlib.Core.Path.{_≡_}
 use Prim.Native.Nat.{_≤_}
 use lib.ListN.{length}
+use Rattle.answering.specs.Printed.{madeNumber, storeSlice}
+use Rattle.answering.proofs.MakeLaws.{held-number, held-store}
 use borrow.Author.Needs.{needs}
 use Rattle.listing.proofs.answer_input.Statement.{statement}
 use Rattle.listing.proofs.answer_input.Tie as tie
 
 abbrev Inv-loop : tie.InvT-loop
-Inv-loop _ _ work₀ _ _ _ _ _ _ _ work store answer chunk bytes unread made turns =
-    (length work ≡ length work₀)
-    × ((unread .at ≤ unread .end)
-    × ((unread .end ≤ length chunk)
-    × ((length chunk ≡ 4096) × ((length bytes ≡ 17) × ((length store ≡ 32768) × (length answer ≡ 16384))))))
+Inv-loop timetable lines work₀ out₀ _ _ _ _ _ _ work out store chunk bytes unread made turns =
+    (length work ≡ 16384)
+    × (length work ≡ length work₀)
+    × (length out ≡ 196654)
+    × (length out ≡ length out₀)
+    × (unread .at ≤ unread .end)
+    × (unread .end ≤ length chunk)
+    × (length chunk ≡ 4096)
+    × (length bytes ≡ 17)
+    × (length store ≡ 32768)
+    × (made .number ≡ madeNumber timetable lines (made .source))
+    × (store ≡ storeSlice timetable lines (made .source))
 
 abbrev μ-loop : tie.MeasureT-loop
 μ-loop _ _ _ _ _ _ _ _ _ _ _ _ _ _ _ _ _ turns = turns
+
+loop-holds : tie.Need-loop-holds Inv-loop μ-loop
+loop-holds c = (
+  search needs,
+  search needs,
+  search needs,
+  search needs,
+  search needs,
+  search needs,
+  search needs,
+  search needs,
+  search needs,
+  search held-number,
+  search held-store,
+)
+
+answer-line-requires : tie.Need-answer-line-requires Inv-loop μ-loop
+answer-line-requires c κs = ((search needs, search needs, search needs), (search needs, search needs))
+
+loop-again : tie.Need-loop-again Inv-loop μ-loop
+loop-again c = (
+  search needs,
+  search needs,
+  search needs,
+  search needs,
+  search needs,
+  search needs,
+  search needs,
+  search needs,
+  search needs,
+  search needs,
+  search needs,
+)
 
 pub answer-input-spec : {M : Type 1} → statement M
 answer-input-spec =
@@ -24,6 +67,7 @@ answer-input-spec =
     μ-loop
     (λ c. search needs)
     (λ c. search needs)
+    loop-holds
     (λ c. search needs)
     (λ c. search needs)
     (λ c. search needs)
@@ -32,10 +76,11 @@ answer-input-spec =
     (λ c. search needs)
     (λ c. search needs)
     (λ c. search needs)
+    answer-line-requires
     (λ c. search needs)
     (λ c. search needs)
     (λ c. search needs)
-    (λ c. search needs)
+    loop-again
     (λ c. search needs)
     (λ c. search needs)
     (λ c. search needs)

@@ -1,0 +1,4 @@
+pub mod MakeLaws
+pub mod PrintLaws
+pub mod QueryLaws
+pub mod LineLaws

@@ -1,0 +1,29 @@
+-- The reply of reading says what is printed.
+use Rattle.answering.proofs.LineLaws.{none-count, none-words, told-count, told-words}
+use borrow.Author.Needs.{needs}
+use Rattle.answering.proofs.load.Statement.{statement}
+use Rattle.answering.proofs.load.Tie as tie
+
+returns : tie.Need-returns
+returns c = (search none-count, search none-words, search needs, search needs)
+
+returns-2 : tie.Need-returns-2
+returns-2 c = (search told-count, search told-words, search needs, search needs)
+
+pub load-spec : {M : Type 1} → statement M
+load-spec =
+    tie.close
+    (tie.spec
+    (λ c. search needs)
+    (λ c. search needs)
+    (λ c. search needs)
+    (λ c. search needs)
+    (λ c. search needs)
+    (λ c. search needs)
+    returns
+    (λ c. search needs)
+    (λ c. search needs)
+    (λ c. search needs)
+    (λ c. search needs)
+    (λ c. search needs)
+    returns-2)
