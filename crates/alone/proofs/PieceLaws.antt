@@ -7,7 +7,8 @@ use native.Mathlib.Nat.{add-sub-cancel-left}
 use native.Mathlib.Omega.{arith}
 use borrow.Author.Tests.{le-leb, lt-leb, eq-eqb, ne-eqb}
 use lib.Dec.{leb, eqb}
-use lib.ListN.{length, getD, take, drop}
+use lib.ListN.{length, getD, take, drop, length-drop}
+use lib.Seq.{length-take-le}
 use Rattle.questions.specs.Question.{ask, firstNo}
 use Rattle.lookup.specs.Lookup.{Line, lineCount, lineAt}
 use Rattle.alone.specs.Drawn.{areSome, aloneNumber}
@@ -129,3 +130,15 @@ piece-is v n line s k is-s is-k =
 pub part-is : (v : List ℕ) (n line s k : ℕ) → s ≡ startTold v n line → k ≡ lengthTold v n line
     → take (s + k - s) (drop s v) ≡ take (lengthTold v n line) (drop (startTold v n line) v)
 part-is v n line s k is-s is-k = rw add-sub-cancel-left (λ i. take (is-k i) (drop (is-s i) v))
+
+module _ (v : List ℕ) (s k : ℕ) (within : s + k ≤ length v) where
+  part-length : length (take (s + k - s) (drop s v)) ≡ k
+  part-length =
+      length-take-le (s + k - s) (drop s v) (omega (arith, length-drop s v)) ∙ omega arith
+
+  pub part-long : (n line : ℕ) → k ≡ lengthTold v n line
+      → length (take (s + k - s) (drop s v)) ≡ lengthTold v n line
+  part-long n line told = part-length ∙ told
+
+  pub part-few : k < 65536 → length (take (s + k - s) (drop s v)) < 65536
+  part-few few = omega (arith, part-length)

@@ -1,11 +1,11 @@
 -- The part of the slice that the line's place names.
 use borrow.Author.Needs.{needs}
-use Rattle.alone.proofs.PieceLaws.{piece-is, part-is}
+use Rattle.alone.proofs.PieceLaws.{piece-is, part-is, part-long, part-few}
 use Rattle.alone.proofs.line_trips.Statement.{statement}
 use Rattle.alone.proofs.line_trips.Tie as tie
 
 returns : tie.Need-returns
-returns c = (search piece-is, search part-is)
+returns c = (search piece-is, (search part-is, (search part-long, search part-few)))
 
 pub line-trips-spec : {M : Type 1} → statement M
 line-trips-spec =
