@@ -1,21 +1,20 @@
 -- From words with a yes to question 9 to the timetable that they spell: its bounds, and each of its stations, trips and
 -- stops. Callers use these laws, never the places of words.
-use mathlib.Core.Path.{_≡_, refl, sym, ap, _∙_}
+use mathlib.Core.Path.{_≡_, sym, ap, _∙_}
 use mathlib.Core.Bool.{Bool, true, false, _&&_}
-use mathlib.Core.List.{List, [], _∷_, _++_, map}
+use mathlib.Core.List.{List, [], _∷_, map}
 use Prim.Native.Nat.{ℕ, zero, suc, _+_, _-_, _≤_, _<_}
 use native.Mathlib.Numerals.{add-one}
 use native.Mathlib.Omega.{arith}
 use borrow.Author.Tests.{leb-true, eqb-true}
 use lib.Dec.{leb, eqb}
-use lib.ListN.{length, getD, length-map, List·getD-map}
+use lib.ListN.{length, getD}
 use Rattle.lists.specs.Lists.{range}
 use Rattle.questions.specs.Question.{and-left, and-right}
 use Rattle.timetable.specs.Timetable.{
   Station,
   Stop,
   Trip,
-  Timetable,
   listed,
   leaves,
   validTrip,

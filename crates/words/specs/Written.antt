@@ -1,13 +1,11 @@
 -- A loop that writes a list of words into a slice, from index `at` on: m of them stand there, and the rest is left.
-use mathlib.Core.Path.{_≡_, refl, sym, ap, _∙_}
+use mathlib.Core.Path.{_≡_, sym, ap, _∙_}
 use mathlib.Core.List.{List, [], _∷_, _++_}
-use Prim.Native.Nat.{ℕ, zero, suc, _+_, _-_, _*_, _≤_, _<_}
-use native.Mathlib.Nat.{add-zero}
-use native.Mathlib.Numerals.{add-one}
+use Prim.Native.Nat.{ℕ, _+_, _-_, _*_, _≤_, _<_}
 use native.Mathlib.Omega.{arith}
 use lib.ListN.{length, take, drop, set, length-append, length-drop}
 use lib.Seq.{drop-drop, take-all, take-add, length-take-le, take-append-seam, drop-append-seam}
-use Rattle.words.specs.Put.{put, put-none, put-more, put-append}
+use Rattle.words.specs.Put.{put, put-more, put-append}
 
 module _ (whole : List ℕ) (m : ℕ) where
   -- the next words of the list are x
