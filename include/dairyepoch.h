@@ -14,7 +14,7 @@
  *   number  what was wrong                                              line
  *   1       the text has more than 65,536 bytes                         0
  *   2       the line has no known shape                                 the line, counted from 1
- *   3       a value is out of its range                                 the line
+ *   3       a value is out of its range; a time above 47:59             the line
  *   4       the line is out of place                                    the line
  *   5       a station, trip or stop too many                            the line
  *   6       the stop's station is not listed or is that of the stop
@@ -65,8 +65,9 @@ extern "C" {
 #define DAIRYEPOCH_TRIPS_COUNT(reply) ((uint32_t)(reply) & 0xffffu)
 
 /*
- * Reads a timetable text and writes its words (docs/LAYOUT.md) to the start of the timetable slice. The words past
- * them keep their values. The text needs no byte 0 at its end.
+ * Reads a timetable text (docs/FORMAT.md) and writes its words (docs/LAYOUT.md) to the start of the timetable slice.
+ * The text writes arrive and depart as hh:mm; the words hold minutes, as a query's minute does. The words past them
+ * keep their values. The text needs no byte 0 at its end.
  *
  * Reply: 0 and the number of the text's lines; or a refusal: 8, then 1, then 2 to 6 for the first line that has one,
  * then 7.

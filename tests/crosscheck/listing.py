@@ -1,5 +1,5 @@
 #!/usr/bin/env python3
-"""The listing by brute force, in plain Python and from document 01 alone.
+"""The listing by brute force, in plain Python and from documents 01 and 02 alone.
 
     python3 tests/crosscheck/listing.py FOLDER
 
@@ -13,14 +13,23 @@ import sys
 
 NUMBER = "(0|[1-9][0-9]{0,3})"
 EMPTY = "(|0|[1-9][0-9]{0,3})"
+TIME = "(|[0-9]{2}:[0-9]{2})"
 STATION = re.compile(",".join(["S"] + 3 * [NUMBER]).encode() + rb"\Z")
-STOP = re.compile(",".join(["T"] + 3 * [NUMBER] + 3 * [EMPTY]).encode() + rb"\Z")
+STOP = re.compile(",".join(["T"] + 3 * [NUMBER] + 2 * [TIME] + [EMPTY]).encode() + rb"\Z")
 QUERY = re.compile(",".join(["Q"] + 3 * [NUMBER]).encode() + rb"\Z")
 STORE_WORDS, ANSWER_WORDS = 32768, 16384
 
 
 class Refused(Exception):
     pass
+
+
+def value(field):
+    """The number of a field, the minute of a time, 2880 for a time out of range; None if it is empty."""
+    if b":" in field:
+        hours, minutes = map(int, field.split(b":"))
+        return 60 * hours + minutes if hours < 48 and minutes < 60 else 2880
+    return int(field) if field else None
 
 
 def read(text):
@@ -43,7 +52,7 @@ def read(text):
                 raise Refused(5, at)
             stations.append((minutes, points))
             continue
-        trip, number, place, arrive, depart, points = (int(f) if f else None for f in stop.groups())
+        trip, number, place, arrive, depart, points = map(value, stop.groups())
         if (arrive is None) != (number == 1) or (depart is None) != (points is None):
             raise Refused(2, at)
         if depart is None and number == 1:

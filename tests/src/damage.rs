@@ -3,6 +3,7 @@
 #![allow(clippy::ptr_arg)] // every damage is of one type, whether or not it changes the length
 
 use crate::random::Random;
+use crate::timetable::clock;
 
 pub type Damage = fn(&mut Random, &mut Vec<u8>);
 
@@ -30,6 +31,10 @@ pub const DAMAGES: &[Damage] = &[
     count_one_up,
     count_one_down,
     put_an_edge_in_a_field,
+    shift_a_time,
+    put_an_edge_in_a_time,
+    misspell_a_time,
+    write_a_time_as_its_minute,
     swap_two_fields,
     add_a_comma,
     drop_a_comma,
@@ -46,6 +51,14 @@ const TELLING_BYTES: &[u8] = b"ST,0123456789\n\r\t -+.\"st\x00\x7f\x80\xff:/";
 const EDGES: &[&str] = &[
     "0", "1", "2", "63", "64", "65", "99", "100", "101", "239", "240", "241", "255", "256", "257", "999", "1000",
     "1001", "2047", "2048", "2049", "2878", "2879", "2880", "9999", "10000", "65535", "65536",
+];
+
+/// Times at the edges of their ranges, and fields that are nearly times.
+const TIME_EDGES: &[&str] =
+    &["00:00", "00:59", "00:60", "23:59", "24:00", "24:60", "47:59", "47:60", "48:00", "99:59", "99:99"];
+const NEARLY_TIMES: &[&str] = &[
+    "8:00", "08:0", "008:00", "08:000", "08:00:00", "0800", "480", "08-00", "08.00", "08;00", ":", " 8:00", "08: 0",
+    "0a:00", "08:0/", "/8:00", "08::0", "::::;", "-8:00", "08:+1", "08:00 ",
 ];
 
 /// Does up to three damages to a copy of the text.
@@ -185,11 +198,13 @@ fn empty_a_field(random: &mut Random, text: &mut Vec<u8>) {
     change_a_field(random, text, |_, field| field.clear());
 }
 
-/// Fills a field if it is empty: the last fields of a trip's end both, so that the trip goes on.
+/// Fills a field if it is empty: the last fields of a trip's end both, so that the trip may go on.
 fn fill_a_field(random: &mut Random, text: &mut Vec<u8>) {
     change_fields(random, text, |random, fields| {
-        for field in fields.iter_mut().filter(|field| field.is_empty()) {
-            field.extend(random.within(0..=2_900).to_string().bytes());
+        for (at, field) in fields.iter_mut().enumerate().filter(|(_, field)| field.is_empty()) {
+            let number = random.within(0..=2_900);
+            let filling = if at == 4 || at == 5 { clock(number as u16) } else { number.to_string() };
+            field.extend(filling.bytes());
         }
     });
 }
@@ -226,6 +241,45 @@ fn change_a_number(random: &mut Random, text: &mut Vec<u8>, change: fn(u64) -> u
 
 fn put_an_edge_in_a_field(random: &mut Random, text: &mut Vec<u8>) {
     change_a_field(random, text, |random, field| *field = random.pick(EDGES).as_bytes().to_vec());
+}
+
+/// Changes a stop's arrive or depart, where it has one.
+fn change_a_time(random: &mut Random, text: &mut Vec<u8>, change: impl FnOnce(&mut Random, &mut Vec<u8>)) {
+    change_fields(random, text, |random, fields| {
+        let at = random.within(4..=5);
+        if fields.len() == 7 && !fields[at].is_empty() {
+            change(random, &mut fields[at]);
+        }
+    });
+}
+
+/// A time that may differ in one digit.
+fn shift_a_time(random: &mut Random, text: &mut Vec<u8>) {
+    change_a_time(random, text, |random, field| {
+        let at = random.below(field.len());
+        if field[at].is_ascii_digit() {
+            field[at] = random.pick(b"0123456789");
+        }
+    });
+}
+
+fn put_an_edge_in_a_time(random: &mut Random, text: &mut Vec<u8>) {
+    change_a_time(random, text, |random, field| *field = random.pick(TIME_EDGES).as_bytes().to_vec());
+}
+
+fn misspell_a_time(random: &mut Random, text: &mut Vec<u8>) {
+    change_a_time(random, text, |random, field| *field = random.pick(NEARLY_TIMES).as_bytes().to_vec());
+}
+
+/// The form of times before document 02.
+fn write_a_time_as_its_minute(random: &mut Random, text: &mut Vec<u8>) {
+    change_a_time(random, text, |_, field| {
+        let digits: Vec<u16> =
+            field.iter().filter(|byte| byte.is_ascii_digit()).map(|byte| u16::from(byte - b'0')).collect();
+        if let [a, b, c, d] = digits[..] {
+            *field = (600 * a + 60 * b + 10 * c + d).to_string().into_bytes();
+        }
+    });
 }
 
 fn swap_two_fields(random: &mut Random, text: &mut Vec<u8>) {
@@ -266,14 +320,14 @@ fn add_a_station(_: &mut Random, text: &mut Vec<u8>) {
 /// Adds a trip at the end: a fault only where the trips or stops are full, or the last trip is open.
 fn add_a_trip(_: &mut Random, text: &mut Vec<u8>) {
     let trip = last_number(text, 1) + 1;
-    text.extend(format!("T,{trip},1,1,,0,0\nT,{trip},2,2,1,,\n").bytes());
+    text.extend(format!("T,{trip},1,1,,00:00,0\nT,{trip},2,2,00:01,,\n").bytes());
 }
 
 /// Adds a stop to the last trip: a fault, since that trip has ended, unless something opened it.
 fn add_a_stop(random: &mut Random, text: &mut Vec<u8>) {
     let (trip, stop) = (last_number(text, 1), last_number(text, 2) + 1);
     let station = random.within(1..=3);
-    text.extend(format!("T,{trip},{stop},{station},2879,,\n").bytes());
+    text.extend(format!("T,{trip},{stop},{station},47:59,,\n").bytes());
 }
 
 /// The number in a field of the last line, if that is a stop.

@@ -1,4 +1,4 @@
-//! A reader of the timetable text, written from document 01: line by line, each question in its order.
+//! A reader of the timetable text, written from documents 01 and 02: line by line, each question in its order.
 
 use crate::timetable::{
     Onward, Station, Stop, Timetable, CHANGE_MINUTES_MOST, CHANGE_PENALTY_LEAST, CHANGE_PENALTY_MOST, LAST_MINUTE,
@@ -140,9 +140,9 @@ fn stop_line<'a>(fields: &mut impl Iterator<Item = &'a [u8]>) -> Option<Line> {
     let trip = decimal(fields.next()?)?;
     let number = decimal(fields.next()?)?;
     let station = decimal(fields.next()?)?;
-    let arrive = decimal_or_empty(fields.next()?)?;
-    let depart = decimal_or_empty(fields.next()?)?;
-    let penalty = decimal_or_empty(fields.next()?)?;
+    let arrive = if_filled(fields.next()?, minute)?;
+    let depart = if_filled(fields.next()?, minute)?;
+    let penalty = if_filled(fields.next()?, decimal)?;
     let onward = match (depart, penalty) {
         (Some(depart), Some(penalty)) => Some(Onward { depart, penalty }),
         (None, None) => None,
@@ -153,11 +153,12 @@ fn stop_line<'a>(fields: &mut impl Iterator<Item = &'a [u8]>) -> Option<Line> {
     filled_rightly.then_some(Line::Stop { trip, number, stop: Stop { station, arrive, onward } })
 }
 
-fn decimal_or_empty(field: &[u8]) -> Option<Option<u16>> {
+/// No value for an empty field; else what the field spells, if it spells something.
+fn if_filled(field: &[u8], spelled: fn(&[u8]) -> Option<u16>) -> Option<Option<u16>> {
     if field.is_empty() {
         Some(None)
     } else {
-        decimal(field).map(Some)
+        spelled(field).map(Some)
     }
 }
 
@@ -168,6 +169,17 @@ fn decimal(field: &[u8]) -> Option<u16> {
         return None;
     }
     Some(field.iter().fold(0, |number, digit| 10 * number + u16::from(digit - b'0')))
+}
+
+/// "`hh:mm` .. two digits each side". "Minutes above 59 or hours above 47 give 3": such a time is none of the two days.
+fn minute(field: &[u8]) -> Option<u16> {
+    let &[a, b, b':', c, d] = field else { return None };
+    if ![a, b, c, d].iter().all(u8::is_ascii_digit) {
+        return None;
+    }
+    let pair = |tens: u8, ones: u8| 10 * u16::from(tens - b'0') + u16::from(ones - b'0');
+    let (hours, minutes) = (pair(a, b), pair(c, d));
+    Some(if minutes > 59 { u16::MAX } else { 60 * hours + minutes })
 }
 
 fn in_range(line: &Line) -> bool {

@@ -44,7 +44,7 @@ pub struct Onward {
 }
 
 impl Timetable {
-    /// The timetable's text. It is the only one: a number has one form, and the lines have one order.
+    /// The timetable's text. It is the only one: a number and a time have one form, and the lines have one order.
     pub fn to_text(&self) -> Vec<u8> {
         self.to_string().into_bytes()
     }
@@ -57,9 +57,9 @@ impl Display for Timetable {
         }
         for (trip, stops) in (1..).zip(&self.trips) {
             for (number, stop) in (1..).zip(stops) {
-                let arrive = or_empty(stop.arrive);
-                let depart = or_empty(stop.onward.map(|onward| onward.depart));
-                let penalty = or_empty(stop.onward.map(|onward| onward.penalty));
+                let arrive = stop.arrive.map(clock).unwrap_or_default();
+                let depart = stop.onward.map(|onward| clock(onward.depart)).unwrap_or_default();
+                let penalty = stop.onward.map(|onward| onward.penalty.to_string()).unwrap_or_default();
                 writeln!(out, "T,{trip},{number},{},{arrive},{depart},{penalty}", stop.station)?;
             }
         }
@@ -67,6 +67,7 @@ impl Display for Timetable {
     }
 }
 
-fn or_empty(field: Option<u16>) -> String {
-    field.map_or_else(String::new, |number| number.to_string())
+/// A minute as a text has it: "`hh:mm`, 00:00 to 47:59, two digits each side".
+pub fn clock(minute: u16) -> String {
+    format!("{:02}:{:02}", minute / 60, minute % 60)
 }

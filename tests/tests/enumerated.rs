@@ -58,14 +58,14 @@ fn every_sequence_of_up_to_five_lines() {
         b"S,1,0,1\n",
         b"S,2,240,1000\n",
         b"S,3,241,1\n",
-        b"T,1,1,1,,10,0\n",
-        b"T,1,2,2,11,,\n",
-        b"T,1,2,2,11,12,0\n",
-        b"T,1,3,1,13,,\n",
-        b"T,2,1,2,,12,5\n",
-        b"T,2,2,1,2879,,\n",
+        b"T,1,1,1,,00:10,0\n",
+        b"T,1,2,2,00:11,,\n",
+        b"T,1,2,2,00:11,00:12,0\n",
+        b"T,1,3,1,00:13,,\n",
+        b"T,2,1,2,,00:12,5\n",
+        b"T,2,2,1,47:59,,\n",
         b"\n",
-        b"T,1,1,1,,10,0",
+        b"T,1,1,1,,00:10,0",
     ];
     let mut host = Host::new(2);
     let mut tally = Tally::default();
@@ -80,14 +80,14 @@ fn every_stop_line_of_telling_fields() {
         &["", "0", "1", "2"],
         &["", "0", "1", "2", "3"],
         &["", "0", "1", "2", "3"],
-        &["", "0", "10", "11", "2879", "2880"],
-        &["", "0", "10", "11", "2879", "2880"],
+        &["", "00:00", "00:10", "00:11", "47:59", "48:00", "10", "0:10"],
+        &["", "00:00", "00:10", "00:11", "47:59", "48:00", "10", "0:10"],
         &["", "0", "100", "101"],
     ];
     let mut host = Host::new(3);
     let mut tally = Tally::default();
     let stations = "S,1,0,1\nS,2,0,1\n";
-    for before in ["", "T,1,1,1,,10,0\n", "T,1,1,1,,10,0\nT,1,2,2,11,,\n"] {
+    for before in ["", "T,1,1,1,,00:10,0\n", "T,1,1,1,,00:10,0\nT,1,2,2,00:11,,\n"] {
         every_line(&mut host, &format!("{stations}{before}"), fields, &mut tally);
     }
     assert!([0, 2, 3, 4, 6, 7].iter().all(|&number| tally[number] > 0), "{tally:?}");
@@ -96,14 +96,18 @@ fn every_stop_line_of_telling_fields() {
 #[test]
 fn every_line_with_fields_empty_or_filled() {
     let either: &[&str] = &["", "1"];
+    let time: &[&str] = &["", "00:01"];
     let mut host = Host::new(4);
     let mut tally = Tally::default();
-    for before in ["", "S,1,0,1\n", "S,1,0,1\nS,2,0,1\n", "S,1,0,1\nS,2,0,1\nT,1,1,2,,0,0\n"] {
+    for before in ["", "S,1,0,1\n", "S,1,0,1\nS,2,0,1\n", "S,1,0,1\nS,2,0,1\nT,1,1,2,,00:00,0\n"] {
         for fields in 0..=8 {
             for second in [either, &["", "2"]] {
                 let mut kinds = vec![either; fields];
                 if let Some(kind) = kinds.get_mut(1) {
                     *kind = second;
+                }
+                if fields == 6 {
+                    kinds[3..5].fill(time);
                 }
                 kinds.insert(0, &["S", "T", ""]);
                 every_line(&mut host, before, &kinds, &mut tally);
@@ -113,24 +117,24 @@ fn every_line_with_fields_empty_or_filled() {
     assert!([0, 2, 4, 6, 7].iter().all(|&number| tally[number] > 0), "{tally:?}");
 }
 
-/// Texts with one field left open, to be filled with any number.
+/// Texts with one field left open, to be filled with any number or time.
 const OPEN_FIELDS: &[&str] = &[
     "S,#,0,1\n",
     "S,1,#,1\n",
     "S,1,0,#\n",
     "S,1,0,1\nS,#,0,1\n",
-    "S,1,0,1\nS,2,0,1\nT,#,1,1,,10,0\nT,1,2,2,11,,\n",
-    "S,1,0,1\nS,2,0,1\nT,1,#,1,,10,0\nT,1,2,2,11,,\n",
-    "S,1,0,1\nS,2,0,1\nT,1,1,#,,10,0\nT,1,2,2,11,,\n",
-    "S,1,0,1\nS,2,0,1\nT,1,1,1,#,10,0\nT,1,2,2,11,,\n",
-    "S,1,0,1\nS,2,0,1\nT,1,1,1,,#,0\nT,1,2,2,1400,,\n",
-    "S,1,0,1\nS,2,0,1\nT,1,1,1,,10,#\nT,1,2,2,11,,\n",
-    "S,1,0,1\nS,2,0,1\nT,1,1,1,,10,0\nT,#,2,2,11,,\n",
-    "S,1,0,1\nS,2,0,1\nT,1,1,1,,10,0\nT,1,#,2,11,,\n",
-    "S,1,0,1\nS,2,0,1\nT,1,1,1,,10,0\nT,1,2,#,11,,\n",
-    "S,1,0,1\nS,2,0,1\nT,1,1,1,,10,0\nT,1,2,2,#,,\n",
-    "S,1,0,1\nS,2,0,1\nT,1,1,1,,10,0\nT,1,2,2,1400,#,0\nT,1,3,1,2879,,\n",
-    "S,1,0,1\nS,2,0,1\nT,1,1,1,,10,0\nT,1,2,2,11,12,#\nT,1,3,1,2879,,\n",
+    "S,1,0,1\nS,2,0,1\nT,#,1,1,,00:10,0\nT,1,2,2,00:11,,\n",
+    "S,1,0,1\nS,2,0,1\nT,1,#,1,,00:10,0\nT,1,2,2,00:11,,\n",
+    "S,1,0,1\nS,2,0,1\nT,1,1,#,,00:10,0\nT,1,2,2,00:11,,\n",
+    "S,1,0,1\nS,2,0,1\nT,1,1,1,#,00:10,0\nT,1,2,2,00:11,,\n",
+    "S,1,0,1\nS,2,0,1\nT,1,1,1,,#,0\nT,1,2,2,23:20,,\n",
+    "S,1,0,1\nS,2,0,1\nT,1,1,1,,00:10,#\nT,1,2,2,00:11,,\n",
+    "S,1,0,1\nS,2,0,1\nT,1,1,1,,00:10,0\nT,#,2,2,00:11,,\n",
+    "S,1,0,1\nS,2,0,1\nT,1,1,1,,00:10,0\nT,1,#,2,00:11,,\n",
+    "S,1,0,1\nS,2,0,1\nT,1,1,1,,00:10,0\nT,1,2,#,00:11,,\n",
+    "S,1,0,1\nS,2,0,1\nT,1,1,1,,00:10,0\nT,1,2,2,#,,\n",
+    "S,1,0,1\nS,2,0,1\nT,1,1,1,,00:10,0\nT,1,2,2,23:20,#,0\nT,1,3,1,47:59,,\n",
+    "S,1,0,1\nS,2,0,1\nT,1,1,1,,00:10,0\nT,1,2,2,00:11,00:12,#\nT,1,3,1,47:59,,\n",
 ];
 
 #[test]
@@ -145,11 +149,35 @@ fn every_number_in_every_field() {
 }
 
 #[test]
+fn every_time_in_every_field() {
+    let mut host = Host::new(16);
+    for text in OPEN_FIELDS {
+        for (hours, minutes) in (0..100).flat_map(|hours| (0..100).map(move |minutes| (hours, minutes))) {
+            host.read(text.replace('#', &format!("{hours:02}:{minutes:02}")).as_bytes());
+            host.read(text.replace('#', &format!("{hours}:{minutes}")).as_bytes());
+        }
+    }
+}
+
+#[test]
+fn every_byte_in_every_place_of_a_time() {
+    let mut host = Host::new(17);
+    for text in OPEN_FIELDS {
+        let (before, after) = text.split_once('#').expect("an open field");
+        for (at, byte) in (0..5).flat_map(|at| (0..=255).map(move |byte| (at, byte))) {
+            let mut field = *b"00:30";
+            field[at] = byte;
+            host.read(&[before.as_bytes(), &field, after.as_bytes()].concat());
+        }
+    }
+}
+
+#[test]
 fn every_short_run_of_number_bytes_in_every_field() {
     let mut host = Host::new(6);
     for text in OPEN_FIELDS {
         let (before, after) = text.split_once('#').expect("an open field");
-        every_sequence(&[b"0", b"1", b"9", b"-"], 5, &mut |field| {
+        every_sequence(&[b"0", b"1", b"9", b"-", b":"], 5, &mut |field| {
             host.read(&[before.as_bytes(), field, after.as_bytes()].concat());
         });
     }

@@ -48,13 +48,13 @@ fn case_k_the_empty_text() {
 }
 
 #[test]
-fn time_2879_passes_and_2880_gives_3() {
+fn time_47_59_passes_and_48_00_gives_3() {
     let mut host = Host::new(4);
-    host.expect_read(M.replace("560", "2879"), 0, 10);
-    host.expect_read(M.replace("560", "2880"), 3, 6);
-    host.expect_read(M.replace("501", "2879").replace("560", "2879"), 6, 6);
-    host.expect_read(M.replace("501", "2880"), 3, 5);
-    host.expect_read(M.replace("502", "2880"), 3, 9);
+    host.expect_read(M.replace("09:20", "47:59"), 0, 10);
+    host.expect_read(M.replace("09:20", "48:00"), 3, 6);
+    host.expect_read(M.replace("08:21", "47:59").replace("09:20", "47:59"), 6, 6);
+    host.expect_read(M.replace("08:21", "48:00"), 3, 5);
+    host.expect_read(M.replace("08:22", "48:00"), 3, 9);
 }
 
 #[test]
@@ -67,8 +67,8 @@ fn change_penalty_0_gives_3() {
 #[test]
 fn arrival_equal_to_the_previous_departure_gives_6() {
     let mut host = Host::new(6);
-    host.expect_read(M.replace("520", "503"), 6, 8);
-    host.expect_read(M.replace("520", "504"), 0, 10);
+    host.expect_read(M.replace("08:40", "08:23"), 6, 8);
+    host.expect_read(M.replace("08:40", "08:24"), 0, 10);
 }
 
 #[test]

@@ -104,7 +104,7 @@ fn texts_of_random_bytes() {
     let mut random = Random::new(13);
     for _ in 0..20_000 {
         let length = random.within(0..=60);
-        let text: Vec<u8> = (0..length).map(|_| random.pick(b"STST,,,,,,0012345678\n\n")).collect();
+        let text: Vec<u8> = (0..length).map(|_| random.pick(b"STST,,,,,,0012345678::\n\n")).collect();
         host.read(&text);
         let text: Vec<u8> = (0..length).map(|_| random.byte()).collect();
         host.read(&text);

@@ -10,7 +10,7 @@ use dairyepoch_tests::lent::damaged;
 use dairyepoch_tests::lines::{lines, same_way, LINE_WORDS, LINE_WORDS_MOST, WORK_WORDS};
 use dairyepoch_tests::random::Random;
 use dairyepoch_tests::reference::accepted;
-use dairyepoch_tests::timetable::Timetable;
+use dairyepoch_tests::timetable::{clock, Timetable};
 use dairyepoch_tests::words::{to_words, TIMETABLE_WORDS};
 
 #[rustfmt::skip]
@@ -65,8 +65,9 @@ fn text_lines(text: &str) -> Vec<Vec<u16>> {
 
 /// Trips from station 1 to 2, by departure and arrival.
 fn shuttles(times: &[(u16, u16)]) -> String {
-    let trip =
-        |(trip, (depart, arrive)): (usize, &(u16, u16))| format!("T,{trip},1,1,,{depart},0\nT,{trip},2,2,{arrive},,\n");
+    let trip = |(trip, &(depart, arrive)): (usize, &(u16, u16))| {
+        format!("T,{trip},1,1,,{},0\nT,{trip},2,2,{},,\n", clock(depart), clock(arrive))
+    };
     "S,1,0,1\nS,2,0,1\n".to_string() + &(1..).zip(times).map(trip).collect::<String>()
 }
 
@@ -91,8 +92,8 @@ fn m_leads_to_its_words() {
 
 #[test]
 fn case_f_overtaken_by_a_minute() {
-    assert_eq!(text_lines(&M.replace("520", "514")), [vec![1], vec![3], vec![2]]);
-    assert_eq!(text_lines(&M.replace("520", "515")), [vec![1], vec![3, 2]]);
+    assert_eq!(text_lines(&M.replace("08:40", "08:34")), [vec![1], vec![3], vec![2]]);
+    assert_eq!(text_lines(&M.replace("08:40", "08:35")), [vec![1], vec![3, 2]]);
 }
 
 #[test]
@@ -129,17 +130,17 @@ fn a_trip_is_held_against_the_last_of_a_line() {
 
 #[test]
 fn each_arrival_and_departure_counts() {
-    let first = [",100,0", "120,130,0", "150,,"];
+    let first = [",01:40,0", "02:00,02:10,0", "02:30,,"];
     for (second, lines) in [
         (first, 1),
-        ([",101,0", "120,130,0", "150,,"], 1),
-        ([",101,0", "119,130,0", "150,,"], 2),
-        ([",101,0", "121,129,0", "151,,"], 2),
-        ([",101,0", "121,131,0", "149,,"], 2),
-        ([",99,0", "120,130,0", "150,,"], 1),
-        ([",99,0", "121,130,0", "150,,"], 2),
-        ([",99,0", "120,131,0", "150,,"], 2),
-        ([",99,0", "120,130,0", "151,,"], 2),
+        ([",01:41,0", "02:00,02:10,0", "02:30,,"], 1),
+        ([",01:41,0", "01:59,02:10,0", "02:30,,"], 2),
+        ([",01:41,0", "02:01,02:09,0", "02:31,,"], 2),
+        ([",01:41,0", "02:01,02:11,0", "02:29,,"], 2),
+        ([",01:39,0", "02:00,02:10,0", "02:30,,"], 1),
+        ([",01:39,0", "02:01,02:10,0", "02:30,,"], 2),
+        ([",01:39,0", "02:00,02:11,0", "02:30,,"], 2),
+        ([",01:39,0", "02:00,02:10,0", "02:31,,"], 2),
     ] {
         assert_eq!(text_lines(&two_trips([first, second])).len(), lines, "{second:?}");
     }
@@ -147,16 +148,22 @@ fn each_arrival_and_departure_counts() {
 
 #[test]
 fn each_penalty_and_station_counts() {
-    let first = [",100,5", "120,130,0", "150,,"];
-    for second in [[",100,4", "120,130,0", "150,,"], [",100,5", "120,130,1", "150,,"], [",100,0", "120,130,5", "150,,"]]
-    {
+    let first = [",01:40,5", "02:00,02:10,0", "02:30,,"];
+    for second in [
+        [",01:40,4", "02:00,02:10,0", "02:30,,"],
+        [",01:40,5", "02:00,02:10,1", "02:30,,"],
+        [",01:40,0", "02:00,02:10,5", "02:30,,"],
+    ] {
         assert_eq!(text_lines(&two_trips([first, second])), [[1], [2]], "{second:?}");
     }
     let stations = "S,1,0,1\nS,2,0,1\nS,3,0,1\n";
     for (one, other) in [([1, 2, 3], [1, 2, 1]), ([1, 2, 3], [2, 1, 3]), ([1, 2, 1], [3, 2, 1]), ([1, 2, 1], [1, 3, 1])]
     {
         let trip = |trip: usize, way: [usize; 3]| {
-            format!("T,{trip},1,{},,0,0\nT,{trip},2,{},1,1,0\nT,{trip},3,{},2,,\n", way[0], way[1], way[2])
+            format!(
+                "T,{trip},1,{},,00:00,0\nT,{trip},2,{},00:01,00:01,0\nT,{trip},3,{},00:02,,\n",
+                way[0], way[1], way[2]
+            )
         };
         let text = |second| stations.to_string() + &trip(1, one) + &trip(2, second);
         assert_eq!(text_lines(&text(other)), [[1], [2]]);
@@ -166,8 +173,8 @@ fn each_penalty_and_station_counts() {
 
 #[test]
 fn a_trip_that_goes_on_is_on_another_line() {
-    let short = "T,1,1,1,,0,0\nT,1,2,2,1,,\n";
-    let long = "T,2,1,1,,0,0\nT,2,2,2,1,1,0\nT,2,3,1,2,,\n";
+    let short = "T,1,1,1,,00:00,0\nT,1,2,2,00:01,,\n";
+    let long = "T,2,1,1,,00:00,0\nT,2,2,2,00:01,00:01,0\nT,2,3,1,00:02,,\n";
     assert_eq!(text_lines(&format!("S,1,0,1\nS,2,0,1\n{short}{long}")), [[1], [2]]);
     let long = long.replace("T,2,", "T,1,");
     let short = short.replace("T,1,", "T,2,");
@@ -176,7 +183,7 @@ fn a_trip_that_goes_on_is_on_another_line() {
 
 #[test]
 fn a_station_met_twice_is_listed_twice() {
-    let text = two_trips([[",7,1", "8,9,2", "10,,"], [",7,1", "9,9,2", "11,,"]]);
+    let text = two_trips([[",00:07,1", "00:08,00:09,2", "00:10,,"], [",00:07,1", "00:09,00:09,2", "00:11,,"]]);
     #[rustfmt::skip]
     let words = [
         2, 1, 2, 27,

@@ -38,7 +38,7 @@ fn case_e_the_lines_of_m() {
 
 #[test]
 fn case_f_three_lines() {
-    let overtaken = accepted(&M.replace("520", "514"));
+    let overtaken = accepted(&M.replace("08:40", "08:34"));
     let tables = lent(lines::to_words(&overtaken), &mut Random::new(3));
     let mut host = Host::new(4);
     let trips = [1, 2, 3].map(|line| tables[host.line_trips(&tables, line).piece()].to_vec());

@@ -340,7 +340,7 @@ fn trips_on_other_lines() {
 fn overtaking_trips_on_one_line() {
     let mut host = Host::new(27);
     let mut random = Random::new(28);
-    let overtaken = accepted(&M.replace("520", "514"));
+    let overtaken = accepted(&M.replace("08:40", "08:34"));
     let words = lent(to_words(&overtaken), &mut random);
     for (lines, are) in [
         (&[vec![0], vec![2], vec![1]][..], true),

@@ -69,11 +69,11 @@ fn m_with_other_changes() {
     // with 2 change minutes trip 3 is caught, which dominates trip 2; the pattern is the same
     assert_eq!(store(&M.replace("S,2,3,10", "S,2,2,10"), 1), Ok(vec![1, 3, 2, 0, 2, 0, 3, 0, 3, 1]));
     // where staying aboard arrives as early, the change is dominated
-    assert_eq!(store(&M.replace("T,1,3,3,560", "T,1,3,3,520"), 1), Ok(vec![0, 2, 2, 0, 3, 0]));
-    assert_eq!(store(&M.replace("T,1,3,3,560", "T,1,3,3,521"), 1), Ok(vec![1, 3, 2, 0, 2, 0, 3, 0, 3, 1]));
+    assert_eq!(store(&M.replace("T,1,3,3,09:20", "T,1,3,3,08:40"), 1), Ok(vec![0, 2, 2, 0, 3, 0]));
+    assert_eq!(store(&M.replace("T,1,3,3,09:20", "T,1,3,3,08:41"), 1), Ok(vec![1, 3, 2, 0, 2, 0, 3, 0, 3, 1]));
     // where staying aboard costs as much as the change, it is dominated
-    assert_eq!(store(&M.replace("501,0", "501,10"), 1), Ok(vec![1, 2, 2, 0, 2, 0, 3, 1]));
-    assert_eq!(store(&M.replace("501,0", "501,9"), 1), Ok(vec![1, 3, 2, 0, 2, 0, 3, 0, 3, 1]));
+    assert_eq!(store(&M.replace("08:21,0", "08:21,10"), 1), Ok(vec![1, 2, 2, 0, 2, 0, 3, 1]));
+    assert_eq!(store(&M.replace("08:21,0", "08:21,9"), 1), Ok(vec![1, 3, 2, 0, 2, 0, 3, 0, 3, 1]));
     // change minutes at the source and the target are nobody's
     assert_eq!(store(&M.replace("S,1,2,10", "S,1,240,10").replace("S,3,5,10", "S,3,240,10"), 1), store(M, 1));
 }
@@ -109,7 +109,8 @@ fn equal_costs_are_all_stored() {
     // one minute or one point more and only those who miss the bus to 2 go by 3
     assert_eq!(sequences(&ways(1, 0), 1), [vec![2], vec![2, 4], vec![3], vec![3, 4]]);
     // and with the bus to 3 leaving as early, nobody does
-    let early = |text: String| text.replace("T,2,1,3,,11", "T,2,1,3,,10").replace("T,2,1,1,,11", "T,2,1,1,,10");
+    let early =
+        |text: String| text.replace("T,2,1,3,,00:11", "T,2,1,3,,00:10").replace("T,2,1,1,,00:11", "T,2,1,1,,00:10");
     assert_eq!(sequences(&early(ways(0, 0)), 1), [vec![2], vec![2, 4], vec![3], vec![3, 4]]);
     assert_eq!(sequences(&early(ways(1, 0)), 1), [vec![2], vec![2, 4], vec![3]]);
     assert_eq!(sequences(&early(ways(0, 1)), 1), [vec![2], vec![2, 4], vec![3]]);

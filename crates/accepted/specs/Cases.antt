@@ -1,21 +1,24 @@
--- Case k and timetable M of document 01, and its "run only" cases of reading, by computation.
+-- Case k and timetable M of document 01, its "run only" cases of reading, and the edges of times, by computation. "M
+-- and the cases are rewritten in it, with 47:59 and 48:00 for 2,879 and 2,880."
 use mathlib.Core.Path.{_≡_, refl}
 use mathlib.Core.List.{List, [], _∷_, _++_}
 use Prim.Native.Nat.{ℕ, zero, suc, _+_}
 use Prim.Native.Char.{code}
 use Prim.Native.String.{String, len, charAt}
 use lib.ListN.{replicate}
-use Rattle.text.specs.Number.{digitValue, decimal, fieldValue, fieldValues}
+use Rattle.text.specs.Number.{digitValue, decimal, fieldValue}
+use Rattle.text.specs.Time.{pairValue, isTime, minuteOf, timeValue}
 use Rattle.text.specs.Piece.{pieces}
 use Rattle.text.specs.Range.{inRange}
-use Rattle.text.specs.Shape.{stationOf, stationShape, arriveFits, departFits, filled, stopOf, stopShape, shapeOf}
+use Rattle.text.specs.Shape.{stationOf, stationShape, arriveFits, departFits, filled, stopOf, stopShape, shapeBy}
 use Rattle.timetable.specs.Timetable.{Station, Stop, Timetable}
 use Rattle.timetable.specs.Worked.{station, stop, variant, M}
 use Rattle.timetable.specs.Words.{stationWords, stopWords, startWords, words}
 use Rattle.reading.specs.Draft.{stationNumber, comesAfter, stopFits, stopNumber}
-use Rattle.reading.specs.Reading.{Outcome, Accepted, Refused, ended, readFrom, readLines, reading}
+use Rattle.reading.specs.Reading.{Outcome, Accepted, Refused, ended, readBy, readLines, reading}
 use Rattle.accepted.specs.Marks.{lined, fielded}
 use Rattle.accepted.specs.Digits.{digits}
+use Rattle.accepted.specs.Clock.{clock}
 use Rattle.accepted.specs.WrittenOut.{stationLine, stationLines, stopLine, stopLines, tripLines, linesOf, textOf}
 
 -- ---- a text's bytes, and what reading makes of them
@@ -32,10 +35,10 @@ readAll : List ℕ → Outcome
 unfolding
     reading
     readLines
-    readFrom
+    readBy
     ended
     pieces
-    shapeOf
+    shapeBy
     stationShape
     stationOf
     stopShape
@@ -43,8 +46,11 @@ unfolding
     arriveFits
     departFits
     filled
-    fieldValues
     fieldValue
+    timeValue
+    isTime
+    minuteOf
+    pairValue
     decimal
     digitValue
     stationNumber
@@ -63,9 +69,9 @@ case-k = refl
 unfoldable pub textM : List ℕ
 textM =
     bytes "S,1,2,10\nS,2,3,10\nS,3,5,10\n"
-    ++ bytes "T,1,1,1,,480,0\nT,1,2,2,500,501,0\nT,1,3,3,560,,\n"
-    ++ bytes "T,2,1,2,,503,0\nT,2,2,3,520,,\n"
-    ++ bytes "T,3,1,2,,502,0\nT,3,2,3,515,,\n"
+    ++ bytes "T,1,1,1,,08:00,0\nT,1,2,2,08:20,08:21,0\nT,1,3,3,09:20,,\n"
+    ++ bytes "T,2,1,2,,08:23,0\nT,2,2,3,08:40,,\n"
+    ++ bytes "T,3,1,2,,08:22,0\nT,3,2,3,08:35,,\n"
 
 pub M-accepted : reading textM ≡ Accepted M 10
 unfolding readAll bytes textM M variant
@@ -82,6 +88,7 @@ unfolding
     stationLine
     stopLine
     digits
+    clock
     lined
     fielded
     bytes
@@ -102,17 +109,39 @@ unfolding words stationWords stopWords startWords M variant
 M-words = refl
 
 -- ---- "Run only": time 2,879 passes, 2,880 gives 3
-pub last-minute-passes : reading (bytes "S,1,2,10\nS,2,3,10\nT,1,1,1,,480,0\nT,1,2,2,2879,,\n")
+-- a text whose fourth line is the last stop of a trip, with the arrival given
+unfoldable pub arrivingAt : String → List ℕ
+arrivingAt arrive = bytes "S,1,2,10\nS,2,3,10\nT,1,1,1,,08:00,0\nT,1,2,2," ++ bytes arrive ++ bytes ",,\n"
+
+pub last-minute-passes : reading (arrivingAt "47:59")
     ≡ Accepted (record {
       stations = station 2 10 ∷ station 3 10 ∷ [];
       trips = (stop 1 0 480 0 ∷ stop 2 2879 0 0 ∷ []) ∷ [];
     }) 4
-unfolding readAll bytes
+unfolding readAll bytes arrivingAt
 last-minute-passes = refl
 
-pub minute-past-range : reading (bytes "S,1,2,10\nS,2,3,10\nT,1,1,1,,480,0\nT,1,2,2,2880,,\n") ≡ Refused 3 4
-unfolding readAll bytes
-minute-past-range = refl
+-- "Minutes above 59 or hours above 47 give 3"
+pub time-past-range : (reading (arrivingAt "48:00") ≡ Refused 3 4)
+    × (reading (arrivingAt "00:60") ≡ Refused 3 4)
+    × (reading (arrivingAt "24:60") ≡ Refused 3 4)
+    × (reading (arrivingAt "99:99") ≡ Refused 3 4)
+unfolding readAll bytes arrivingAt
+time-past-range = (refl, refl, refl, refl)
+
+-- "another form 2"; "the plain minute is dropped there"
+pub no-time : (reading (arrivingAt "480") ≡ Refused 2 4)
+    × (reading (arrivingAt "8:20") ≡ Refused 2 4)
+    × (reading (arrivingAt "08:2") ≡ Refused 2 4)
+    × (reading (arrivingAt "008:20") ≡ Refused 2 4)
+    × (reading (arrivingAt "08:20:00") ≡ Refused 2 4)
+    × (reading (arrivingAt "0820") ≡ Refused 2 4)
+    × (reading (arrivingAt "08-20") ≡ Refused 2 4)
+    × (reading (arrivingAt ":") ≡ Refused 2 4)
+    × (reading (arrivingAt " 8:20") ≡ Refused 2 4)
+    × (reading (arrivingAt "") ≡ Refused 2 4)
+unfolding readAll bytes arrivingAt
+no-time = (refl, refl, refl, refl, refl, refl, refl, refl, refl, refl)
 
 -- "change penalty 0 gives 3"
 pub penalty-below-range : reading (bytes "S,1,2,0\n") ≡ Refused 3 1
@@ -120,8 +149,8 @@ unfolding readAll bytes
 penalty-below-range = refl
 
 -- "arrival equal to the previous departure gives 6"
-pub arrival-not-after : reading (bytes "S,1,2,10\nS,2,3,10\nT,1,1,1,,480,0\nT,1,2,2,480,,\n") ≡ Refused 6 4
-unfolding readAll bytes
+pub arrival-not-after : reading (arrivingAt "08:00") ≡ Refused 6 4
+unfolding readAll bytes arrivingAt
 arrival-not-after = refl
 
 -- "a 65th station gives 5"

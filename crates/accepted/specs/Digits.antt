@@ -34,7 +34,7 @@ wellWritten n =
     && leb (length (digits n)) (cond (ltb n 1000) 3 4)
     && leb (length (digits n)) (cond (ltb n 100) 2 4)
 
-abbrev allBelow : (ℕ → Bool) → ℕ → Bool
+abbrev pub allBelow : (ℕ → Bool) → ℕ → Bool
 allBelow p zero = true
 allBelow p (suc n) = p n && allBelow p n
 
@@ -42,7 +42,7 @@ all-well-written : allBelow wellWritten 10000 ≡ true
 unfolding wellWritten digits digitsBefore above fieldValue decimal digitValue
 all-well-written = refl
 
-allBelow-at : (p : ℕ → Bool) (m n : ℕ) → allBelow p m ≡ true → n < m → p n ≡ true
+pub allBelow-at : (p : ℕ → Bool) (m n : ℕ) → allBelow p m ≡ true → n < m → p n ≡ true
 allBelow-at p zero n e h = absurd (omega arith)
 allBelow-at p (suc m) n e h = by-test (eqb n m) refl (allBelow-at p m n (and-right (p m) (allBelow p m) e))
   where

@@ -8,6 +8,7 @@ pub mod Passes
 -- from a valid timetable to a text that is accepted
 pub mod Marks
 pub mod Digits
+pub mod Clock
 pub mod WrittenOut
 pub mod LineReadBack
 pub mod TextReadBack

@@ -1,21 +1,25 @@
 -- A line written out from a valid timetable has its shape, and reads back to the values that were written. It holds no
--- byte 10; a station's line has at most 14 bytes, a stop's at most 28, their byte 10 counted.
+-- byte 10; a station's line has at most 14 bytes, a stop's at most 30, their byte 10 counted.
 use mathlib.Core.Path.{_≡_, refl, sym}
 use mathlib.Core.Bool.{Bool, true, false, cond}
-use mathlib.Core.List.{[]}
+use mathlib.Core.List.{List, []}
 use Prim.Native.Nat.{ℕ, _≤_, _<_}
 use lib.Dec.{leb, eqb}
 use lib.ListN.{length, length-append}
 use native.Mathlib.Omega.{arith}
 use borrow.Author.Tests.{le-leb, eqb-true, ne-eqb}
-use Rattle.text.specs.Number.{fieldValue, fieldValues, emptyField}
-use Rattle.text.specs.Shape.{stationOf, stationShape, arriveFits, departFits, filled, stopOf, stopShape, shapeOf}
+use Rattle.text.specs.Number.{fieldValue, emptyField}
+use Rattle.text.specs.Time.{timeValue}
+use Rattle.text.specs.Shape.{stationOf, stationShape, arriveFits, departFits, filled, stopOf, stopShape, shapeBy}
+use Rattle.text.specs.Shape.{shapeOf}
 use Rattle.text.specs.declared.Line.{Line}
 use Rattle.text.specs.declared.Line.the-variants.{Station as StationIn, Stop as StopIn}
-use Rattle.timetable.specs.Timetable.{stationsMost, tripsMost, stopsMost, Station, Stop, validStation}
+use Rattle.timetable.specs.Timetable.{stationsMost, tripsMost, stopsMost, lastMinute, Station, Stop}
+use Rattle.timetable.specs.Timetable.{validStation}
 use Rattle.accepted.specs.Valid.{ValidStation, Ends, StopRanges, valid-station}
-use Rattle.accepted.specs.Marks.{above, allAbove, fielded, above-fielded, pieces-fielded}
+use Rattle.accepted.specs.Marks.{above, allAbove, fielded, above-fielded, all-free, pieces-fielded}
 use Rattle.accepted.specs.Digits.{digits, digits-value, digits-above, four-bytes, three-bytes, two-bytes}
+use Rattle.accepted.specs.Clock.{clock, clock-value, clock-above, five-bytes}
 use Rattle.accepted.specs.WrittenOut.{stationFields, stopFields, stationLine, emptyOr, stopLine}
 
 -- ---- what reading sees in a written line
@@ -39,18 +43,26 @@ empty-value : fieldValue [] ≡ emptyField
 unfolding fieldValue
 empty-value = refl
 
-field-value : (empty : Bool) (n : ℕ) → n ≤ 9999 → fieldValue (emptyOr empty n) ≡ cond empty emptyField n
+field-value : (empty : Bool) (n : ℕ) → n ≤ 9999 → fieldValue (emptyOr empty (digits n)) ≡ cond empty emptyField n
 field-value true n h = empty-value
 field-value false n h = digits-value n h
 
-field-above : (empty : Bool) (n : ℕ) → n ≤ 9999 → above 44 (emptyOr empty n) ≡ true
-unfolding above
-field-above true n h = refl
-field-above false n h = digits-above n h
+no-time : timeValue [] ≡ emptyField
+unfolding timeValue
+no-time = refl
 
-field-short : (empty : Bool) (n most : ℕ) → length (digits n) ≤ most → length (emptyOr empty n) ≤ most
-field-short true n most h = omega arith
-field-short false n most h = h
+time-value : (empty : Bool) (n : ℕ) → n ≤ lastMinute → timeValue (emptyOr empty (clock n)) ≡ cond empty emptyField n
+time-value true n h = no-time
+time-value false n h = clock-value n h
+
+field-above : (empty : Bool) (f : List ℕ) → above 44 f ≡ true → above 44 (emptyOr empty f) ≡ true
+unfolding above
+field-above true f h = refl
+field-above false f h = h
+
+field-short : (empty : Bool) (f : List ℕ) (most : ℕ) → length f ≤ most → length (emptyOr empty f) ≤ most
+field-short true f most h = omega arith
+field-short false f most h = h
 
 -- ---- a station's line
 module _ (n : ℕ) (s : Station) (h : n ≤ stationsMost) (v : validStation s ≡ true) where
@@ -67,9 +79,9 @@ module _ (n : ℕ) (s : Station) (h : n ≤ stationsMost) (v : validStation s �
       )
 
   pub station-shape : shapeOf (stationLine n s) ≡ stationRead n s
-  unfolding shapeOf stationLine fieldValues stationShape stationOf
+  unfolding shapeBy stationLine stationShape stationOf
   station-shape =
-      rw (pieces-fielded _ _ station-fields)
+      rw (pieces-fielded _ _ (all-free 44 _ station-fields))
       (simp (
         digits-value n (omega arith),
         digits-value (s .minutes) (omega (arith, ranges)),
@@ -136,21 +148,21 @@ module _ (trip k : ℕ) (s : Stop) (last : Bool) (w : Writable trip k s last) wh
         digits-above trip (omega arith),
         digits-above k (omega arith),
         digits-above (s .station) (omega arith),
-        field-above (eqb k 1) (s .arrive) (omega arith),
-        field-above last (s .depart) (omega arith),
-        field-above last (s .points) (omega arith),
+        field-above (eqb k 1) (clock (s .arrive)) (clock-above (s .arrive) (omega arith)),
+        field-above last (clock (s .depart)) (clock-above (s .depart) (omega arith)),
+        field-above last (digits (s .points)) (digits-above (s .points) (omega arith)),
       )
 
   pub stop-shape : shapeOf (stopLine trip k s last) ≡ stopRead trip k s last
-  unfolding shapeOf stopLine fieldValues stopShape stopOf
+  unfolding shapeBy stopLine stopShape stopOf
   stop-shape =
-      rw (pieces-fielded _ _ stop-fields)
+      rw (pieces-fielded _ _ (all-free 44 _ stop-fields))
       (simp (
         digits-value trip (omega arith),
         digits-value k (omega arith),
         digits-value (s .station) (omega arith),
-        field-value (eqb k 1) (s .arrive) (omega arith),
-        field-value last (s .depart) (omega arith),
+        time-value (eqb k 1) (s .arrive) (omega arith),
+        time-value last (s .depart) (omega arith),
         field-value last (s .points) (omega arith),
         le-leb trip 9999 (omega arith),
         le-leb k 9999 (omega arith),
@@ -167,7 +179,7 @@ module _ (trip k : ℕ) (s : Stop) (last : Bool) (w : Writable trip k s last) wh
   unfolding stopLine above
   stop-above = above-fielded (stopFields trip k s last) stop-fields
 
-  pub stop-short : length (stopLine trip k s last) < 28
+  pub stop-short : length (stopLine trip k s last) < 30
   unfolding stopLine fielded
   stop-short =
       simp length-append
@@ -176,7 +188,7 @@ module _ (trip k : ℕ) (s : Stop) (last : Bool) (w : Writable trip k s last) wh
         three-bytes trip (omega arith),
         four-bytes k (omega arith),
         two-bytes (s .station) (omega arith),
-        field-short (eqb k 1) (s .arrive) 4 (four-bytes (s .arrive) (omega arith)),
-        field-short last (s .depart) 4 (four-bytes (s .depart) (omega arith)),
-        field-short last (s .points) 3 (three-bytes (s .points) (omega arith)),
+        field-short (eqb k 1) (clock (s .arrive)) 5 (omega (arith, five-bytes (s .arrive))),
+        field-short last (clock (s .depart)) 5 (omega (arith, five-bytes (s .depart))),
+        field-short last (digits (s .points)) 3 (three-bytes (s .points) (omega arith)),
       ))

@@ -89,20 +89,38 @@ above-fielded (f ∷ g ∷ l) e =
     (above-lower 10 44 f (omega arith) (and-left (above 44 f) (allAbove 44 (g ∷ l)) e))
     (above-fielded (g ∷ l) (and-right (above 44 f) (allAbove 44 (g ∷ l)) e))
 
--- ---- the pieces
-pub one-piece : (mark : ℕ) (s : List ℕ) → above mark s ≡ true → pieces mark s ≡ s ∷ []
-unfolding pieces
-one-piece mark [] e = refl
-one-piece mark (b ∷ s) e =
-    rw (ne-eqb b mark (omega (arith, above-first mark b s e)))
-    (ap (joined b) (one-piece mark s (above-rest mark b s e)))
+-- ---- no byte is the mark
+abbrev pub Free : ℕ → List ℕ → Type 0
+Free mark [] = Unit {0}
+Free mark (b ∷ s) = (b ≡ mark → ⊥) × Free mark s
 
-pub piece-before : (mark : ℕ) (s t : List ℕ) → above mark s ≡ true → pieces mark (s ++ mark ∷ t) ≡ s ∷ pieces mark t
+abbrev pub AllFree : ℕ → List (List ℕ) → Type 0
+AllFree mark [] = Unit {0}
+AllFree mark (s ∷ l) = Free mark s × AllFree mark l
+
+pub free-above : (mark : ℕ) (s : List ℕ) → above mark s ≡ true → Free mark s
+free-above mark [] e = tt
+free-above mark (b ∷ s) e =
+    ((λ same. omega (arith, above-first mark b s e)), free-above mark s (above-rest mark b s e))
+
+pub all-free : (mark : ℕ) (l : List (List ℕ)) → allAbove mark l ≡ true → AllFree mark l
+unfolding allAbove
+all-free mark [] e = tt
+all-free mark (s ∷ l) e = (
+  free-above mark s (and-left (above mark s) (allAbove mark l) e),
+  all-free mark l (and-right (above mark s) (allAbove mark l) e),
+)
+
+-- ---- the pieces
+pub one-piece : (mark : ℕ) (s : List ℕ) → Free mark s → pieces mark s ≡ s ∷ []
 unfolding pieces
-piece-before mark [] t e = rw (eq-eqb mark mark refl)
-piece-before mark (b ∷ s) t e =
-    rw (ne-eqb b mark (omega (arith, above-first mark b s e)))
-    (ap (joined b) (piece-before mark s t (above-rest mark b s e)))
+one-piece mark [] free = refl
+one-piece mark (b ∷ s) free = rw (ne-eqb b mark (free .0)) (ap (joined b) (one-piece mark s (free .1)))
+
+pub piece-before : (mark : ℕ) (s t : List ℕ) → Free mark s → pieces mark (s ++ mark ∷ t) ≡ s ∷ pieces mark t
+unfolding pieces
+piece-before mark [] t free = rw (eq-eqb mark mark refl)
+piece-before mark (b ∷ s) t free = rw (ne-eqb b mark (free .0)) (ap (joined b) (piece-before mark s t (free .1)))
 
 pub bytes-lined : (l : List (List ℕ)) → allAbove 10 l ≡ true → Below 256 (lined l)
 unfolding allAbove lined
@@ -115,13 +133,11 @@ pub pieces-lined : (l : List (List ℕ)) → allAbove 10 l ≡ true → pieces 1
 unfolding allAbove lined pieces
 pieces-lined [] e = refl
 pieces-lined (s ∷ l) e =
-    piece-before 10 s (lined l) (and-left (above 10 s) (allAbove 10 l) e)
+    piece-before 10 s (lined l) (free-above 10 s (and-left (above 10 s) (allAbove 10 l) e))
     ∙ ap (λ r. s ∷ r) (pieces-lined l (and-right (above 10 s) (allAbove 10 l) e))
 
-pub pieces-fielded : (f : List ℕ) (l : List (List ℕ)) → allAbove 44 (f ∷ l) ≡ true
-    → pieces 44 (fielded (f ∷ l)) ≡ f ∷ l
-unfolding allAbove fielded
-pieces-fielded f [] e = one-piece 44 f (and-left (above 44 f) true e)
-pieces-fielded f (g ∷ l) e =
-    piece-before 44 f (fielded (g ∷ l)) (and-left (above 44 f) (allAbove 44 (g ∷ l)) e)
-    ∙ ap (λ r. f ∷ r) (pieces-fielded g l (and-right (above 44 f) (allAbove 44 (g ∷ l)) e))
+pub pieces-fielded : (f : List ℕ) (l : List (List ℕ)) → AllFree 44 (f ∷ l) → pieces 44 (fielded (f ∷ l)) ≡ f ∷ l
+unfolding fielded
+pieces-fielded f [] free = one-piece 44 f (free .0)
+pieces-fielded f (g ∷ l) free =
+    piece-before 44 f (fielded (g ∷ l)) (free .0) ∙ ap (λ r. f ∷ r) (pieces-fielded g l (free .1))

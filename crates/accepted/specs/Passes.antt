@@ -7,13 +7,13 @@ use lib.Dec.{leb, ltb, eqb, leb·zero}
 use native.Mathlib.Omega.{arith}
 use borrow.Author.Tests.{not-true, leb-true, ltb-true, eqb-true, le-leb, lt-ltb, eq-eqb, ne-eqb}
 use Rattle.text.specs.Range.{inRange}
-use Rattle.text.specs.Shape.{shapeOf}
+use Rattle.text.specs.Shape.{shapeBy}
 use Rattle.text.specs.declared.StationLine.{StationLine}
 use Rattle.text.specs.declared.StopLine.{StopLine}
 use Rattle.timetable.specs.Timetable.{lastMinute, stationsMost, tripsMost, stopsMost}
 use Rattle.reading.specs.Draft.{Draft, withLine}
 use Rattle.reading.specs.Progress.{progress, stationNumberAt, stopFitsAt, stopNumberAt, lineNumberAt, same-number}
-use Rattle.reading.specs.Reading.{Refused, readFrom}
+use Rattle.reading.specs.Reading.{Refused, readBy}
 use Rattle.reading.specs.declared.Progress.{Progress}
 use Rattle.accepted.specs.Lists.{or-right, or-other, and-left, and-right}
 
@@ -147,11 +147,13 @@ module _ (p : Progress) (l : StopLine) where
       }
 
 -- ---- reading goes on behind such a line
-pub read-more : (d : Draft) (k : ℕ) (s u : List ℕ) (l : List (List ℕ)) → readFrom d k (s ∷ u ∷ l)
-    ≡ cond (eqb (lineNumberAt (progress d) (shapeOf s)) 0) (readFrom (withLine d (shapeOf s)) (k + 1) (u ∷ l))
-    (Refused (lineNumberAt (progress d) (shapeOf s)) k)
-unfolding readFrom
-read-more d k s u l =
+pub read-more : (time : List ℕ → ℕ) (d : Draft) (k : ℕ) (s u : List ℕ) (l : List (List ℕ))
+    → readBy time d k (s ∷ u ∷ l)
+    ≡ cond (eqb (lineNumberAt (progress d) (shapeBy time s)) 0)
+    (readBy time (withLine d (shapeBy time s)) (k + 1) (u ∷ l))
+    (Refused (lineNumberAt (progress d) (shapeBy time s)) k)
+unfolding readBy
+read-more time d k s u l =
     ap
-    (λ n. cond (eqb n 0) (readFrom (withLine d (shapeOf s)) (k + 1) (u ∷ l)) (Refused n k))
-    (same-number d (shapeOf s))
+    (λ n. cond (eqb n 0) (readBy time (withLine d (shapeBy time s)) (k + 1) (u ∷ l)) (Refused n k))
+    (same-number d (shapeBy time s))

@@ -13,6 +13,7 @@ use native.Mathlib.Omega.{arith}
 use borrow.Author.Tests.{leb-true, le-leb}
 use Rattle.words.specs.Put.{put}
 use Rattle.text.specs.Piece.{pieces}
+use Rattle.text.specs.Time.{timeValue}
 use Rattle.text.specs.Shape.{shapeOf}
 use Rattle.timetable.specs.Timetable.{Timetable, valid}
 use Rattle.timetable.specs.Words.{words, timetableOf, isTimetable}
@@ -20,7 +21,8 @@ use Rattle.reading.specs.declared.Reply.{Reply}
 use Rattle.reading.specs.declared.Reply.the-variants.{Refused as ReplyRefused}
 use Rattle.reading.specs.Draft.{Draft, blank, withLine}
 use Rattle.reading.specs.Progress.{progress, lineNumberAt}
-use Rattle.reading.specs.Reading.{Outcome, Accepted, Refused, ended, readFrom, textMost, readLines, reading}
+use Rattle.reading.specs.Reading.{Outcome, Accepted, Refused, ended, readBy, readFrom, textMost, readLines}
+use Rattle.reading.specs.Reading.{reading}
 use Rattle.reading.specs.Reading.{slicesLeast, replyTo, readReply, readWords, numberOf}
 use Rattle.accepted.specs.Lists.{both, Below}
 use Rattle.accepted.specs.Valid.{Valid, is-valid}
@@ -135,14 +137,14 @@ end-numbered d line =
     (Accepted whole (line - 1)) (Refused 7 line) tt (omega arith)
 
 from-numbered : (d : Draft) (line : ℕ) (l : List (List ℕ)) → Numbered (readFrom d line l)
-unfolding readFrom
+unfolding readBy
 from-numbered d line [] = end-numbered d line
 from-numbered d line (s ∷ []) =
     either-numbered (eqb (length s) 0) (ended d line) (Refused 2 line) (end-numbered d line) (omega arith)
 from-numbered d line (s ∷ u ∷ l) =
     let number = lineNumberAt (progress d) (shapeOf s) in
     let after = withLine d (shapeOf s) in
-    subst Numbered (sym (read-more d line s u l))
+    subst Numbered (sym (read-more timeValue d line s u l))
     (line-numbered number line (readFrom after (line + 1) (u ∷ l)) (from-numbered after (line + 1) (u ∷ l)))
 
 reading-numbered : (text : List ℕ) → Numbered (reading text)

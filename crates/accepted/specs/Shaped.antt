@@ -7,7 +7,7 @@ use Prim.Native.Nat.{ℕ}
 use lib.Dec.{eqb}
 use borrow.Author.Tests.{eq-eqb, eqb-false, not-true}
 use Rattle.text.specs.Number.{emptyField}
-use Rattle.text.specs.Shape.{stationOf, stationShape, arriveFits, departFits, filled, stopOf, stopShape, shapeOf}
+use Rattle.text.specs.Shape.{stationOf, stationShape, arriveFits, departFits, filled, stopOf, stopShape, shapeBy}
 use Rattle.text.specs.declared.Line.{Line}
 use Rattle.text.specs.declared.Line.the-variants.{Station as StationIn, Stop as StopIn, Shapeless}
 use Rattle.text.specs.declared.StationLine.{StationLine}
@@ -91,6 +91,6 @@ stop-shaped : (trip stop station arrive depart points : ℕ) → Shaped (stopOf 
 unfolding stopOf
 stop-shaped trip stop station arrive depart points = search (either-shaped, a-stop, shapeless, fields-shaped)
 
-pub shaped : (s : List ℕ) → Shaped (shapeOf s)
-unfolding shapeOf stationShape stopShape
-shaped s = search (either-shaped, shapeless, station-shaped, stop-shaped)
+pub shaped : (time : List ℕ → ℕ) (s : List ℕ) → Shaped (shapeBy time s)
+unfolding shapeBy stationShape stopShape
+shaped time s = search (either-shaped, shapeless, station-shaped, stop-shaped)

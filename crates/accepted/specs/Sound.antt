@@ -11,7 +11,8 @@ use native.Mathlib.Nat.{eq-zero-or-pos}
 use native.Mathlib.Omega.{arith}
 use borrow.Author.Tests.{leb-true, eqb-true, le-leb, lt-ltb, eq-eqb}
 use Rattle.text.specs.Piece.{pieces}
-use Rattle.text.specs.Shape.{shapeOf}
+use Rattle.text.specs.Time.{timeValue}
+use Rattle.text.specs.Shape.{shapeBy}
 use Rattle.text.specs.declared.Line.{Line}
 use Rattle.text.specs.declared.Line.the-variants.{Station as StationIn, Stop as StopIn, Shapeless}
 use Rattle.text.specs.declared.StationLine.{StationLine}
@@ -22,7 +23,8 @@ use Rattle.timetable.specs.Timetable.{counted, valid}
 use Rattle.reading.specs.Draft.{Draft, blank, final, stationOfLine, stopOfLine, withStop}
 use Rattle.reading.specs.Progress.{progress, lineNumberAt}
 use Rattle.reading.specs.Draft.{withLine}
-use Rattle.reading.specs.Reading.{textMost, Outcome, Accepted, Refused, ended, readFrom, readLines, reading}
+use Rattle.reading.specs.Reading.{textMost, Outcome, Accepted, Refused, ended, readBy, readFrom}
+use Rattle.reading.specs.Reading.{readLines, reading}
 use Rattle.accepted.specs.Lists.{snoc-length, and-left, or-other}
 use Rattle.accepted.specs.Valid.{trip-not-empty, stopsOf-append}
 use Rattle.accepted.specs.Passes.{StopPasses, station-passed, stop-passed, fits-least, fits-most, fits-after}
@@ -173,7 +175,7 @@ accepted-test : (test : Bool) (x : Outcome) (k l : ℕ) (t : Timetable) (n : ℕ
 accepted-test true x k l t n e = refl
 accepted-test false x k l t n e = cc
 
-accepted-yes : (test : Bool) (x : Outcome) (k l : ℕ) (t : Timetable) (n : ℕ)
+pub accepted-yes : (test : Bool) (x : Outcome) (k l : ℕ) (t : Timetable) (n : ℕ)
     → cond test x (Refused k l) ≡ Accepted t n → x ≡ Accepted t n
 accepted-yes true x k l t n e = e
 accepted-yes false x k l t n e = cc
@@ -202,25 +204,30 @@ ended-valid d line t n h e =
     let same : whole ≡ t = cc it in
     subst (λ z. valid z ≡ true) same (draft-valid d h (search (and-left, leb-true)))
 
-accepted-from : (d : Draft) (line : ℕ) (l : List (List ℕ)) (t : Timetable) (n : ℕ) → Sound d
-    → readFrom d line l ≡ Accepted t n → valid t ≡ true
-unfolding readFrom
-accepted-from d line [] t n h e = ended-valid d line t n h e
-accepted-from d line (s ∷ []) t n h e =
+accepted-from : (time : List ℕ → ℕ) (d : Draft) (line : ℕ) (l : List (List ℕ)) (t : Timetable) (n : ℕ) → Sound d
+    → readBy time d line l ≡ Accepted t n → valid t ≡ true
+unfolding readBy
+accepted-from time d line [] t n h e = ended-valid d line t n h e
+accepted-from time d line (s ∷ []) t n h e =
     ended-valid d line t n h (accepted-yes (eqb (length s) 0) (ended d line) 2 line t n e)
-accepted-from d line (s ∷ u ∷ l) t n h e =
-    let number = lineNumberAt (progress d) (shapeOf s) in
-    let rest = readFrom (withLine d (shapeOf s)) (line + 1) (u ∷ l) in
-    let reads = sym (read-more d line s u l) ∙ e in
-    accepted-from (withLine d (shapeOf s)) (line + 1) (u ∷ l) t n
-    (sound-line d (shapeOf s) (shaped s)
+accepted-from time d line (s ∷ u ∷ l) t n h e =
+    let number = lineNumberAt (progress d) (shapeBy time s) in
+    let rest = readBy time (withLine d (shapeBy time s)) (line + 1) (u ∷ l) in
+    let reads = sym (read-more time d line s u l) ∙ e in
+    accepted-from time (withLine d (shapeBy time s)) (line + 1) (u ∷ l) t n
+    (sound-line d (shapeBy time s) (shaped time s)
     (eqb-true number 0 (accepted-test (eqb number 0) rest number line t n reads)) h)
     (accepted-yes (eqb number 0) rest number line t n reads)
+
+-- whatever reads the times
+pub lines-valid : (time : List ℕ → ℕ) (lines : List (List ℕ)) (t : Timetable) (n : ℕ)
+    → readBy time blank 1 lines ≡ Accepted t n → valid t ≡ true
+lines-valid time lines t n e = accepted-from time blank 1 lines t n sound-blank e
 
 pub accepted-valid : (text : List ℕ) (t : Timetable) (n : ℕ) → reading text ≡ Accepted t n → valid t ≡ true
 unfolding reading readLines
 accepted-valid text t n e =
-    accepted-from blank 1 (pieces 10 text) t n sound-blank
+    lines-valid timeValue (pieces 10 text) t n
     (accepted-yes (leb (length text) textMost) (readFrom blank 1 (pieces 10 text)) 1 0 t n e)
 
 -- "at most .. 65,536 bytes? 1"

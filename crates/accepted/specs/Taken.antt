@@ -10,6 +10,7 @@ use lib.Seq.{append-snoc}
 use native.Mathlib.Nat.{add-zero}
 use native.Mathlib.Omega.{arith}
 use borrow.Author.Tests.{le-leb}
+use Rattle.text.specs.Time.{timeValue}
 use Rattle.text.specs.Shape.{shapeOf}
 use Rattle.text.specs.declared.Line.{Line}
 use Rattle.timetable.specs.Timetable.{stationsMost, tripsMost, stopsMost, lastMinute, Station, Stop, Trip, Timetable}
@@ -17,7 +18,7 @@ use Rattle.timetable.specs.Timetable.{stopsOf, validStation, leaves, follows, r
 use Rattle.timetable.specs.Timetable.{validTrips, valid}
 use Rattle.reading.specs.Draft.{Draft, blank, final, withLine}
 use Rattle.reading.specs.Progress.{progress, lineNumberAt}
-use Rattle.reading.specs.Reading.{textMost, Accepted, ended, readFrom, readLines, reading}
+use Rattle.reading.specs.Reading.{textMost, Accepted, ended, readBy, readFrom, readLines, reading}
 use Rattle.accepted.specs.Lists.{snoc-length, and-left, and-right}
 use Rattle.accepted.specs.Valid.{valid-station, is-listed, it-leaves, it-ends, it-follows, is-valid, runs-none}
 use Rattle.accepted.specs.Valid.{runs-last, runs-on, begins, trip-not-empty, stopsOf-append}
@@ -39,7 +40,7 @@ takes-append d e f (l ∷ a) b x y = (x .0, takes-append (withLine d l) e f a b 
 -- ---- reading, line by line
 read-line : (d : Draft) (k : ℕ) (s u : List ℕ) (l : List (List ℕ)) → lineNumberAt (progress d) (shapeOf s) ≡ 0
     → readFrom d k (s ∷ u ∷ l) ≡ readFrom (withLine d (shapeOf s)) (k + 1) (u ∷ l)
-read-line d k s u l e = rw (read-more d k s u l, e)
+read-line d k s u l e = rw (read-more timeValue d k s u l, e)
 
 -- the lines given, and then nothing behind the last byte 10
 read-on : (d : Draft) (k : ℕ) (s : List ℕ) (l : List (List ℕ)) → lineNumberAt (progress d) (shapeOf s) ≡ 0
@@ -49,7 +50,7 @@ read-on d k s (u ∷ l) e = read-line d k s u (l ++ ([] ∷ [])) e
 
 taken-read : (d e : Draft) (k : ℕ) (l : List (List ℕ)) → Takes d (map shapeOf l) e
     → readFrom d k (l ++ ([] ∷ [])) ≡ ended e (k + length l)
-unfolding readFrom
+unfolding readBy
 taken-read d e k [] x = rw (add-zero k) (ap (λ z. ended z k) x)
 taken-read d e k (s ∷ l) x =
     read-on d k s l (x .0)

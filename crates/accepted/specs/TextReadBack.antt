@@ -1,5 +1,5 @@
 -- The text written out from a valid timetable falls into its lines again, and each reads back to what was written. It
--- has at most 64 * 14 + 2,048 * 28 = 58,240 bytes.
+-- has at most 64 * 14 + 2,048 * 30 = 62,336 bytes.
 use mathlib.Core.Path.{_≡_, refl, _∙_}
 use mathlib.Core.Bool.{true, false}
 use mathlib.Core.List.{List, [], _∷_, _++_, map, map-append}
@@ -78,11 +78,11 @@ stations-written n (s ∷ l) v h =
     (stations-written (n + 1) l (and-right (validStation s) (validStations l) v) (omega arith)) (omega arith)
 
 stop-written : (trip k : ℕ) (s : Stop) (l : List Stop) → Writable trip k s (noneAfter l)
-    → Written (stopLines trip (k + 1) l) (stopsRead trip (k + 1) l) (28 * length l)
-    → Written (stopLines trip k (s ∷ l)) (stopsRead trip k (s ∷ l)) (28 * suc (length l))
+    → Written (stopLines trip (k + 1) l) (stopsRead trip (k + 1) l) (30 * length l)
+    → Written (stopLines trip k (s ∷ l)) (stopsRead trip k (s ∷ l)) (30 * suc (length l))
 unfolding stopLines stopsRead
 stop-written trip k s l w rest =
-    written-more _ _ _ _ 28 (28 * length l) (28 * suc (length l)) (stop-shape trip k s (noneAfter l) w)
+    written-more _ _ _ _ 30 (30 * length l) (30 * suc (length l)) (stop-shape trip k s (noneAfter l) w)
     (stop-above trip k s (noneAfter l) w) (stop-short trip k s (noneAfter l) w) rest (omega arith)
 
 no-stops : (trip k : ℕ) → Written (stopLines trip k []) (stopsRead trip k []) 0
@@ -126,7 +126,7 @@ module _ (n trip : ℕ) (few : n ≤ stationsMost) (in-trips : trip ≤ tripsMos
       }
 
   later-written : (k : ℕ) (b : Stop) (l : List Stop) → runs n b l ≡ true → 1 < k → k + length l ≤ stopsMost + 1
-      → Written (stopLines trip k l) (stopsRead trip k l) (28 * length l)
+      → Written (stopLines trip k l) (stopsRead trip k l) (30 * length l)
   later-written k b [] v h g = absurd (runs-none n b v)
   later-written k b (s ∷ []) v h g =
       let r = runs-last n b s v in
@@ -137,7 +137,7 @@ module _ (n trip : ℕ) (few : n ≤ stationsMost) (in-trips : trip ≤ tripsMos
       (later-written (k + 1) s (u ∷ l) (r .on) (omega arith) (omega arith))
 
   trip-written : (t : Trip) → validTrip n t ≡ true → length t ≤ stopsMost
-      → Written (stopLines trip 1 t) (stopsRead trip 1 t) (28 * length t)
+      → Written (stopLines trip 1 t) (stopsRead trip 1 t) (30 * length t)
   trip-written [] v h = absurd (trip-not-empty n v)
   trip-written (b ∷ []) v h = absurd (runs-none n b (begins n b [] v .on))
   trip-written (b ∷ s ∷ l) v h =
@@ -147,21 +147,21 @@ module _ (n trip : ℕ) (few : n ≤ stationsMost) (in-trips : trip ≤ tripsMos
 
 trips-written : (n trip : ℕ) (l : List Trip) → n ≤ stationsMost → validTrips n l ≡ true
     → trip + length l ≤ tripsMost + 1 → length (stopsOf l) ≤ stopsMost
-    → Written (tripLines trip l) (tripsRead trip l) (28 * length (stopsOf l))
+    → Written (tripLines trip l) (tripsRead trip l) (30 * length (stopsOf l))
 unfolding tripLines tripsRead validTrips
 trips-written n trip [] few v h g = written-none
 trips-written n trip (t ∷ l) few v h g =
     let all = length-append t (stopsOf l) in
-    written-append _ _ _ _ (28 * length t) (28 * length (stopsOf l)) _
+    written-append _ _ _ _ (30 * length t) (30 * length (stopsOf l)) _
     (trip-written n trip few (omega arith) t (and-left (validTrip n t) (validTrips n l) v) (omega arith))
     (trips-written n (trip + 1) l few (and-right (validTrip n t) (validTrips n l) v) (omega arith) (omega arith))
     (omega arith)
 
-pub lines-written : (t : Timetable) → valid t ≡ true → Written (linesOf t) (linesRead t) 58240
+pub lines-written : (t : Timetable) → valid t ≡ true → Written (linesOf t) (linesRead t) 62336
 unfolding linesOf linesRead
 lines-written t v =
     let w = is-valid t v in
-    written-append _ _ _ _ (14 * length (t .stations)) (28 * length (stopsOf (t .trips))) _
+    written-append _ _ _ _ (14 * length (t .stations)) (30 * length (stopsOf (t .trips))) _
     (stations-written 1 (t .stations) (w .each-station) (omega arith))
     (trips-written (length (t .stations)) 1 (t .trips) (w .stations) (w .each-trip) (omega arith) (w .stops))
     (omega arith)

@@ -1,5 +1,6 @@
 -- The text written out from a timetable: a line for each station, then a line for each stop, trip by trip.
 -- "Station: `S,station,change minutes,change penalty`", "Stop: `T,trip,stop,station,arrive,depart,ride penalty`".
+-- "Exports write arrive and depart as `hh:mm`".
 -- "Arrive is empty exactly at stop 1. Depart and ride penalty are empty together, only at a trip's last stop".
 use mathlib.Core.Bool.{Bool, true, false, cond}
 use mathlib.Core.List.{List, [], _∷_, _++_}
@@ -8,6 +9,7 @@ use lib.Dec.{eqb}
 use Rattle.timetable.specs.Timetable.{Station, Stop, Trip, Timetable}
 use Rattle.accepted.specs.Marks.{lined, fielded}
 use Rattle.accepted.specs.Digits.{digits}
+use Rattle.accepted.specs.Clock.{clock}
 
 -- S is byte 83, T byte 84, the comma byte 44
 abbrev pub stationFields : ℕ → Station → List (List ℕ)
@@ -17,17 +19,17 @@ unfoldable pub stationLine : ℕ → Station → List ℕ
 stationLine n s = 83 ∷ 44 ∷ fielded (stationFields n s)
 
 -- a field that may be empty
-abbrev pub emptyOr : Bool → ℕ → List ℕ
-emptyOr empty n = cond empty [] (digits n)
+abbrev pub emptyOr : Bool → List ℕ → List ℕ
+emptyOr empty field = cond empty [] field
 
 abbrev pub stopFields : (trip k : ℕ) → Stop → (last : Bool) → List (List ℕ)
 stopFields trip k s last =
     digits trip
     ∷ digits k
     ∷ digits (s .station)
-    ∷ emptyOr (eqb k 1) (s .arrive)
-    ∷ emptyOr last (s .depart)
-    ∷ emptyOr last (s .points)
+    ∷ emptyOr (eqb k 1) (clock (s .arrive))
+    ∷ emptyOr last (clock (s .depart))
+    ∷ emptyOr last (digits (s .points))
     ∷ []
 
 -- stop k of a trip

@@ -3,34 +3,18 @@
 use mathlib.Core.Path.{_≡_, refl, sym, ap, _∙_}
 use mathlib.Core.Bool.{Bool, true, false, cond, _&&_, false≢true}
 use mathlib.Core.List.{List, [], _∷_, map}
-use Prim.Native.Nat.{ℕ, suc, _+_, _-_, _≤_, _<_}
+use Prim.Native.Nat.{ℕ, _+_, _≤_, _<_}
 use native.Mathlib.Omega.{arith}
 use lib.Dec.{eqb, leb}
 use borrow.Author.Tests.{leb-true, leb-false}
 use lib.ListN.{length, getD, take, drop, length-drop, length-take}
 use lib.Seq.{take-all}
 use Rattle.questions.specs.Question.{and-left, and-right}
-use Rattle.text.specs.Piece.{pieces, joined}
+use Rattle.text.specs.Piece.{pieces, markedLength, pieces-length}
 use Rattle.text.specs.Number.{isNumber, fieldValue, fieldValues, value-long}
 use Rattle.queries.specs.Query.{askedOf, fieldsAsk, four-fields, queryOf}
 use Rattle.queries.specs.declared.Input.{Input}
 use Rattle.queries.specs.declared.Input.the-variants.{Asked, Misshapen}
-
--- the bytes of pieces, with a mark behind each
-abbrev pub markedLength : List (List ℕ) → ℕ
-markedLength [] = 0
-markedLength (p ∷ l) = length p + 1 + markedLength l
-
-pieces-length : (mark : ℕ) (s : List ℕ) → markedLength (pieces mark s) ≡ length s + 1
-unfolding pieces
-pieces-length mark [] = refl
-pieces-length mark (b ∷ s) = by-test (eqb b mark) (pieces mark s) (pieces-length mark s)
-  where
-    by-test : (t : Bool) (l : List (List ℕ)) → markedLength l ≡ length s + 1
-        → markedLength (cond t ([] ∷ l) (joined b l)) ≡ length (b ∷ s) + 1
-    by-test true l e = omega (arith, e)
-    by-test false [] e = absurd (omega (arith, e))
-    by-test false (p ∷ l) e = omega (arith, e)
 
 -- a number has at most four bytes
 number-short : (f : List ℕ) → isNumber (fieldValue f) ≡ true → length f ≤ 4

@@ -18,7 +18,7 @@ use Rattle.timetable.specs.Words.{stationWords, stopWords, startWords}
 use Rattle.timetable.specs.WordLaws.{length-startWords, start-first}
 use Rattle.reading.specs.Draft.{Draft, blank, withLine, lineNumber}
 use Rattle.reading.specs.Progress.{progress, lineNumberAt, same-number}
-use Rattle.reading.specs.Reading.{Accepted, Refused, ended, readFrom, readLines}
+use Rattle.reading.specs.Reading.{Accepted, Refused, ended, readBy, readFrom, readLines}
 use Rattle.reading.specs.Model.{
   Within,
   advance,
@@ -53,7 +53,7 @@ module _ (d : Draft) (line : ℕ) where
       ≡ cond (eqb (lineNumberAt (progress d) (shapeOf s)) 0)
       (readFrom (withLine d (shapeOf s)) (line + 1) (pieces 10 text))
       (Refused (lineNumberAt (progress d) (shapeOf s)) line)
-  unfolding readFrom
+  unfolding readBy
   read-line s text =
       let more = pieces-some 10 text in
       let asked : readFrom d line (s ∷ pieces 10 text)
@@ -67,11 +67,11 @@ module _ (d : Draft) (line : ℕ) where
       (same-number d (shapeOf s))
 
   pub read-rest : (s : List ℕ) → (length s ≡ 0 → ⊥) → readFrom d line (s ∷ []) ≡ Refused 2 line
-  unfolding readFrom
+  unfolding readBy
   read-rest s h = simp (ne-eqb (length s) 0 h)
 
   pub read-end : (s : List ℕ) → length s ≡ 0 → readFrom d line (s ∷ []) ≡ ended d line
-  unfolding readFrom
+  unfolding readBy
   read-end s h = simp (eq-eqb (length s) 0 h)
 
 -- ---- what the loop keeps

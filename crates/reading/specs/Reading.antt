@@ -6,7 +6,8 @@ use lib.Dec.{leb, eqb}
 use lib.ListN.{length}
 use Rattle.words.specs.Put.{put}
 use Rattle.text.specs.Piece.{pieces}
-use Rattle.text.specs.Shape.{shapeOf}
+use Rattle.text.specs.Time.{timeValue}
+use Rattle.text.specs.Shape.{shapeBy}
 use Rattle.timetable.specs.Timetable.{Timetable}
 use Rattle.timetable.specs.Words.{words}
 use Rattle.reading.specs.Draft.{Draft, blank, lineNumber, withLine}
@@ -25,13 +26,17 @@ ended d line =
     (Refused 7 line)
 
 -- the lines given, the first of which has this number; what stands last ends with no byte 10: "bytes after the last 10
--- are a line of no shape"
-unfoldable pub readFrom : Draft → (line : ℕ) → List (List ℕ) → Outcome
-readFrom d line [] = ended d line
-readFrom d line (s ∷ []) = cond (eqb (length s) 0) (ended d line) (Refused 2 line)
-readFrom d line (s ∷ u ∷ l) =
-    let rest = readFrom (withLine d (shapeOf s)) (line + 1) (u ∷ l) in
-    cond (eqb (lineNumber d (shapeOf s)) 0) rest (Refused (lineNumber d (shapeOf s)) line)
+-- are a line of no shape". Arrive and depart are read by `time`.
+unfoldable pub readBy : (time : List ℕ → ℕ) → Draft → (line : ℕ) → List (List ℕ) → Outcome
+readBy time d line [] = ended d line
+readBy time d line (s ∷ []) = cond (eqb (length s) 0) (ended d line) (Refused 2 line)
+readBy time d line (s ∷ u ∷ l) =
+    let rest = readBy time (withLine d (shapeBy time s)) (line + 1) (u ∷ l) in
+    cond (eqb (lineNumber d (shapeBy time s)) 0) rest (Refused (lineNumber d (shapeBy time s)) line)
+
+-- times are written `hh:mm`
+abbrev pub readFrom : Draft → (line : ℕ) → List (List ℕ) → Outcome
+readFrom d line lines = readBy timeValue d line lines
 
 -- "at most .. 65,536 bytes"
 abbrev pub textMost : ℕ

@@ -1,24 +1,29 @@
 -- The ways out of `shape`. The fields are read from the part of the line behind its first two bytes, and their values
 -- stand in a local array, of which as many words count as there are fields, seven at most.
-use mathlib.Core.Path.{_≡_, sym, _∙_}
+use mathlib.Core.Path.{_≡_, refl, sym, ap, _∙_}
 use mathlib.Core.List.{List}
 use Prim.Native.Nat.{ℕ, _-_, _≤_, _<_, min}
+use native.Mathlib.Nat.{zero-add}
 use native.Mathlib.Omega.{arith}
 use borrow.Author.Tests.{eq-eqb, ne-eqb}
 use lib.ListN.{length, take, drop, getD, length-drop, List·getD-eq-default}
 use lib.Seq.{take-all}
 use Rattle.words.specs.Put.{put, getD-put}
-use Rattle.text.specs.Number.{fieldValues}
-use Rattle.text.specs.Shape.{stationOf, stopOf, stationShape, stopShape, shapeOf}
+use Rattle.text.specs.Piece.{pieces}
+use Rattle.text.specs.Number.{fieldValue}
+use Rattle.text.specs.Time.{timeValue}
+use Rattle.text.specs.Values.{valueAt, lineValues, length-values, values-at}
+use Rattle.text.specs.Values.{value-other-kind, value-arrive, value-depart, value-other-field}
+use Rattle.text.specs.Shape.{stationOf, stopOf, stationShape, field, stopShape, shapeBy, shapeOf}
 use Rattle.text.specs.declared.Line.{Line}
 use Rattle.text.specs.declared.Line.the-variants.{Shapeless}
 
 pub too-short : (line : List ℕ) → length line < 2 → Shapeless ≡ shapeOf line
-unfolding shapeOf
+unfolding shapeBy
 too-short line h = simp (List·getD-eq-default line 0 {n = 1} (omega arith))
 
 pub no-comma : (line : List ℕ) → (getD line 1 0 ≡ 44 → ⊥) → Shapeless ≡ shapeOf line
-unfolding shapeOf
+unfolding shapeBy
 no-comma line h = simp (ne-eqb (getD line 1 0) 44 h)
 
 abbrev pub behind : List ℕ → List ℕ
@@ -29,76 +34,86 @@ behind-is line = take-all (length line - 2) (drop 2 line) (omega (arith, length-
 
 module _ (line values old : List ℕ) (count : ℕ)
     (comma : getD line 1 0 ≡ 44)
-    (counted : count ≡ min 7 (length (fieldValues (behind line))))
-    (held : values ≡ put 0 (take 7 (fieldValues (behind line))) old)
+    (counted : count ≡ min 7 (length (lineValues (getD line 0 0) (behind line))))
+    (held : values ≡ put 0 (take 7 (lineValues (getD line 0 0) (behind line))) old)
   where
-    fields : List ℕ
-    fields = fieldValues (drop 2 line)
+    abbrev fields : List (List ℕ)
+    fields = pieces 44 (drop 2 line)
+
+    abbrev kind : ℕ
+    kind = getD line 0 0
 
     counted-fields : count ≡ min 7 (length fields)
-    unfolding fields
-    counted-fields = rw behind-is at counted
+    counted-fields = rw behind-is at (rw length-values at counted)
 
     -- where the line has n fields, and n is at most 6, value i of the array is that of field i
-    read : (n i : ℕ) → length fields ≡ n → n ≤ 6 → i < n → getD values i 0 ≡ getD fields i 0
-    unfolding fields
+    read : (n i : ℕ) → length fields ≡ n → n ≤ 6 → i < n → getD values i 0 ≡ valueAt kind i (field fields i)
     read n i e h g =
-        let all : take 7 fields ≡ fields = take-all 7 fields (omega arith) in
-        rw (held, behind-is, all) (getD-put fields old i (omega arith))
+        let long : length (lineValues kind (drop 2 line)) ≡ n = length-values kind 0 fields ∙ e in
+        let all : take 7 (lineValues kind (drop 2 line)) ≡ lineValues kind (drop 2 line) =
+        take-all 7 (lineValues kind (drop 2 line)) (omega arith) in
+        rw (held, behind-is, all) (getD-put (lineValues kind (drop 2 line)) old i (omega arith))
+        ∙ values-at kind 0 i fields (omega arith)
+        ∙ ap (λ k. valueAt kind k (field fields i)) (zero-add i)
 
-    stop-kind : getD line 0 0 ≡ 84 → shapeOf line ≡ stopShape fields
-    unfolding shapeOf fields
+    stop-kind : kind ≡ 84 → shapeOf line ≡ stopShape timeValue fields
+    unfolding shapeBy
     stop-kind e = simp (eq-eqb (getD line 1 0) 44 comma, e)
 
-    station-kind : getD line 0 0 ≡ 83 → shapeOf line ≡ stationShape fields
-    unfolding shapeOf fields
+    station-kind : kind ≡ 83 → shapeOf line ≡ stationShape fields
+    unfolding shapeBy
     station-kind e = simp (eq-eqb (getD line 1 0) 44 comma, e)
 
-    pub station-fields : getD line 0 0 ≡ 83 → (count ≡ 3 → ⊥) → Shapeless ≡ shapeOf line
+    pub station-fields : kind ≡ 83 → (count ≡ 3 → ⊥) → Shapeless ≡ shapeOf line
     unfolding stationShape
     station-fields e n =
         let other : length fields ≡ 3 → ⊥ = (λ l. n (omega (arith, counted-fields))) in
         sym (station-kind e ∙ simp (ne-eqb (length fields) 3 other))
 
-    pub station-shape : getD line 0 0 ≡ 83 → count ≡ 3 → (r : Line)
+    pub station-shape : kind ≡ 83 → count ≡ 3 → (r : Line)
         → r ≡ stationOf (getD values 0 0) (getD values 1 0) (getD values 2 0) → r ≡ shapeOf line
     unfolding stationShape
     station-shape e n r h =
         let three : length fields ≡ 3 = omega (arith, counted-fields) in
-        let v : (i : ℕ) → i < 3 → getD values i 0 ≡ getD fields i 0 = (λ i g. read 3 i three (omega arith) g) in
-        let is : shapeOf line ≡ stationOf (getD fields 0 0) (getD fields 1 0) (getD fields 2 0) =
-        station-kind e ∙ simp three in
-        h ∙ rw (is, v 0 (omega arith), v 1 (omega arith), v 2 (omega arith))
+        let v : (i : ℕ) → i < 3 → getD values i 0 ≡ fieldValue (field fields i) =
+        (λ i g.
+        read 3 i three (omega arith) g ∙ sym (value-other-kind kind i (field fields i) _ refl (λ k. omega arith))) in
+        h ∙ rw (station-kind e, three, v 0 (omega arith), v 1 (omega arith), v 2 (omega arith))
 
-    pub stop-fields : getD line 0 0 ≡ 84 → (count ≡ 6 → ⊥) → Shapeless ≡ shapeOf line
+    pub stop-fields : kind ≡ 84 → (count ≡ 6 → ⊥) → Shapeless ≡ shapeOf line
     unfolding stopShape
     stop-fields e n =
         let other : length fields ≡ 6 → ⊥ = (λ l. n (omega (arith, counted-fields))) in
         sym (stop-kind e ∙ simp (ne-eqb (length fields) 6 other))
 
-    pub stop-shape : getD line 0 0 ≡ 84 → count ≡ 6 → (r : Line)
+    pub stop-shape : kind ≡ 84 → count ≡ 6 → (r : Line)
         → r ≡ stopOf (getD values 0 0) (getD values 1 0) (getD values 2 0) (getD values 3 0) (getD values 4 0)
         (getD values 5 0)
         → r ≡ shapeOf line
     unfolding stopShape
     stop-shape e n r h =
         let six : length fields ≡ 6 = omega (arith, counted-fields) in
-        let v : (i : ℕ) → i < 6 → getD values i 0 ≡ getD fields i 0 = (λ i g. read 6 i six (omega arith) g) in
-        let is : shapeOf line ≡ stopOf (getD fields 0 0) (getD fields 1 0) (getD fields 2 0) (getD fields 3 0)
-        (getD fields 4 0) (getD fields 5 0) =
-        stop-kind e ∙ simp six in
+        let v : (i : ℕ) → i < 6 → getD values i 0 ≡ valueAt kind i (field fields i) =
+        (λ i g. read 6 i six (omega arith) g) in
+        let number : (i : ℕ) → i < 6 → (i ≡ 3 → ⊥) → (i ≡ 4 → ⊥) → getD values i 0 ≡ fieldValue (field fields i) =
+        (λ i g a d. v i g ∙ sym (value-other-field kind i (field fields i) _ refl e a d)) in
+        let arrive : getD values 3 0 ≡ timeValue (field fields 3) =
+        v 3 (omega arith) ∙ sym (value-arrive kind 3 (field fields 3) _ refl e refl) in
+        let depart : getD values 4 0 ≡ timeValue (field fields 4) =
+        v 4 (omega arith) ∙ sym (value-depart kind 4 (field fields 4) _ refl e refl) in
         h
         ∙ rw (
-          is,
-          v 0 (omega arith),
-          v 1 (omega arith),
-          v 2 (omega arith),
-          v 3 (omega arith),
-          v 4 (omega arith),
-          v 5 (omega arith),
+          stop-kind e,
+          six,
+          number 0 (omega arith) (λ x. omega arith) (λ x. omega arith),
+          number 1 (omega arith) (λ x. omega arith) (λ x. omega arith),
+          number 2 (omega arith) (λ x. omega arith) (λ x. omega arith),
+          arrive,
+          depart,
+          number 5 (omega arith) (λ x. omega arith) (λ x. omega arith),
         )
 
 pub other-kind : (line : List ℕ) → getD line 1 0 ≡ 44 → (getD line 0 0 ≡ 83 → ⊥) → (getD line 0 0 ≡ 84 → ⊥)
     → Shapeless ≡ shapeOf line
-unfolding shapeOf
+unfolding shapeBy
 other-kind line c s t = simp (eq-eqb (getD line 1 0) 44 c, ne-eqb (getD line 0 0) 83 s, ne-eqb (getD line 0 0) 84 t)

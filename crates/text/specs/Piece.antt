@@ -134,3 +134,19 @@ pieces-some mark (b ∷ s) = by-test (eqb b mark) (pieces mark s)
     by-test true r = ([], r, refl)
     by-test false [] = (b ∷ [], [], refl)
     by-test false (p ∷ r) = (b ∷ p, r, refl)
+
+-- ---- the bytes of pieces, with a mark behind each
+abbrev pub markedLength : List (List ℕ) → ℕ
+markedLength [] = 0
+markedLength (p ∷ l) = length p + 1 + markedLength l
+
+pub pieces-length : (mark : ℕ) (s : List ℕ) → markedLength (pieces mark s) ≡ length s + 1
+unfolding pieces
+pieces-length mark [] = refl
+pieces-length mark (b ∷ s) = by-test (eqb b mark) (pieces mark s) (pieces-length mark s)
+  where
+    by-test : (t : Bool) (l : List (List ℕ)) → markedLength l ≡ length s + 1
+        → markedLength (cond t ([] ∷ l) (joined b l)) ≡ length (b ∷ s) + 1
+    by-test true l e = omega (arith, e)
+    by-test false [] e = absurd (omega (arith, e))
+    by-test false (p ∷ l) e = omega (arith, e)

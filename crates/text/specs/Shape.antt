@@ -1,12 +1,14 @@
 -- The two shapes of a line.
 use mathlib.Core.Path.{_≡_}
 use mathlib.Core.Bool.{Bool, true, false, not, cond, _&&_}
-use mathlib.Core.List.{List}
+use mathlib.Core.List.{List, []}
 use Prim.Native.Nat.{ℕ, _≤_, _<_}
 use lib.Dec.{eqb}
 use borrow.Author.Tests.{le-leb, lt-leb, not-true, not-false}
 use lib.ListN.{length, getD, drop}
-use Rattle.text.specs.Number.{emptyField, isNumber, fieldValues}
+use Rattle.text.specs.Piece.{pieces}
+use Rattle.text.specs.Number.{emptyField, isNumber, fieldValue}
+use Rattle.text.specs.Time.{timeValue}
 use Rattle.text.specs.declared.Line.{Line}
 use Rattle.text.specs.declared.Line.the-variants.{Station, Stop, Shapeless}
 
@@ -17,8 +19,15 @@ stationOf number minutes points =
     (Station (record { number = number; minutes = minutes; points = points }))
     Shapeless
 
-unfoldable pub stationShape : List ℕ → Line
-stationShape v = cond (eqb (length v) 3) (stationOf (getD v 0 0) (getD v 1 0) (getD v 2 0)) Shapeless
+-- field k of those behind the first
+abbrev pub field : List (List ℕ) → ℕ → List ℕ
+field f k = getD f k []
+
+unfoldable pub stationShape : List (List ℕ) → Line
+stationShape f =
+    cond (eqb (length f) 3)
+    (stationOf (fieldValue (field f 0)) (fieldValue (field f 1)) (fieldValue (field f 2)))
+    Shapeless
 
 -- "Arrive is empty exactly at stop 1."
 unfoldable pub arriveFits : (stop arrive : ℕ) → Bool
@@ -52,19 +61,26 @@ stopOf trip stop station arrive depart points =
     }))
     Shapeless
 
-unfoldable pub stopShape : List ℕ → Line
-stopShape v =
-    cond (eqb (length v) 6)
-    (stopOf (getD v 0 0) (getD v 1 0) (getD v 2 0) (getD v 3 0) (getD v 4 0) (getD v 5 0))
+-- arrive and depart are read by `time`
+unfoldable pub stopShape : (time : List ℕ → ℕ) → List (List ℕ) → Line
+stopShape time f =
+    cond (eqb (length f) 6)
+    (stopOf (fieldValue (field f 0)) (fieldValue (field f 1)) (fieldValue (field f 2)) (time (field f 3))
+    (time (field f 4)) (fieldValue (field f 5)))
     Shapeless
 
--- "Is it of a shape above?" A line begins with S (byte 83) or T (byte 84) and a comma (byte 44).
-unfoldable pub shapeOf : List ℕ → Line
-shapeOf line =
+-- "Is it of a shape above?" A line begins with S (byte 83) or T (byte 84) and a comma (byte 44). "Fields stand ..
+-- parted by commas".
+unfoldable pub shapeBy : (time : List ℕ → ℕ) → List ℕ → Line
+shapeBy time line =
     cond (eqb (getD line 1 0) 44)
-    (cond (eqb (getD line 0 0) 83) (stationShape (fieldValues (drop 2 line)))
-    (cond (eqb (getD line 0 0) 84) (stopShape (fieldValues (drop 2 line))) Shapeless))
+    (cond (eqb (getD line 0 0) 83) (stationShape (pieces 44 (drop 2 line)))
+    (cond (eqb (getD line 0 0) 84) (stopShape time (pieces 44 (drop 2 line))) Shapeless))
     Shapeless
+
+-- times are written `hh:mm`
+abbrev pub shapeOf : List ℕ → Line
+shapeOf line = shapeBy timeValue line
 
 -- ---- the ways in which six values make no stop line, and the one in which they do
 module _ (trip stop station arrive depart points : ℕ) where

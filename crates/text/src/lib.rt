@@ -1,11 +1,13 @@
-// What a timetable text says, line by line: pieces, numbers, the two shapes of a line, and the value ranges.
+// What a timetable text says, line by line: pieces, numbers, times, the two shapes of a line, and the value ranges.
 ghost use mathlib.Core.Path.{_≡_};
 ghost use Prim.Native.Nat.{_+_, _≤_, _<_, min};
 ghost use lib.ListN.{length, take, drop};
 ghost use Rattle.words.specs.Put.{put};
 ghost use Rattle.text.specs.Piece.{pieceLength};
-ghost use Rattle.text.specs.Number.{digitValue, fieldValue, fieldValues};
+ghost use Rattle.text.specs.Number.{digitValue, fieldValue};
+ghost use Rattle.text.specs.Time.{pairValue, timeValue};
 ghost use Rattle.text.specs.Shape.{stationOf, stopOf, arriveFits, departFits, filled, shapeOf};
+ghost use Rattle.text.specs.Values.{valueAt, lineValues};
 ghost use Rattle.text.specs.Range.{rangeNumber};
 
 const COMMA: u8 = 44;
@@ -13,6 +15,8 @@ const COMMA: u8 = 44;
 const ZERO: u8 = 48;
 
 const NINE: u8 = 57;
+
+const COLON: u8 = 58;
 
 const STATION: u8 = 83;
 
@@ -27,10 +31,25 @@ const NUMBER_MOST: u32 = 9999;
 
 const DIGITS_MOST: usize = 4;
 
+// A time `hh:mm`, its last hour and the last minute of an hour.
+const TIME_BYTES: usize = 5;
+
+const HOURS_MOST: u32 = 47;
+
+const MINUTES_MOST: u32 = 59;
+
+// The value of a time of good form that is out of range: the first minute after the two days.
+const PAST_TIMES: u32 = 2880;
+
 // The fields behind the first of a station line and of a stop line.
 const STATION_FIELDS: usize = 3;
 
 const STOP_FIELDS: usize = 6;
+
+// Which of the fields behind the first of a stop line are times.
+const ARRIVE: usize = 3;
+
+const DEPART: usize = 4;
 
 // One field more than the longest line has shows a line that is too long.
 const FIELDS_MOST: usize = STOP_FIELDS + 1;
@@ -130,18 +149,80 @@ pub fn field_value(field: &[u8]) -> u32
     value
 }
 
-// Writes the values of the first seven fields of s, and answers how many it wrote.
-fn field_values(s: &[u8], values: &mut [u32]) -> usize
+// The number of two digits, or NO_NUMBER.
+fn pair_value(tens: u8, ones: u8) -> u32
+    ensures { λ r. ⌜ r ≡ pairValue tens ones ⌝ }
+{
+    let high = digit_value(tens);
+    if 10 <= high {
+        return NO_NUMBER;
+    }
+    let low = digit_value(ones);
+    if 10 <= low {
+        return NO_NUMBER;
+    }
+    high * 10 + low
+}
+
+// The minute of a time `hh:mm`, PAST_TIMES where it is out of range; or EMPTY, or NO_NUMBER for any other form.
+fn time_value(field: &[u8]) -> u32
+    ensures { λ r. ⌜ r ≡ timeValue (now (field .entry)) ⌝ }
+{
+    let n = field.len();
+    if n == 0 {
+        return EMPTY;
+    }
+    if n != TIME_BYTES {
+        return NO_NUMBER;
+    }
+    if field[2] != COLON {
+        return NO_NUMBER;
+    }
+    let hours = pair_value(field[0], field[1]);
+    if NUMBER_MOST < hours {
+        return NO_NUMBER;
+    }
+    let minutes = pair_value(field[3], field[4]);
+    if NUMBER_MOST < minutes {
+        return NO_NUMBER;
+    }
+    if HOURS_MOST < hours {
+        return PAST_TIMES;
+    }
+    if MINUTES_MOST < minutes {
+        return PAST_TIMES;
+    }
+    hours * 60 + minutes
+}
+
+// The value of field k behind the first of a line of a kind: arrive and depart of a stop are times.
+fn value_at(kind: u8, k: usize, field: &[u8]) -> u32
+    ensures { λ r. ⌜ r ≡ valueAt kind k (now (field .entry)) ⌝ }
+{
+    if kind != STOP {
+        return field_value(field);
+    }
+    if k == ARRIVE {
+        return time_value(field);
+    }
+    if k == DEPART {
+        return time_value(field);
+    }
+    field_value(field)
+}
+
+// Writes the values of the first seven fields of s, by the kind of its line, and returns how many it wrote.
+fn field_values(kind: u8, s: &[u8], values: &mut [u32]) -> usize
     requires { ⌜ length (now values) ≡ 7 ⌝ }
-    ensures { λ r. ⌜ (r ≡ min 7 (length (fieldValues (now (s .entry)))))
-        × (now (values .exit) ≡ put 0 (take 7 (fieldValues (now (s .entry)))) (now (values .entry))) ⌝ }
+    ensures { λ r. ⌜ (r ≡ min 7 (length (lineValues kind (now (s .entry)))))
+        × (now (values .exit) ≡ put 0 (take 7 (lineValues kind (now (s .entry)))) (now (values .entry))) ⌝ }
 {
     let n = s.len();
     let mut from = 0;
     let mut k = 0;
     loop {
         let end = piece_end(s, COMMA, from);
-        values[k] = field_value(&s[from..end]);
+        values[k] = value_at(kind, k, &s[from..end]);
         k += 1;
         if k == FIELDS_MOST {
             return k;
@@ -250,15 +331,16 @@ pub fn shape(line: &[u8]) -> Line
     if line[1] != COMMA {
         return Line::Shapeless;
     }
+    let kind = line[0];
     let mut values = [0u32; FIELDS_MOST];
-    let count = field_values(&line[2..n], &mut values);
-    if line[0] == STATION {
+    let count = field_values(kind, &line[2..n], &mut values);
+    if kind == STATION {
         if count != STATION_FIELDS {
             return Line::Shapeless;
         }
         return station_line(values[0], values[1], values[2]);
     }
-    if line[0] == STOP {
+    if kind == STOP {
         if count != STOP_FIELDS {
             return Line::Shapeless;
         }

@@ -14,6 +14,7 @@ use Rattle.timetable.specs.Worked.{variant, M}
 use Rattle.reading.specs.Reading.{Accepted, reading, readReply, readWords}
 use Rattle.accepted.specs.Marks.{lined, fielded}
 use Rattle.accepted.specs.Digits.{digits}
+use Rattle.accepted.specs.Clock.{clock}
 use Rattle.accepted.specs.WrittenOut.{stationLine, stationLines, stopLine, stopLines, tripLines, linesOf, textOf}
 use Rattle.accepted.specs.Taken.{valid-accepted}
 use Rattle.accepted.specs.Cases.{bytes, textM, M-accepted, M-words, case-k}
@@ -63,17 +64,17 @@ variant-accepted c v text valid-yes written =
     ∙ valid-accepted (variant c v) valid-yes
     ∙ ap (Accepted (variant c v)) (ten-lines c v)
 
-accepted-f : reading (textWith "3" "514") ≡ Accepted (variant 3 514) 10
+accepted-f : reading (textWith "3" "08:34") ≡ Accepted (variant 3 514) 10
 unfolding valid counted validStations validTrips validTrip validStation validListed leaves ends follows runs variant
-    textOf linesOf stationLines tripLines stopLines stationLine stopLine digits lined fielded bytes textWith
-accepted-f = variant-accepted 3 514 (textWith "3" "514") refl refl
+    textOf linesOf stationLines tripLines stopLines stationLine stopLine digits clock lined fielded bytes textWith
+accepted-f = variant-accepted 3 514 (textWith "3" "08:34") refl refl
 
-accepted-i : reading (textWith "4" "520") ≡ Accepted (variant 4 520) 10
+accepted-i : reading (textWith "4" "08:40") ≡ Accepted (variant 4 520) 10
 unfolding valid counted validStations validTrips validTrip validStation validListed leaves ends follows runs variant
-    textOf linesOf stationLines tripLines stopLines stationLine stopLine digits lined fielded bytes textWith
-accepted-i = variant-accepted 4 520 (textWith "4" "520") refl refl
+    textOf linesOf stationLines tripLines stopLines stationLine stopLine digits clock lined fielded bytes textWith
+accepted-i = variant-accepted 4 520 (textWith "4" "08:40") refl refl
 
-with-M : textWith "3" "520" ≡ textM
+with-M : textWith "3" "08:40" ≡ textM
 unfolding textWith textM bytes
 with-M = refl
 
@@ -124,14 +125,14 @@ direct-none = refl
 known-M : Known textM M 10 2
 known-M = record { accepted = M-accepted; counted = lines-M; few-lines = omega arith; few-counted = omega arith }
 
-known-f : Known (textWith "3" "514") (variant 3 514) 10 3
+known-f : Known (textWith "3" "08:34") (variant 3 514) 10 3
 known-f = record { accepted = accepted-f; counted = case-f; few-lines = omega arith; few-counted = omega arith }
 
 lines-i : lineCount (variant 4 520) ≡ 2
 unfolding variant lines inOrder
 lines-i = refl
 
-known-i : Known (textWith "4" "520") (variant 4 520) 10 2
+known-i : Known (textWith "4" "08:40") (variant 4 520) 10 2
 known-i = record { accepted = accepted-i; counted = lines-i; few-lines = omega arith; few-counted = omega arith }
 
 module _ (s : Slices) where
@@ -150,10 +151,10 @@ module _ (s : Slices) where
   store-d : Stores s textM 3 (0 ∷ 0 ∷ [])
   store-d = store-of 3 0 0 _ case-d (omega arith) (omega arith) (omega arith) refl
 
-  store-i : Stores s (textWith "4" "520") 1 (0 ∷ 2 ∷ 2 ∷ 0 ∷ 3 ∷ 0 ∷ [])
+  store-i : Stores s (textWith "4" "08:40") 1 (0 ∷ 2 ∷ 2 ∷ 0 ∷ 3 ∷ 0 ∷ [])
   unfolding variant
   store-i =
-      store-known s (textWith "4" "520") (variant 4 520) 10 2 known-i 1 0 2 _ case-i
+      store-known s (textWith "4" "08:40") (variant 4 520) 10 2 known-i 1 0 2 _ case-i
       (omega arith) (omega arith) (omega arith) (omega arith) refl
 
   rows-j : (post : List ℕ) → Shows s textM (0 ∷ 1 ∷ 3 ∷ 0 ∷ post) 1 3 470 (oneRide 90 0 1 1 3 ∷ [])
@@ -242,7 +243,7 @@ cases s room =
       e-words = words-e s;
       e-first = trips-e s 1 (omega arith) (omega arith);
       e-second = trips-e s 2 (omega arith) (omega arith);
-      f = built-done s (textWith "3" "514") (variant 3 514) 10 3 known-f;
+      f = built-done s (textWith "3" "08:34") (variant 3 514) 10 3 known-f;
       g = rows-g s room .done (shown-six s room);
       g-words = rows-g s room .words (shown-six s room);
       h = rows-h s room .done (shown-six s room);

@@ -38,16 +38,16 @@ textWith change arrival =
     bytes "S,1,2,10\nS,2,"
     ++ bytes change
     ++ bytes ",10\nS,3,5,10\n"
-    ++ bytes "T,1,1,1,,480,0\nT,1,2,2,500,501,0\nT,1,3,3,560,,\n"
-    ++ bytes "T,2,1,2,,503,0\nT,2,2,3,"
+    ++ bytes "T,1,1,1,,08:00,0\nT,1,2,2,08:20,08:21,0\nT,1,3,3,09:20,,\n"
+    ++ bytes "T,2,1,2,,08:23,0\nT,2,2,3,"
     ++ bytes arrival
-    ++ bytes ",,\nT,3,1,2,,502,0\nT,3,2,3,515,,\n"
+    ++ bytes ",,\nT,3,1,2,,08:22,0\nT,3,2,3,08:35,,\n"
 
 pub record Cases (s : Slices) : Type 0 where
   -- "Timetable M": 10 lines. "Words past a result keep their values", here and below.
   pub m : read s textM ≡ returned 0 10
   pub m-words : timetableAfter s textM ≡ words M ++ drop 41 (s .timetable)
-  pub m-with : textWith "3" "520" ≡ textM
+  pub m-with : textWith "3" "08:40" ≡ textM
   -- "(a) The two queries above.": `Q,1,3,470,2` with its rows, and `N,1,3,481,14`, each from the store of 1
   pub a : asked s textM 1 3 470 ≡ returned 0 2
   pub a-words : answerSlice s textM 1 3 470
@@ -70,7 +70,7 @@ pub record Cases (s : Slices) : Type 0 where
   pub e-first : tripsOf s textM 1 ≡ 1 ∷ []
   pub e-second : tripsOf s textM 2 ≡ 3 ∷ 2 ∷ []
   -- "(f) With trip 2 arriving at 514: three lines."
-  pub f : built s (textWith "3" "514") ≡ returned 0 3
+  pub f : built s (textWith "3" "08:34") ≡ returned 0 3
   -- "(g) From 2 to 3 at 501: one row, 14,0.", from the store of 2
   pub g : asked s textM 2 3 501 ≡ returned 0 1
   pub g-words : answerSlice s textM 2 3 501 ≡ oneRide 14 0 3 1 2 ++ drop 6 (s .answer)
@@ -85,8 +85,8 @@ pub record Cases (s : Slices) : Type 0 where
   pub a-direct-none : directAsked s textM 1 3 481 ≡ returned 14 0
   pub a-direct-none-words : directAnswer s textM 1 3 481 ≡ s .answer
   -- "(i) Station 2 with 4 change minutes: store of 1 is 0,2,2,0,3,0."
-  pub i : made s (textWith "4" "520") 1 ≡ returned 0 6
-  pub i-words : storeSlice s (textWith "4" "520") 1 ≡ (0 ∷ 2 ∷ 2 ∷ 0 ∷ 3 ∷ 0 ∷ []) ++ drop 6 (s .store)
+  pub i : made s (textWith "4" "08:40") 1 ≡ returned 0 6
+  pub i-words : storeSlice s (textWith "4" "08:40") 1 ≡ (0 ∷ 2 ∷ 2 ∷ 0 ∷ 3 ∷ 0 ∷ []) ++ drop 6 (s .store)
   -- "(j) The store 0,1,3,0 given for source 1: query at 470 shows only 90,0.", whatever words stand behind it; it is
   -- well made for the three stations
   pub j-well-made : (post : List ℕ) → wellMade 3 (0 ∷ 1 ∷ 3 ∷ 0 ∷ post) ≡ true

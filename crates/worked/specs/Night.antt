@@ -20,12 +20,12 @@ use Rattle.worked.specs.Calls.{Stores, Shows, ShowsNone, IllMade, Asks, 
 unfoldable pub textNight : List ℕ
 textNight =
     bytes "S,1,1,5\nS,2,7,27\nS,3,4,33\nS,4,3,29\nS,5,2,6\n"
-    ++ bytes "T,1,1,4,,50,12\nT,1,2,1,52,55,14\nT,1,3,4,58,60,19\nT,1,4,5,64,,\n"
-    ++ bytes "T,2,1,1,,53,8\nT,2,2,5,57,66,23\nT,2,3,3,70,,\n"
-    ++ bytes "T,3,1,2,,44,21\nT,3,2,4,47,48,10\nT,3,3,1,54,,\n"
-    ++ bytes "T,4,1,1,,53,31\nT,4,2,3,70,,\n"
-    ++ bytes "T,5,1,5,,59,17\nT,5,2,3,70,,\n"
-    ++ bytes "T,6,1,5,,65,17\nT,6,2,3,70,,\n"
+    ++ bytes "T,1,1,4,,00:50,12\nT,1,2,1,00:52,00:55,14\nT,1,3,4,00:58,01:00,19\nT,1,4,5,01:04,,\n"
+    ++ bytes "T,2,1,1,,00:53,8\nT,2,2,5,00:57,01:06,23\nT,2,3,3,01:10,,\n"
+    ++ bytes "T,3,1,2,,00:44,21\nT,3,2,4,00:47,00:48,10\nT,3,3,1,00:54,,\n"
+    ++ bytes "T,4,1,1,,00:53,31\nT,4,2,3,01:10,,\n"
+    ++ bytes "T,5,1,5,,00:59,17\nT,5,2,3,01:10,,\n"
+    ++ bytes "T,6,1,5,,01:05,17\nT,6,2,3,01:10,,\n"
 
 -- the timetable that it is read to
 unfoldable pub night : Timetable

@@ -12,6 +12,7 @@ use Rattle.timetable.specs.Words.{stationWords, stopWords, startWords, words}
 use Rattle.accepted.specs.Cases.{bytes}
 use Rattle.accepted.specs.Marks.{lined, fielded}
 use Rattle.accepted.specs.Digits.{digits}
+use Rattle.accepted.specs.Clock.{clock}
 use Rattle.accepted.specs.WrittenOut.{stationLine, stationLines, stopLine, stopLines, tripLines, linesOf, textOf}
 use Rattle.results.specs.Results.{dominates, equal, entries, result}
 use Rattle.connections.specs.Rides.{ridePoints, ridesOf}
@@ -33,7 +34,7 @@ unfolding valid counted validStations validTrips validTrip validStation validLis
 night-valid = refl
 
 pub night-written : textOf night ≡ textNight
-unfolding textOf linesOf stationLines tripLines stopLines stationLine stopLine digits lined fielded bytes
+unfolding textOf linesOf stationLines tripLines stopLines stationLine stopLine digits clock lined fielded bytes
     textNight night
 night-written = refl
 

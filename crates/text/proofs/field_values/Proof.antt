@@ -5,21 +5,22 @@ use Prim.Native.Nat.{_≤_, _<_, _-_}
 use borrow.Author.Needs.{needs}
 use lib.ListN.{length, take, drop}
 use Rattle.words.specs.Put.{put, put-none}
-use Rattle.text.specs.Number.{fieldValues}
+use Rattle.text.specs.Values.{lineValues}
+use Rattle.text.proofs.ValueLaws.{left-from}
 use Rattle.text.proofs.ValueLaws.{seven-count, seven-stored, last-count, last-stored, more-left, more-stored}
 use Rattle.text.proofs.field_values.Statement.{statement}
 use Rattle.text.proofs.field_values.Tie as tie
 
 abbrev Inv-loop : tie.InvT-loop
-Inv-loop s values₀ n from₀ k₀ values from k =
+Inv-loop kind s values₀ n from₀ k₀ values from k =
     (k < 7)
     × ((from ≤ length s)
     × ((length values ≡ length values₀)
-    × ((drop k (fieldValues s) ≡ fieldValues (drop from s))
-    × (values ≡ put 0 (take k (fieldValues s)) values₀))))
+    × ((drop k (lineValues kind s) ≡ left-from kind k s from)
+    × (values ≡ put 0 (take k (lineValues kind s)) values₀))))
 
 abbrev μ-loop : tie.MeasureT-loop
-μ-loop s values₀ n from₀ k₀ values from k = 7 - k
+μ-loop kind s values₀ n from₀ k₀ values from k = 7 - k
 
 pub field-values-spec : {M : Type 1} → statement M
 field-values-spec =

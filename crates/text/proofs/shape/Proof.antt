@@ -30,7 +30,6 @@ shape-spec =
     (λ c. search needs)
     (λ c. search needs)
     (λ c. search station-shape)
-    (λ c. search needs)
     (λ c. search stop-fields)
     (λ c. search needs)
     (λ c. search needs)
