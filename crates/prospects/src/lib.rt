@@ -84,7 +84,7 @@ fn mark(before: Points, low: Points, u: Points) -> Points
     if u.0 != low.0 {
         return Points(0);
     }
-    Points(u.0 + 1)
+    points::plus(u, Points(1))
 }
 
 // Marks the arrivals at places p up to q.
