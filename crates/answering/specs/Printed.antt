@@ -18,6 +18,7 @@ use Rattle.printing.specs.Lines.{refusedLine, misshapenLine, refusedTimetable, 
 use Rattle.reading.specs.declared.Reply.{Reply as ReadReply}
 use Rattle.reading.specs.declared.Reply.the-variants.{Done as ReadDone, Refused as ReadRefused}
 use Rattle.reading.specs.Reading.{readReply}
+use Rattle.tables.specs.Building.{buildWords}
 use Rattle.checking.specs.Asked.{queryNumber}
 use Rattle.promises.specs.StoreCall.{storeReply, storeAfter}
 use Rattle.promises.specs.Query.{askReply, askWords}
@@ -30,6 +31,15 @@ readPrinted (ReadRefused number line) = refusedTimetable number line
 -- for a text that is read into 16,384 words
 unfoldable pub textPrinted : (text : List ℕ) → List ℕ
 textPrinted text = readPrinted (readReply text 16384)
+
+-- The slice of line tables after a text was read to the words w: what building writes, if the text was accepted, and
+-- what it held, if not.
+abbrev pub readTables : ReadReply → (w old : List ℕ) (space : ℕ) → List ℕ
+readTables (ReadDone lines) w old space = buildWords w old space
+readTables (ReadRefused number line) w old space = old
+
+unfoldable pub textTables : (text w old : List ℕ) (space : ℕ) → List ℕ
+textTables text w old space = readTables (readReply text 16384) w old space
 
 -- The number that is printed for a query: "the query's 11 or 12 is printed before that store's 15"; then the query's 14
 -- or 15. It is the first that is not 0 of the number of the query's own questions, that of the store call, and that of

@@ -8,7 +8,9 @@ ghost use Rattle.queries.specs.declared.Input.the-variants.{Misshapen};
 ghost use Rattle.queries.specs.Query.{inputNumber};
 ghost use Rattle.printing.specs.Lines.{refusedLine, misshapenLine, answered};
 ghost use Rattle.checking.specs.Asked.{queryNumber};
-ghost use Rattle.answering.specs.Printed.{madeNumber, storeSlice, queryPrinted, linePrinted, textPrinted};
+ghost use Rattle.reading.specs.Reading.{readWords};
+ghost use Rattle.answering.specs.Printed.{madeNumber, storeSlice, queryPrinted, linePrinted};
+ghost use Rattle.answering.specs.Printed.{textPrinted, textTables};
 use queries::Input;
 use queries::Query;
 use replies::Reply;
@@ -381,6 +383,9 @@ pub fn load(
         × (now (out .exit) ≡ put 0 (textPrinted (now (text .entry))) (now (out .entry)))
         × (length (now (out .exit)) ≡ length (now (out .entry)))
         × (r ≤ length (now (out .exit))) ⌝ }
+    ensures { λ _. ⌜ (now (timetable .exit) ≡ readWords (now (text .entry)) (now (timetable .entry)))
+        × (now (lines .exit)
+        ≡ textTables (now (text .entry)) (now (timetable .exit)) (now (lines .entry)) (length (now (work .entry)))) ⌝ }
 {
     match reading::read(text, timetable) {
         reading::Reply::Done { .. } => {
