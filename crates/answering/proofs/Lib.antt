@@ -2,3 +2,4 @@ pub mod MakeLaws
 pub mod PrintLaws
 pub mod QueryLaws
 pub mod LineLaws
+pub mod ByteLaws

@@ -12,8 +12,10 @@ use Rattle.printing.specs.Lines.{misshapenLine, refusedTimetable}
 use Rattle.reading.specs.declared.Reply.{Reply as ReadReply}
 use Rattle.reading.specs.declared.Reply.the-variants.{Done as ReadDone, Refused as ReadRefused}
 use Rattle.reading.specs.Reading.{readReply}
+use Rattle.tables.specs.Building.{buildWords}
 use Rattle.answering.proofs.PrintLaws.{from-zero}
-use Rattle.answering.specs.Printed.{readPrinted, textPrinted, queryPrinted, inputPrinted, linePrinted}
+use Rattle.answering.specs.Printed.{readPrinted, textPrinted, readTables, textTables}
+use Rattle.answering.specs.Printed.{queryPrinted, inputPrinted, linePrinted}
 
 module _ (w v line : List ℕ) (input : Input) (is : input ≡ queryOf line) where
   module _ (query : Query) (asked : input ≡ Asked query) where
@@ -43,10 +45,14 @@ module _ (w v line : List ℕ) (input : Input) (is : input ≡ queryOf line) whe
         → last ≡ put 0 (linePrinted w v line) old
     misshapen-words old last e = e ∙ ap (λ b. put 0 b old) misshapen-is
 
-module _ (text : List ℕ) (n : ℕ) (space : n ≡ 16384) (r : ReadReply) (is : r ≡ readReply text n) where
+module _ (text : List ℕ) (n : ℕ) (words : n ≡ 16384) (r : ReadReply) (is : r ≡ readReply text n) where
   text-is : readPrinted r ≡ textPrinted text
   unfolding textPrinted
-  text-is = ap readPrinted (is ∙ ap (readReply text) space)
+  text-is = ap readPrinted (is ∙ ap (readReply text) words)
+
+  tables-are : (w old : List ℕ) (space : ℕ) → readTables r w old space ≡ textTables text w old space
+  unfolding textTables
+  tables-are w old space = ap (λ k. readTables k w old space) (is ∙ ap (readReply text) words)
 
   module _ (lines : ℕ) (done : r ≡ ReadDone lines) where
     none-is : [] ≡ textPrinted text
@@ -58,7 +64,14 @@ module _ (text : List ℕ) (n : ℕ) (space : n ≡ 16384) (r : ReadReply) (is :
     pub none-words : (old : List ℕ) → old ≡ put 0 (textPrinted text) old
     none-words old = sym (put-none 0 old) ∙ ap (λ b. put 0 b old) none-is
 
+    pub tables-built : (w old last : List ℕ) (space : ℕ) → last ≡ buildWords w old space
+        → last ≡ textTables text w old space
+    tables-built w old last space e = e ∙ sym (ap (λ k. readTables k w old space) done) ∙ tables-are w old space
+
   module _ (number line : ℕ) (refused : r ≡ ReadRefused number line) where
+    pub tables-kept : (w old : List ℕ) (space : ℕ) → old ≡ textTables text w old space
+    tables-kept w old space = sym (ap (λ k. readTables k w old space) refused) ∙ tables-are w old space
+
     told-is : refusedTimetable number line ≡ textPrinted text
     told-is = sym (ap readPrinted refused) ∙ text-is
 

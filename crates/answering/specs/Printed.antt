@@ -1,7 +1,7 @@
 -- What the listing program prints, for a timetable's text and for a line of its input. Document 01, "A whole listing".
 use mathlib.Core.Path.{_≡_, refl, sym, ap, _∙_}
 use mathlib.Core.Bool.{Bool, true, false, cond}
-use mathlib.Core.List.{List, []}
+use mathlib.Core.List.{List, [], _∷_, _++_}
 use Prim.Native.Nat.{ℕ}
 use native.Mathlib.Omega.{arith}
 use borrow.Author.Tests.{ne-eqb, eqb-false}
@@ -10,6 +10,7 @@ use lib.ListN.{replicate, take}
 use Rattle.replies.specs.declared.Reply.{Reply}
 use Rattle.replies.specs.declared.Reply.the-variants.{Done, Refused}
 use Rattle.replies.specs.Replies.{numberOf, countOf, replyOf}
+use Rattle.text.specs.Piece.{pieces}
 use Rattle.queries.specs.declared.Input.{Input}
 use Rattle.queries.specs.declared.Input.the-variants.{Asked, Misshapen}
 use Rattle.queries.specs.Query.{inputNumber, queryOf}
@@ -18,6 +19,7 @@ use Rattle.printing.specs.Lines.{refusedLine, misshapenLine, refusedTimetable, 
 use Rattle.reading.specs.declared.Reply.{Reply as ReadReply}
 use Rattle.reading.specs.declared.Reply.the-variants.{Done as ReadDone, Refused as ReadRefused}
 use Rattle.reading.specs.Reading.{readReply}
+use Rattle.tables.specs.Building.{buildWords}
 use Rattle.checking.specs.Asked.{queryNumber}
 use Rattle.promises.specs.StoreCall.{storeReply, storeAfter}
 use Rattle.promises.specs.Query.{askReply, askWords}
@@ -30,6 +32,15 @@ readPrinted (ReadRefused number line) = refusedTimetable number line
 -- for a text that is read into 16,384 words
 unfoldable pub textPrinted : (text : List ℕ) → List ℕ
 textPrinted text = readPrinted (readReply text 16384)
+
+-- The slice of line tables after a text was read to the words w: what building writes, if the text was accepted, and
+-- what it held, if not.
+abbrev pub readTables : ReadReply → (w old : List ℕ) (space : ℕ) → List ℕ
+readTables (ReadDone lines) w old space = buildWords w old space
+readTables (ReadRefused number line) w old space = old
+
+unfoldable pub textTables : (text w old : List ℕ) (space : ℕ) → List ℕ
+textTables text w old space = readTables (readReply text 16384) w old space
 
 -- The number that is printed for a query: "the query's 11 or 12 is printed before that store's 15"; then the query's 14
 -- or 15. It is the first that is not 0 of the number of the query's own questions, that of the store call, and that of
@@ -51,6 +62,11 @@ store-second made answers some = rw (ne-eqb made 0 some)
 pub answer-last : (answers : ℕ) → printedNumber 0 0 answers ≡ answers
 unfolding printedNumber
 answer-last answers = refl
+
+-- bytes after the last line end are a misshapen line, if there are any
+abbrev pub endPrinted : (bytes : List ℕ) → List ℕ
+endPrinted [] = []
+endPrinted (b ∷ bytes) = misshapenLine (inputNumber Misshapen)
 
 -- The program's slices: "32,768 words for the store and 16,384 for answers", all 0 before a call, and working space of
 -- 16,384 words. The timetable's words are w, its line tables v.
@@ -88,6 +104,18 @@ module _ (w v : List ℕ) where
   -- what a line of the input prints, its line end left aside
   unfoldable pub linePrinted : (line : List ℕ) → List ℕ
   linePrinted line = inputPrinted (queryOf line)
+
+  -- "queries from standard input": its lines are the pieces that byte 10 ends, and all but the last piece are lines
+  abbrev pub piecePrinted : (piece : List ℕ) (after : List (List ℕ)) (rest : List ℕ) → List ℕ
+  piecePrinted piece [] rest = endPrinted piece
+  piecePrinted piece (next ∷ after) rest = linePrinted piece ++ rest
+
+  unfoldable pub piecesPrinted : List (List ℕ) → List ℕ
+  piecesPrinted [] = []
+  piecesPrinted (piece ∷ after) = piecePrinted piece after (piecesPrinted after)
+
+  unfoldable pub allPrinted : (input : List ℕ) → List ℕ
+  allPrinted input = piecesPrinted (pieces 10 input)
 
 -- ---- the ways in which a query ends
 isDone : Reply → ℕ

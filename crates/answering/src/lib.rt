@@ -1,14 +1,19 @@
 // What the listing program prints: for a timetable's text, and for each line of its input. The program itself only
 // moves bytes.
 ghost use mathlib.Core.Path.{_≡_};
+ghost use mathlib.Core.Bool.{cond};
+ghost use mathlib.Core.List.{[], _∷_, _++_};
 ghost use Prim.Native.Nat.{_≤_};
-ghost use lib.ListN.{length, replicate};
+ghost use lib.ListN.{length, take, drop, replicate};
 ghost use Rattle.words.specs.Put.{put};
 ghost use Rattle.queries.specs.declared.Input.the-variants.{Misshapen};
 ghost use Rattle.queries.specs.Query.{inputNumber};
 ghost use Rattle.printing.specs.Lines.{refusedLine, misshapenLine, answered};
 ghost use Rattle.checking.specs.Asked.{queryNumber};
-ghost use Rattle.answering.specs.Printed.{madeNumber, storeSlice, queryPrinted, linePrinted, textPrinted};
+ghost use Rattle.reading.specs.Reading.{readWords};
+ghost use Rattle.answering.specs.Printed.{madeNumber, storeSlice, queryPrinted, linePrinted};
+ghost use Rattle.answering.specs.Printed.{textPrinted, textTables, endPrinted};
+ghost use Rattle.answering.specs.Bytes.{Keeps, Prints};
 use queries::Input;
 use queries::Query;
 use replies::Reply;
@@ -30,6 +35,12 @@ const TIMETABLE: u8 = 88;
 
 const MISSHAPEN: u32 = 2;
 
+const LINE_END: u8 = 10;
+
+// One byte more than a query may have: what the first bytes of a line print is what the line prints, by the law
+// `cut-printed`.
+pub const LINE_BYTES: usize = queries::BYTES_MOST + 1;
+
 // The source whose store was made last, and the number of that call.
 pub struct Made {
     pub source: u32,
@@ -38,6 +49,22 @@ pub struct Made {
 
 // How many bytes a line of the input prints, and which store was made last.
 pub struct Printed {
+    pub count: usize,
+    pub made: Made,
+}
+
+// How many bytes of the input were taken, how many of the first ones of a line are kept, and whether it has ended.
+struct Cut {
+    used: usize,
+    kept: usize,
+    whole: bool,
+}
+
+// How many bytes of the input were taken, how many of the first ones of a line are kept, how many bytes are printed,
+// and which store was made last.
+pub struct Taken {
+    pub used: usize,
+    pub kept: usize,
     pub count: usize,
     pub made: Made,
 }
@@ -320,7 +347,7 @@ fn answer_query(
 }
 
 // Writes the line of a misshapen line of the input, such as the bytes after the last line end. Returns its length.
-pub fn misshapen(out: &mut [u8]) -> usize
+fn misshapen(out: &mut [u8]) -> usize
     requires { ⌜ length (now out) ≡ 196654 ⌝ }
     ensures { λ r. ⌜ (r ≡ length (misshapenLine (inputNumber Misshapen)))
         × (now (out .exit) ≡ put 0 (misshapenLine (inputNumber Misshapen)) (now (out .entry)))
@@ -331,7 +358,7 @@ pub fn misshapen(out: &mut [u8]) -> usize
 }
 
 // Writes what a line of the input prints, from index 0 of out on.
-pub fn answer_line(
+fn answer_line(
     timetable: &[u16],
     lines: &[u16],
     store: &mut [u16],
@@ -367,6 +394,122 @@ pub fn answer_line(
     }
 }
 
+// Keeps a byte of a line, if there is room for it. Returns how many are kept.
+fn keep(line: &mut [u8], kept: usize, b: u8) -> usize
+    requires { ⌜ (kept ≤ 17) × (length (now line) ≡ 17) ⌝ }
+    ensures { λ r. ⌜ (take r (now (line .exit)) ≡ take 17 (take kept (now (line .entry)) ++ b ∷ []))
+        × (r ≤ 17)
+        × (length (now (line .exit)) ≡ length (now (line .entry))) ⌝ }
+{
+    if kept < LINE_BYTES {
+        line[kept] = b;
+        return kept + 1;
+    }
+    kept
+}
+
+// Keeps the bytes of a line up to its end, or to the end of the bytes that are there.
+fn keep_line(line: &mut [u8], before: usize, bytes: &[u8]) -> Cut
+    requires { ⌜ (before ≤ 17) × (length (now line) ≡ 17) ⌝ }
+    ensures { λ r. ⌜ Keeps
+        (take before (now (line .entry)))
+        (now (bytes .entry))
+        (take (r .kept) (now (line .exit)))
+        (cond (r .whole) (10 ∷ drop (r .used) (now (bytes .entry))) [])
+        × (r .used ≤ length (now (bytes .entry)))
+        × (r .kept ≤ 17)
+        × (length (now (line .exit)) ≡ length (now (line .entry))) ⌝ }
+{
+    let n = bytes.len();
+    let mut kept = before;
+    let mut i = 0;
+    while i < n {
+        let b = bytes[i];
+        if b == LINE_END {
+            return Cut {
+                used: i + 1,
+                kept,
+                whole: true,
+            };
+        }
+        kept = keep(line, kept, b);
+        i += 1;
+    }
+    Cut {
+        used: i,
+        kept,
+        whole: false,
+    }
+}
+
+// Takes bytes of the input up to the first line end among them, and writes what the line prints that ends there. The
+// bytes of a line whose end is not there are kept in `line`, after the first `kept` of it.
+pub fn answer_bytes(
+    timetable: &[u16],
+    lines: &[u16],
+    store: &mut [u16],
+    work: &mut [u32],
+    bytes: &[u8],
+    line: &mut [u8],
+    kept: usize,
+    last: Made,
+    out: &mut [u8],
+) -> Taken
+    requires { ⌜ (length (now work) ≡ 16384) × (length (now store) ≡ 32768) × (length (now out) ≡ 196654) ⌝ }
+    requires { ⌜ (last .number ≡ madeNumber (now timetable) (now lines) (last .source))
+        × (now store ≡ storeSlice (now timetable) (now lines) (last .source)) ⌝ }
+    requires { ⌜ (kept ≤ 17) × (length (now line) ≡ 17) ⌝ }
+    ensures { λ r. ⌜ (r .made .number ≡ madeNumber (now (timetable .entry)) (now (lines .entry)) (r .made .source))
+        × (now (store .exit) ≡ storeSlice (now (timetable .entry)) (now (lines .entry)) (r .made .source)) ⌝ }
+    ensures { λ r. ⌜ Prints
+        (now (timetable .entry))
+        (now (lines .entry))
+        (take kept (now (line .entry)))
+        (now (bytes .entry))
+        (take (r .count) (now (out .exit)))
+        (take (r .kept) (now (line .exit)))
+        (drop (r .used) (now (bytes .entry)))
+        × (r .count ≤ length (now (out .exit)))
+        × (r .kept ≤ 17)
+        × (r .used ≤ length (now (bytes .entry))) ⌝ }
+    ensures { λ _. ⌜ (length (now (out .exit)) ≡ length (now (out .entry)))
+        × (length (now (store .exit)) ≡ length (now (store .entry)))
+        × (length (now (line .exit)) ≡ length (now (line .entry))) ⌝ }
+{
+    let cut = keep_line(line, kept, bytes);
+    if !cut.whole {
+        return Taken {
+            used: bytes.len(),
+            kept: cut.kept,
+            count: 0,
+            made: last,
+        };
+    }
+    let len = cut.kept;
+    let printed = answer_line(timetable, lines, store, work, &line[0..len], last, out);
+    let made = printed.made;
+    Taken {
+        used: cut.used,
+        kept: 0,
+        count: printed.count,
+        made,
+    }
+}
+
+// Writes what bytes print that stand after the last line end. Returns the length.
+pub fn answer_end(bytes: &[u8], out: &mut [u8]) -> usize
+    requires { ⌜ length (now out) ≡ 196654 ⌝ }
+    ensures { λ r. ⌜ (r ≡ length (endPrinted (now (bytes .entry))))
+        × (now (out .exit) ≡ put 0 (endPrinted (now (bytes .entry))) (now (out .entry)))
+        × (length (now (out .exit)) ≡ length (now (out .entry)))
+        × (r ≤ length (now (out .exit))) ⌝ }
+{
+    if bytes.len() == 0 {
+        return 0;
+    }
+    misshapen(out)
+}
+
 // Reads a timetable's text and builds its line tables, and writes what the text prints. Returns the length of that, 0
 // where the text is accepted.
 pub fn load(
@@ -381,6 +524,9 @@ pub fn load(
         × (now (out .exit) ≡ put 0 (textPrinted (now (text .entry))) (now (out .entry)))
         × (length (now (out .exit)) ≡ length (now (out .entry)))
         × (r ≤ length (now (out .exit))) ⌝ }
+    ensures { λ _. ⌜ (now (timetable .exit) ≡ readWords (now (text .entry)) (now (timetable .entry)))
+        × (now (lines .exit)
+        ≡ textTables (now (text .entry)) (now (timetable .exit)) (now (lines .entry)) (length (now (work .entry)))) ⌝ }
 {
     match reading::read(text, timetable) {
         reading::Reply::Done { .. } => {

@@ -345,14 +345,14 @@ pub fn note_pattern(
     let mut from = source;
     let mut earliest = minute;
     let mut j = 0;
-    let noted = 'pattern: loop {
+    let noted = loop {
         let to = words::word(path, j) as usize;
         if j + 1 == r {
-            break 'pattern finish_turned(lines, from, to, earliest, turned, &p, &q, best);
+            break finish_turned(lines, from, to, earliest, turned, &p, &q, best);
         }
         earliest = step_turned(words, lines, from, to, earliest, turned, &mut p, &mut q);
         if MINUTES <= earliest {
-            break 'pattern nothing();
+            break nothing();
         }
         turned = !turned;
         from = to;

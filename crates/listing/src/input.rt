@@ -1,10 +1,7 @@
-// The bytes of a file, and standard input line by line.
+// The bytes of a file, and of standard input chunk by chunk.
 ghost use mathlib.Core.Path.{_≡_};
 ghost use Prim.Native.Nat.{_≤_};
 ghost use lib.ListN.{length};
-use libc::STDIN_FILENO;
-
-const LINE_END: u8 = 10;
 
 pub const CHUNK_BYTES: usize = 4096;
 
@@ -14,13 +11,6 @@ pub struct Unread {
     pub at: usize,
     pub end: usize,
     pub failed: bool,
-}
-
-// How a line ended: with byte 10, or with the input. Of its bytes the first len were kept.
-pub struct Line {
-    pub whole: bool,
-    pub len: usize,
-    pub unread: Unread,
 }
 
 // How many bytes of a file were kept, and whether a read failed before its end.
@@ -47,7 +37,7 @@ fn read(fd: i32, chunk: &mut [u8]) -> isize {
 }
 
 // Reads a chunk if no byte is left unread. None is left after it only where the bytes have ended or a read failed.
-fn refill(fd: i32, chunk: &mut [u8], unread: Unread) -> Unread
+pub fn refill(fd: i32, chunk: &mut [u8], unread: Unread) -> Unread
     requires { ⌜ (unread .at ≤ unread .end) × (unread .end ≤ length (now chunk)) ⌝ }
     ensures { λ r. ⌜ (r .at ≤ r .end)
         × (r .end ≤ length (now (chunk .exit)))
@@ -94,59 +84,5 @@ pub fn read_file(fd: i32, text: &mut [u8]) -> Kept
     Kept {
         len,
         failed: unread.failed,
-    }
-}
-
-// Keeps a byte of a line, if there is room for it. Returns how many are kept.
-fn keep(line: &mut [u8], len: usize, b: u8) -> usize
-    requires { ⌜ len ≤ length (now line) ⌝ }
-    ensures { λ r. ⌜ (r ≤ length (now (line .exit))) × (length (now (line .exit)) ≡ length (now (line .entry))) ⌝ }
-{
-    if len < line.len() {
-        line[len] = b;
-        return len + 1;
-    }
-    len
-}
-
-// Reads a line and keeps as many of its bytes as there is room for. No input has as many bytes as there are turns.
-pub fn read_line(chunk: &mut [u8], start: Unread, line: &mut [u8]) -> Line
-    requires { ⌜ (start .at ≤ start .end) × (start .end ≤ length (now chunk)) ⌝ }
-    ensures { λ r. ⌜ (r .len ≤ length (now (line .exit)))
-        × (length (now (line .exit)) ≡ length (now (line .entry)))
-        × (r .unread .at ≤ r .unread .end)
-        × (r .unread .end ≤ length (now (chunk .exit)))
-        × (length (now (chunk .exit)) ≡ length (now (chunk .entry))) ⌝ }
-{
-    let mut unread = start;
-    let mut len = 0;
-    let mut turns = u64::MAX;
-    while turns > 0 {
-        unread = refill(STDIN_FILENO, chunk, unread);
-        let at = unread.at;
-        let end = unread.end;
-        if at == end {
-            break;
-        }
-        let b = chunk[at];
-        unread = Unread {
-            at: at + 1,
-            end,
-            failed: false,
-        };
-        if b == LINE_END {
-            return Line {
-                whole: true,
-                len,
-                unread,
-            };
-        }
-        len = keep(line, len, b);
-        turns -= 1;
-    }
-    Line {
-        whole: false,
-        len,
-        unread,
     }
 }

@@ -5,20 +5,18 @@ mod input;
 ghost use mathlib.Core.Path.{_≡_};
 ghost use Prim.Native.Nat.{_≤_};
 ghost use lib.ListN.{length};
+use answering::LINE_BYTES;
 use answering::OUT_BYTES;
 use answering::STORE_WORDS;
 use answering::TABLE_WORDS;
 use input::CHUNK_BYTES;
 use input::Kept;
 use input::Unread;
+use libc::STDIN_FILENO;
 use libc::STDOUT_FILENO;
 
 // One byte more than a text may have shows a text that is too long.
 const TEXT_BYTES: usize = 65537;
-
-// One byte more than a query may have: what the first bytes of a line print is what the line prints, by the law
-// `cut-printed`.
-const LINE_BYTES: usize = queries::BYTES_MOST + 1;
 
 // No query with this source makes a store: it is refused by its 11.
 const NO_SOURCE: u32 = 0;
@@ -65,27 +63,26 @@ fn load(timetable: &mut [u16], lines: &mut [u16], work: &mut [u32], out: &mut [u
     count == 0
 }
 
-// Ends the input after so many bytes without a line end, which are a misshapen line.
-fn end_input(len: usize, failed: bool, out: &mut [u8])
+// Ends the input, of whose last line these bytes were kept.
+fn end_input(bytes: &[u8], failed: bool, out: &mut [u8])
     requires { ⌜ length (now out) ≡ 196654 ⌝ }
 {
     if failed {
         os::fail(b"standard input");
         return;
     }
-    if 0 < len {
-        let count = answering::misshapen(out);
-        write(out, count);
-    }
+    let count = answering::answer_end(bytes, out);
+    write(out, count);
 }
 
-// Writes what each line of the input prints.
+// Writes what the input prints. No input has as many bytes as there are turns.
 fn answer_input(timetable: &[u16], lines: &[u16], work: &mut [u32], out: &mut [u8])
     requires { ⌜ (length (now work) ≡ 16384) × (length (now out) ≡ 196654) ⌝ }
 {
     let mut store = [0u16; STORE_WORDS];
     let mut chunk = [0u8; CHUNK_BYTES];
-    let mut bytes = [0u8; LINE_BYTES];
+    let mut line = [0u8; LINE_BYTES];
+    let mut kept = 0;
     let mut unread = Unread {
         at: 0,
         end: 0,
@@ -94,24 +91,32 @@ fn answer_input(timetable: &[u16], lines: &[u16], work: &mut [u32], out: &mut [u
     let mut made = answering::make(timetable, lines, work, NO_SOURCE, &mut store);
     let mut turns = u64::MAX;
     while turns > 0 {
-        let line = input::read_line(&mut chunk, unread, &mut bytes);
-        let len = line.len;
-        unread = line.unread;
-        if !line.whole {
-            end_input(len, unread.failed, out);
+        unread = input::refill(STDIN_FILENO, &mut chunk, unread);
+        let at = unread.at;
+        let end = unread.end;
+        if at == end {
+            end_input(&line[0..kept], unread.failed, out);
             break;
         }
-        let printed = answering::answer_line(
+        let taken = answering::answer_bytes(
             timetable,
             lines,
             &mut store,
             work,
-            &bytes[0..len],
+            &chunk[at..end],
+            &mut line,
+            kept,
             made,
             out,
         );
-        write(out, printed.count);
-        made = printed.made;
+        write(out, taken.count);
+        made = taken.made;
+        kept = taken.kept;
+        unread = Unread {
+            at: at + taken.used,
+            end,
+            failed: false,
+        };
         turns -= 1;
     }
 }

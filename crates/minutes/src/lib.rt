@@ -53,6 +53,16 @@ pub fn sum(a: Points, b: Points) -> Points
     Points(a.0 + b.0)
 }
 
+// The sum of two, as far as a word holds it: NO_POINTS if it is more.
+pub fn sum_held(a: Points, b: Points) -> Points
+    ensures { λ r. ⌜ r .0 ≡ min (a .0 + b .0) noPoints ⌝ }
+{
+    if NO_POINTS - a.0 < b.0 {
+        return Points(NO_POINTS);
+    }
+    Points(a.0 + b.0)
+}
+
 // What is left of a once b is paid; none if b is more.
 pub fn left_of(a: Points, b: Points) -> Points
     ensures { λ r. ⌜ r .0 ≡ a .0 - b .0 ⌝ }

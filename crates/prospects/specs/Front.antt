@@ -119,16 +119,16 @@ module _ (before low u : ℕ) where
   unfolding markOf
   mark-other h g = rw (lt-ltb u before h, ne-eqb u low g)
 
-  pub mark-low : u < before → u ≡ low → u + 1 ≡ markOf before low u
+  pub mark-low : (r : ℕ) → r ≡ u + 1 → u < before → u ≡ low → r ≡ markOf before low u
   unfolding markOf
-  mark-low h g = rw (lt-ltb u before h, eq-eqb u low g)
+  mark-low r e h g = rw (lt-ltb u before h, eq-eqb u low g) e
 
   mark-some : (x : ℕ) → x < markOf before low u → (u < before) × (u ≡ low) × (x ≤ u)
   mark-some x h =
       elim (decLt u before) [
         | yes a ↦
             elim (ℕ-discrete u low) [
-              | yes b ↦ (a, b, omega (arith, mark-low a b))
+              | yes b ↦ (a, b, omega (arith, mark-low (u + 1) refl a b))
               | no b ↦ absurd (omega (arith, mark-other a b))
             ]
         | no a ↦ absurd (omega (arith, mark-high (omega arith)))
@@ -372,7 +372,7 @@ module _ (w arrivals : List ℕ) (from end top : ℕ) (v : List ℕ) where
               λ h. let g = mark-some low low′ (getD v (at r) 0) x h in (to-front (g .0) (g .1), g .2),
               λ h.
                   let g = from-front (h .0) in
-                  omega (arith, mark-low low low′ (getD v (at r) 0) (g .0) (g .1), h .1),
+                  omega (arith, mark-low low low′ (getD v (at r) 0) (getD v (at r) 0 + 1) refl (g .0) (g .1), h .1),
             )
 
       pub fronting-more : Fronting q low′ v″

@@ -84,7 +84,7 @@ fn mark(before: Points, low: Points, u: Points) -> Points
     if u.0 != low.0 {
         return Points(0);
     }
-    Points(u.0 + 1)
+    points::plus(u, Points(1))
 }
 
 // Marks the arrivals at places p up to q.
@@ -121,7 +121,7 @@ fn allow_station(
 {
     let mut low = top;
     let mut p = begin;
-    'arrivals: while p < end {
+    while p < end {
         let j = words::word(arrivals, p) as usize;
         // Most are not reached or have paid no less than someone earlier: whoever else arrives in their minute, they
         // are not on the frontier.
@@ -129,7 +129,7 @@ fn allow_station(
         if low.0 <= u.0 {
             points::put(v, j, Points(0));
             p += 1;
-            continue 'arrivals;
+            continue;
         }
         let q = minute_end(words, arrivals, p, end);
         let before = low;

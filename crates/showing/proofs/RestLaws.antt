@@ -2,7 +2,7 @@
 use mathlib.Core.Path.{_≡_, refl, sym, ap, subst, _∙_}
 use mathlib.Core.Bool.{Bool, true, false}
 use mathlib.Core.List.{List, [], _∷_, _++_}
-use Prim.Native.Nat.{ℕ, suc, _+_, _-_, _≤_, _<_, min}
+use Prim.Native.Nat.{ℕ, suc, _+_, _-_, _≤_, _<_, _^_, min}
 use native.Mathlib.Omega.{arith}
 use borrow.Author.Tests.{le-leb, lt-leb}
 use lib.Dec.{ltb}
@@ -60,19 +60,14 @@ module _ (z : List ℕ) (m r : ℕ) where
   read-past h e = e ∙ sym (List·getD-eq-default z noPoints h)
 
 -- ---- lowered
-module _ (z : List ℕ) (m s : ℕ) where
-  pub note-past : length z ≤ m → z ≡ lowered z m s
-  note-past h = sym (set-out z m (min (getD z m 0) s) h)
 
-  pub note-less : (r : ℕ) (new : List ℕ) → r ≡ getD z m 0 → s < r → new ≡ set z m s → new ≡ lowered z m s
-  note-less r new e h is =
-      let less : s ≡ min (getD z m 0) s = omega (arith, e) in
-      is ∙ ap (set z m) less
-
-  pub note-more : (r : ℕ) → r ≡ getD z m 0 → r ≤ s → z ≡ lowered z m s
-  note-more r e h =
-      let more : min (getD z m 0) s ≡ getD z m 0 = omega (arith, e) in
-      sym (ap (set z m) more ∙ set-getD z m 0)
+-- a word that holds no more than noPoints is lowered by as much of a sum as one holds as by the sum
+module _ (z : List ℕ) (m a b c : ℕ) (word : getD z m 0 < 2 ^ 32) where
+  pub note-held : (first all : ℕ) (new : List ℕ) → first ≡ min (a + b) noPoints → all ≡ min (first + c) noPoints
+      → new ≡ lowered z m all → new ≡ lowered z m (a + b + c)
+  note-held first all new is-first is-all is =
+      let same : min (getD z m 0) all ≡ min (getD z m 0) (a + b + c) = omega (arith, word, is-first, is-all) in
+      is ∙ ap (set z m) same
 
 -- ---- one ride noted
 module _

@@ -43,18 +43,14 @@ pub fn rest_at(z: &[u32], m: usize) -> Points
 }
 
 // Notes the sum of three numbers of points for minute m, if that is less than what stands there. The sum may be more
-// than fits the word of a minute; it is not stored then, as nothing that stands there is more.
+// than a word holds; NO_POINTS is noted for it then, as nothing that stands there is more.
 fn note_sum(z: &mut [u32], m: usize, price: Points, points: Points, left: Points)
     ensures { λ _. ⌜ now (z .exit) ≡ lowered (now (z .entry)) m (price .0 + points .0 + left .0) ⌝ }
     ensures { λ _. ⌜ length (now (z .exit)) ≡ length (now (z .entry)) ⌝ }
 {
-    let all = price.0 as usize + points.0 as usize + left.0 as usize;
-    if m < z.len() {
-        let stood = minutes::points_at(z, m);
-        if all < stood.0 as usize {
-            minutes::set_points(z, m, Points(all as u32));
-        }
-    }
+    let ridden = minutes::sum_held(price, points);
+    let all = minutes::sum_held(ridden, left);
+    minutes::note(z, m, all);
 }
 
 // Notes one ride for the latest minute in which one can arrive before it and change: what the change and the ride cost,

@@ -1,14 +1,17 @@
--- The reply of reading says what is printed.
+-- The reply of reading says what is printed, and whether line tables are built.
 use Rattle.answering.proofs.LineLaws.{none-count, none-words, told-count, told-words}
+use Rattle.answering.proofs.LineLaws.{tables-built, tables-kept}
 use borrow.Author.Needs.{needs}
 use Rattle.answering.proofs.load.Statement.{statement}
 use Rattle.answering.proofs.load.Tie as tie
 
 returns : tie.Need-returns
-returns c = (search none-count, search none-words, search needs, search needs)
+returns c =
+    ((search none-count, search none-words, search needs, search needs), (search needs, search tables-built))
 
 returns-2 : tie.Need-returns-2
-returns-2 c = (search told-count, search told-words, search needs, search needs)
+returns-2 c =
+    ((search told-count, search told-words, search needs, search needs), (search needs, search tables-kept))
 
 pub load-spec : {M : Type 1} → statement M
 load-spec =

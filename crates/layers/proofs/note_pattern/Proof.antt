@@ -16,8 +16,8 @@ use Rattle.layers.proofs.PatternLaws.{listed-here, ready-first, ready-n
 use Rattle.layers.proofs.note_pattern.Statement.{statement}
 use Rattle.layers.proofs.note_pattern.Tie as tie
 
-abbrev Inv-pattern : tie.InvT-pattern
-Inv-pattern words lines source minute path r best₀ p₀ q₀ turned₀ from₀ earliest₀ j₀ best p q turned from earliest j =
+abbrev Inv-loop : tie.InvT-loop
+Inv-loop words lines source minute path r best₀ p₀ q₀ turned₀ from₀ earliest₀ j₀ best p q turned from earliest j =
     (j < r)
     × (length p ≡ 2880)
     × (length q ≡ 2880)
@@ -26,43 +26,43 @@ Inv-pattern words lines source minute path r best₀ p₀ q₀ turned₀ from₀
     × Listed words from
     × Ready (net (timetableOf words)) source minute (changesTo path j) from earliest (held turned p q)
 
-abbrev μ-pattern : tie.MeasureT-pattern
-μ-pattern words lines source minute path r best₀ p₀ q₀ turned₀ from₀ earliest₀ j₀ best p q turned from earliest j =
+abbrev μ-loop : tie.MeasureT-loop
+μ-loop words lines source minute path r best₀ p₀ q₀ turned₀ from₀ earliest₀ j₀ best p q turned from earliest j =
     r - j
 
-pattern-holds : tie.Need-pattern-holds Inv-pattern μ-pattern
-pattern-holds c =
+loop-holds : tie.Need-loop-holds Inv-loop μ-loop
+loop-holds c =
     (search needs, search needs, search needs, search needs, search needs, search needs, search ready-first)
 
-finish-turned-requires : tie.Need-finish-turned-requires Inv-pattern μ-pattern
+finish-turned-requires : tie.Need-finish-turned-requires Inv-loop μ-loop
 finish-turned-requires c κs =
     ((search needs, search source-few, search calls-within), (search needs, search needs, search needs, search fitting))
 
-step-turned-requires : tie.Need-step-turned-requires Inv-pattern μ-pattern
+step-turned-requires : tie.Need-step-turned-requires Inv-loop μ-loop
 step-turned-requires c κs = (
   (search needs, search needs, search listed-here),
   ((search needs, search source-few, search calls-within), (search needs, search needs, search fitting)),
 )
 
-pattern-again : tie.Need-pattern-again Inv-pattern μ-pattern
-pattern-again c =
+loop-again : tie.Need-loop-again Inv-loop μ-loop
+loop-again c =
     (search needs, search needs, search needs, search needs, search needs, search listed-here, search ready-next)
 
-returns : tie.Need-returns Inv-pattern μ-pattern
+returns : tie.Need-returns Inv-loop μ-loop
 returns c = (search ended, (search needs, search within-from))
 
-returns-2 : tie.Need-returns-2 Inv-pattern μ-pattern
+returns-2 : tie.Need-returns-2 Inv-loop μ-loop
 returns-2 c = (search stopped, (search needs, search span-none))
 
 pub note-pattern-spec : {M : Type 1} → statement M
 note-pattern-spec =
     tie.close
     (tie.spec
-    Inv-pattern
-    μ-pattern
+    Inv-loop
+    μ-loop
     (λ c. search needs)
     (λ c. search needs)
-    pattern-holds
+    loop-holds
     (λ c. search needs)
     (λ c. search needs)
     (λ c. search needs)
@@ -75,7 +75,7 @@ note-pattern-spec =
     (λ c. search needs)
     (λ c. search needs)
     (λ c. search needs)
-    pattern-again
+    loop-again
     (λ c. search needs)
     returns
     (λ c. search needs)

@@ -10,7 +10,7 @@ use Rattle.listing.proofs.answer_input.Statement.{statement}
 use Rattle.listing.proofs.answer_input.Tie as tie
 
 abbrev Inv-loop : tie.InvT-loop
-Inv-loop timetable lines work₀ out₀ _ _ _ _ _ _ work out store chunk bytes unread made turns =
+Inv-loop timetable lines work₀ out₀ _ _ _ _ _ _ _ work out store chunk line kept unread made turns =
     (length work ≡ 16384)
     × (length work ≡ length work₀)
     × (length out ≡ 196654)
@@ -18,16 +18,18 @@ Inv-loop timetable lines work₀ out₀ _ _ _ _ _ _ work out store chunk bytes u
     × (unread .at ≤ unread .end)
     × (unread .end ≤ length chunk)
     × (length chunk ≡ 4096)
-    × (length bytes ≡ 17)
+    × (length line ≡ 17)
+    × (kept ≤ 17)
     × (length store ≡ 32768)
     × (made .number ≡ madeNumber timetable lines (made .source))
     × (store ≡ storeSlice timetable lines (made .source))
 
 abbrev μ-loop : tie.MeasureT-loop
-μ-loop _ _ _ _ _ _ _ _ _ _ _ _ _ _ _ _ _ turns = turns
+μ-loop _ _ _ _ _ _ _ _ _ _ _ _ _ _ _ _ _ _ _ turns = turns
 
 loop-holds : tie.Need-loop-holds Inv-loop μ-loop
 loop-holds c = (
+  search needs,
   search needs,
   search needs,
   search needs,
@@ -41,23 +43,30 @@ loop-holds c = (
   search held-store,
 )
 
-answer-line-requires : tie.Need-answer-line-requires Inv-loop μ-loop
-answer-line-requires c κs = ((search needs, search needs, search needs), (search needs, search needs))
+answer-bytes-requires : tie.Need-answer-bytes-requires Inv-loop μ-loop
+answer-bytes-requires c κs = (
+  (search needs, search needs, search needs),
+  ((search needs, search needs), (search needs, search needs)),
+)
 
 loop-again : tie.Need-loop-again Inv-loop μ-loop
-loop-again c = (
-  search needs,
-  search needs,
-  search needs,
-  search needs,
-  search needs,
-  search needs,
-  search needs,
-  search needs,
-  search needs,
-  search needs,
-  search needs,
-)
+loop-again c =
+    let answered = c .before .before .before .before .before .before .before .before in
+    let asked = answered .before .before .before .before .before .before .before .before in
+    let held = asked .before .before .before .before .before .before .loop .inv in (
+      search needs,
+      search needs,
+      search needs,
+      search needs,
+      search needs,
+      search needs,
+      search needs,
+      search needs,
+      search needs,
+      search needs,
+      search needs,
+      search needs,
+    )
 
 pub answer-input-spec : {M : Type 1} → statement M
 answer-input-spec =
@@ -76,7 +85,11 @@ answer-input-spec =
     (λ c. search needs)
     (λ c. search needs)
     (λ c. search needs)
-    answer-line-requires
+    (λ c. search needs)
+    (λ c. search needs)
+    (λ c. search needs)
+    answer-bytes-requires
+    (λ c. search needs)
     (λ c. search needs)
     (λ c. search needs)
     (λ c. search needs)

@@ -20,20 +20,20 @@ use Rattle.prospects.proofs.FrontLaws.{
 use Rattle.prospects.proofs.allow_station.Statement.{statement}
 use Rattle.prospects.proofs.allow_station.Tie as tie
 
-abbrev Inv-arrivals : tie.InvT-arrivals
-Inv-arrivals words arrivals begin end v₀ low₀ p₀ v low p =
+abbrev Inv-loop : tie.InvT-loop
+Inv-loop words arrivals begin end v₀ low₀ p₀ v low p =
     (begin ≤ p)
     × ((p ≤ end) × ((length v ≡ length v₀) × Fronting words arrivals begin end (low₀ .0) v₀ p (low .0) v))
 
-abbrev μ-arrivals : tie.MeasureT-arrivals
-μ-arrivals words arrivals begin end v₀ low₀ p₀ v low p = end - p
+abbrev μ-loop : tie.MeasureT-loop
+μ-loop words arrivals begin end v₀ low₀ p₀ v low p = end - p
 
 pub allow-station-spec : {M : Type 1} → statement M
 allow-station-spec =
     tie.close
     (tie.spec
-    Inv-arrivals
-    μ-arrivals
+    Inv-loop
+    μ-loop
     (λ c. (search needs, (search run-ordered, (search needs, search front-first))))
     (λ c κs. search arrival-inside)
     (λ c. search needs)

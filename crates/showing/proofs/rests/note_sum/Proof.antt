@@ -1,17 +1,14 @@
--- Inside the slice a word is lowered if that makes it less; past its end nothing is stored.
-use Rattle.showing.proofs.RestLaws.{note-less, note-more, note-past}
+-- A word holds no more than NO_POINTS, so that lowering by what a word holds of the sum is lowering by the sum.
+use Rattle.showing.proofs.RestLaws.{note-held}
 use borrow.Author.Needs.{needs}
 use Rattle.showing.proofs.rests.note_sum.Statement.{statement}
 use Rattle.showing.proofs.rests.note_sum.Tie as tie
 
 returns : tie.Need-returns
-returns c = (search note-less, search needs)
-
-returns-2 : tie.Need-returns-2
-returns-2 c = (search note-more, search needs)
-
-returns-3 : tie.Need-returns-3
-returns-3 c = (search note-past, search needs)
+returns c =
+    let start = c .before .before .before .before .before .before in
+    let word = start .slice-known .given (start .before .args .m) .fits in
+    (search note-held, search needs)
 
 pub note-sum-spec : {M : Type 1} → statement M
 note-sum-spec =
@@ -21,13 +18,4 @@ note-sum-spec =
     (λ c. search needs)
     (λ c. search needs)
     (λ c. search needs)
-    (λ c. search needs)
-    (λ c. search needs)
-    (λ c. search needs)
-    (λ c. search needs)
-    (λ c. search needs)
-    (λ c. search needs)
-    returns
-    (λ c. search needs)
-    returns-2
-    returns-3)
+    returns)
