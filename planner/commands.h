@@ -1,0 +1,9 @@
+/* What the program does, command by command. Each returns the exit code. */
+#ifndef PLANNER_COMMANDS_H
+#define PLANNER_COMMANDS_H
+
+#include "arguments.h"
+
+int check(const struct arguments *arguments);
+
+#endif

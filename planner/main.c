@@ -1,0 +1,144 @@
+/*
+ * The planner's program: checks timetables, shows the sequences of a station and why they are stored, answers as a
+ * display would, and tells what mistakes and changes do. All of it comes from the public calls of dairyepoch.h.
+ */
+#include "commands.h"
+#include "ending.h"
+
+#include <errno.h>
+#include <stdio.h>
+#include <string.h>
+
+struct command {
+    const char *name;
+    int (*run)(const struct arguments *arguments);
+    const char *usage;
+    int words_least;
+    int words_most;
+    int options;
+    const char *help;
+};
+
+static const struct command commands[] = {
+    {"check", check, "planner check FILE", 1, 1, 0,
+     "Is the timetable accepted? Counts its stations, trips, stops and lines; or\n"
+     "shows the line that is refused, the field to blame, what is wrong with it\n"
+     "and what would be right.\n"},
+};
+
+#define COMMANDS (sizeof commands / sizeof commands[0])
+
+static void print_help(void)
+{
+    size_t at;
+
+    printf("planner: what a display answers, for those who make timetables\n\n");
+    for (at = 0; at < COMMANDS; at++) {
+        printf("  %s\n", commands[at].usage);
+    }
+    printf("\nplanner COMMAND --help tells more. FILE is a timetable text (docs/FORMAT.md).\n"
+           "A file names.txt beside it has names for what people read, line by line:\n"
+           "S,1,Valley school for station 1, T,12,Market bus for trip 12.\n"
+           "Exit code: 0; 1 if the library refuses something; 2 for bad input.\n");
+}
+
+static const struct command *command_named(const char *name)
+{
+    size_t at;
+
+    for (at = 0; at < COMMANDS; at++) {
+        if (strcmp(commands[at].name, name) == 0) {
+            return &commands[at];
+        }
+    }
+    end_with_bad_input("'%s' is no command: planner --help tells them", name);
+    return NULL;
+}
+
+static int option_named(const char *word)
+{
+    if (strcmp(word, "--csv") == 0) {
+        return OPTION_CSV;
+    }
+    if (strcmp(word, "--why") == 0) {
+        return OPTION_WHY;
+    }
+    return strcmp(word, "--at") == 0 ? OPTION_AT : 0;
+}
+
+/* Takes the option that a word is, and for --at the word after it. Returns how many words were taken. */
+static int take_option(struct arguments *arguments, const struct command *command, char **words)
+{
+    int option = option_named(words[0]);
+
+    if ((option & command->options) == 0) {
+        end_with_bad_input("no option '%s': planner %s --help tells them", words[0], command->name);
+    }
+    arguments->options |= option;
+    if (option != OPTION_AT) {
+        return 1;
+    }
+    if (words[1] == NULL || arguments->times == TIMES_MOST) {
+        end_with_bad_input("--at wants one time after it, and stands at most %d times", TIMES_MOST);
+    }
+    arguments->time[arguments->times++] = words[1];
+    return 2;
+}
+
+/* Parts the words after a command's name from its options. The list of words ends with NULL. */
+static void take_arguments(struct arguments *arguments, const struct command *command, char **words)
+{
+    memset(arguments, 0, sizeof *arguments);
+    while (*words != NULL) {
+        if (strncmp(*words, "--", 2) == 0) {
+            words += take_option(arguments, command, words);
+            continue;
+        }
+        if (arguments->words == command->words_most) {
+            end_with_bad_input("'%s' is a word too many: planner %s --help tells what is wanted", *words,
+                               command->name);
+        }
+        arguments->word[arguments->words++] = *words++;
+    }
+    if (arguments->words < command->words_least) {
+        end_with_bad_input("a word is missing: planner %s --help tells what is wanted", command->name);
+    }
+}
+
+static bool wants_help(char **words)
+{
+    while (*words != NULL && strcmp(*words, "--help") != 0) {
+        words++;
+    }
+    return *words != NULL;
+}
+
+static int run(const struct command *command, char **words)
+{
+    struct arguments arguments;
+
+    if (wants_help(words)) {
+        printf("%s\n\n%s", command->usage, command->help);
+        return WELL;
+    }
+    take_arguments(&arguments, command, words);
+    return command->run(&arguments);
+}
+
+int main(int count, char **words)
+{
+    int code = WELL;
+
+    if (count < 2) {
+        end_with_bad_input("a command is missing: planner --help tells them");
+    }
+    if (strcmp(words[1], "--help") == 0) {
+        print_help();
+    } else {
+        code = run(command_named(words[1]), words + 2);
+    }
+    if (fflush(stdout) != 0 || ferror(stdout)) {
+        end_with_bad_input("standard output: %s", strerror(errno));
+    }
+    return code;
+}
