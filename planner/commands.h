@@ -5,5 +5,6 @@
 #include "arguments.h"
 
 int check(const struct arguments *arguments);
+int ask(const struct arguments *arguments);
 
 #endif

@@ -24,6 +24,11 @@ static const struct command commands[] = {
      "Is the timetable accepted? Counts its stations, trips, stops and lines; or\n"
      "shows the line that is refused, the field to blame, what is wrong with it\n"
      "and what would be right.\n"},
+    {"ask", ask, "planner ask FILE FROM TO hh:mm [--csv]", 4, 4, OPTION_CSV,
+     "The rows that a rider reads who is at FROM at that time and wants to go to TO.\n"
+     "Minutes count from that time until arrival. Of two rows the slower one costs\n"
+     "fewer points.\n"
+     "  --csv  a line for each ride\n"},
 };
 
 #define COMMANDS (sizeof commands / sizeof commands[0])
