@@ -5,6 +5,7 @@
 #include "arguments.h"
 
 int check(const struct arguments *arguments);
+int show_sequences(const struct arguments *arguments);
 int ask(const struct arguments *arguments);
 
 #endif

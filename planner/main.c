@@ -24,6 +24,13 @@ static const struct command commands[] = {
      "Is the timetable accepted? Counts its stations, trips, stops and lines; or\n"
      "shows the line that is refused, the field to blame, what is wrong with it\n"
      "and what would be right.\n"},
+    {"sequences", show_sequences, "planner sequences FILE STATION [TARGET] [--why] [--csv]", 2, 3,
+     OPTION_WHY | OPTION_CSV,
+     "The sequences of stations that a display stores for STATION, to TARGET or to\n"
+     "all: the station, those where changing can pay, the target.\n"
+     "  --why  for each a minute and a connection for which it is optimal\n"
+     "  --csv  a line for each: source, target, changes, stations; with --why also\n"
+     "         minute, duration, penalty, rides (trip:boarding stop-alighting stop)\n"},
     {"ask", ask, "planner ask FILE FROM TO hh:mm [--csv]", 4, 4, OPTION_CSV,
      "The rows that a rider reads who is at FROM at that time and wants to go to TO.\n"
      "Minutes count from that time until arrival. Of two rows the slower one costs\n"
