@@ -36,6 +36,15 @@ static const struct command commands[] = {
      "Minutes count from that time until arrival. Of two rows the slower one costs\n"
      "fewer points.\n"
      "  --csv  a line for each ride\n"},
+    {"mistakes", show_mistakes, "planner mistakes FILE", 1, 1, 0,
+     "For each pair of stations: the first time at which a rider would miss a row,\n"
+     "if the planner had made one of the three mistakes, with the first example of\n"
+     "each.\n"
+     "  slower    a departure is struck since one that leaves earlier takes fewer\n"
+     "            minutes, from departure to arrival, and costs no more\n"
+     "  seated    a connection is struck since a bus on which the rider stays stands\n"
+     "            at a station for less than its change minutes\n"
+     "  quickest  all rows are struck but the quickest\n"},
 };
 
 #define COMMANDS (sizeof commands / sizeof commands[0])
