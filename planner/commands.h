@@ -8,5 +8,6 @@ int check(const struct arguments *arguments);
 int show_sequences(const struct arguments *arguments);
 int ask(const struct arguments *arguments);
 int show_mistakes(const struct arguments *arguments);
+int compare(const struct arguments *arguments);
 
 #endif

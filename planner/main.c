@@ -45,6 +45,10 @@ static const struct command commands[] = {
      "  seated    a connection is struck since a bus on which the rider stays stands\n"
      "            at a station for less than its change minutes\n"
      "  quickest  all rows are struck but the quickest\n"},
+    {"compare", compare, "planner compare OLD NEW [STATION] [--at hh:mm]..", 2, 3, OPTION_AT,
+     "The sequences that the new timetable loses and gains, for STATION or for all.\n"
+     "  --at  compares the answers at this time as well, to all stations; rows that\n"
+     "        differ in nothing but the numbers of trips are the same\n"},
 };
 
 #define COMMANDS (sizeof commands / sizeof commands[0])
