@@ -9,5 +9,6 @@ int show_sequences(const struct arguments *arguments);
 int ask(const struct arguments *arguments);
 int show_mistakes(const struct arguments *arguments);
 int compare(const struct arguments *arguments);
+int write_stores(const struct arguments *arguments);
 
 #endif

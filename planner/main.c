@@ -49,6 +49,9 @@ static const struct command commands[] = {
      "The sequences that the new timetable loses and gains, for STATION or for all.\n"
      "  --at  compares the answers at this time as well, to all stations; rows that\n"
      "        differ in nothing but the numbers of trips are the same\n"},
+    {"stores", write_stores, "planner stores FILE FOLDER", 2, 2, 0,
+     "Writes the store of every station to FOLDER, which must be there: 1.store and\n"
+     "so on, words of two bytes, the lower one first (docs/LAYOUT.md).\n"},
 };
 
 #define COMMANDS (sizeof commands / sizeof commands[0])
