@@ -3,24 +3,25 @@
  *
  *   host TIMETABLE FROM TO MINUTE
  *
- * gcc -std=c99 -Iinclude examples/host.c target/staticlib/libhost.a -o target/host
+ * examples/link target/host examples/host.c compiles it and links it with the library.
  */
 #include "dairyepoch.h"
 
 #include <stdio.h>
 #include <stdlib.h>
 
-#define TEXT_BYTES 65537 /* one more than a text may have */
-#define TABLE_WORDS 16384
+/* One more than a text may have, so that a longer one is refused and not cut off. */
+#define TEXT_BYTES (DAIRYEPOCH_TEXT_BYTES_MOST + 1)
+
+/* A store and an answer have no least length: these are those of the program listing. */
 #define STORE_WORDS 32768
 #define ANSWER_WORDS 16384
 
-
 /* All that the library works with is lent to it by the host, here as memory that is set aside once. */
 static uint8_t text[TEXT_BYTES];
-static uint16_t timetable[TABLE_WORDS];
-static uint16_t lines[TABLE_WORDS];
-static uint32_t work[TABLE_WORDS];
+static uint16_t timetable[DAIRYEPOCH_TIMETABLE_WORDS];
+static uint16_t lines[DAIRYEPOCH_LINES_WORDS];
+static uint32_t work[DAIRYEPOCH_WORK_WORDS];
 static uint16_t store[STORE_WORDS];
 static uint32_t answer[ANSWER_WORDS];
 
@@ -38,21 +39,23 @@ static size_t read_file(const char *name)
     return bytes;
 }
 
-/* The count of a reply; a refusal ends the program. */
+/* The count of a reply; a refusal ends the program, with its words. */
 static uint32_t done(const char *call, uint64_t reply)
 {
-    if (DAIRYEPOCH_NUMBER(reply) != 0) {
-        printf("%s: refused with number %lu", call, (unsigned long)DAIRYEPOCH_NUMBER(reply));
-        if (DAIRYEPOCH_NUMBER(reply) <= 7) {
+    uint32_t number = DAIRYEPOCH_NUMBER(reply);
+
+    if (number != DAIRYEPOCH_DONE) {
+        printf("%s: refused with number %lu", call, (unsigned long)number);
+        if (number <= DAIRYEPOCH_ENDS_EARLY) {
             printf(", line %lu", (unsigned long)DAIRYEPOCH_LINE(reply));
         }
-        printf("\n");
+        printf(": %s\n", dairyepoch_words(number));
         exit(1);
     }
     return DAIRYEPOCH_COUNT(reply);
 }
 
-/* Prints the row that begins at a word of the answer, and returns the word behind it. */
+/* Prints the row that begins at a word of the answer, and returns the word after it. */
 static const uint32_t *print_row(const uint32_t *row)
 {
     uint32_t ride, rides = row[2];
@@ -67,7 +70,7 @@ static const uint32_t *print_row(const uint32_t *row)
     return row;
 }
 
-static uint32_t number(const char *argument)
+static uint32_t number_of(const char *argument)
 {
     return (uint32_t)strtoul(argument, NULL, 10);
 }
@@ -82,17 +85,19 @@ int main(int count, char **arguments)
         fprintf(stderr, "host TIMETABLE FROM TO MINUTE\n");
         return 2;
     }
-    from = number(arguments[2]);
-    to = number(arguments[3]);
-    minute = number(arguments[4]);
+    from = number_of(arguments[2]);
+    to = number_of(arguments[3]);
+    minute = number_of(arguments[4]);
 
     bytes = read_file(arguments[1]);
-    done("read", dairyepoch_read(text, bytes, timetable, TABLE_WORDS));
-    done("build lines", dairyepoch_build_lines(timetable, TABLE_WORDS, lines, TABLE_WORDS, work, TABLE_WORDS));
-    done("make store", dairyepoch_make_store(timetable, TABLE_WORDS, lines, TABLE_WORDS, work, TABLE_WORDS, from, store,
-                                             STORE_WORDS));
-    rows = done("query", dairyepoch_query(timetable, TABLE_WORDS, lines, TABLE_WORDS, store, STORE_WORDS, work,
-                                          TABLE_WORDS, from, to, minute, answer, ANSWER_WORDS));
+    done("read", dairyepoch_read(text, bytes, timetable, DAIRYEPOCH_TIMETABLE_WORDS));
+    done("build lines", dairyepoch_build_lines(timetable, DAIRYEPOCH_TIMETABLE_WORDS, lines, DAIRYEPOCH_LINES_WORDS,
+                                               work, DAIRYEPOCH_WORK_WORDS));
+    done("make store", dairyepoch_make_store(timetable, DAIRYEPOCH_TIMETABLE_WORDS, lines, DAIRYEPOCH_LINES_WORDS,
+                                             work, DAIRYEPOCH_WORK_WORDS, from, store, STORE_WORDS));
+    rows = done("query", dairyepoch_query(timetable, DAIRYEPOCH_TIMETABLE_WORDS, lines, DAIRYEPOCH_LINES_WORDS, store,
+                                          STORE_WORDS, work, DAIRYEPOCH_WORK_WORDS, from, to, minute, answer,
+                                          ANSWER_WORDS));
     while (rows > 0) {
         row = print_row(row);
         rows--;

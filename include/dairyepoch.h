@@ -1,6 +1,16 @@
 /*
  * Dairyepoch: connections for stop displays.
  *
+ * Order of calls: read and build once, make a store once for each source, query often.
+ *
+ *   dairyepoch_read          a timetable text into words              once for each timetable
+ *   dairyepoch_build_lines   the line tables of these words           once for each timetable
+ *   dairyepoch_make_store    the store of a source                    once for each source
+ *   dairyepoch_query         the rows for a rider, from that store    whenever one asks
+ *
+ * The other calls can be left out: dairyepoch_direct answers with single rides and needs no store; the calls that check
+ * judge words that a host was handed, as every later call does by itself. examples/host.c is a whole host.
+ *
  * No call keeps anything between calls, allocates memory, or reads or writes anything but what is lent to it. Every
  * call ends, whatever the lent bytes and words are: the reply tells what is wrong with them. The caller sees to one
  * thing only: a pointer and the length after it describe memory that is there, aligned for its type, and the slices
@@ -10,27 +20,6 @@
  * A reply is 64 bits. The upper 32 are its number: 0 for success, or else the number of the first question that the
  * call had to answer with no. The lower 32 are a count on success; on a refusal they are the line for the numbers 1
  * to 7, and 0 for all others. A call that refuses has written no word of any result.
- *
- *   number  what was wrong                                              line
- *   1       the text has more than 65,536 bytes                         0
- *   2       the line has no known shape                                 the line, counted from 1
- *   3       a value is out of its range; a time above 47:59             the line
- *   4       the line is out of place                                    the line
- *   5       a station, trip or stop too many                            the line
- *   6       the stop's station is not listed or is that of the stop
- *           before, or its times do not follow each other               the line
- *   7       the text ends without a station, or amid a trip             the text's lines, plus one
- *   8       a lent slice is too short                                   0
- *   9       the timetable words come from no accepted text              0
- *   10      the line tables are not those of the timetable words lent
- *           with them; lent alone, those of no accepted timetable       0
- *   11      a station or the line is not there, or from and to are one  0
- *   12      the minute is above 2,879                                   0
- *   13      the store is not well made                                  0
- *   14      there is no feasible connection, or none whose pattern the
- *           store holds                                                 0
- *   15      the answer or store slice is too short for the result, or
- *           a store would have more than 16,383 nodes or arcs           0
  */
 #ifndef DAIRYEPOCH_H
 #define DAIRYEPOCH_H
@@ -41,6 +30,13 @@
 #ifdef __cplusplus
 extern "C" {
 #endif
+
+/* What a timetable has at most: bytes of text, stations, trips, and stops on all trips; and the minutes of two days. */
+#define DAIRYEPOCH_TEXT_BYTES_MOST 65536
+#define DAIRYEPOCH_STATIONS_MOST 64
+#define DAIRYEPOCH_TRIPS_MOST 256
+#define DAIRYEPOCH_STOPS_MOST 2048
+#define DAIRYEPOCH_MINUTES 2880
 
 /* The least length of a timetable slice, in 16-bit words. */
 #define DAIRYEPOCH_TIMETABLE_WORDS 16384
@@ -54,6 +50,100 @@ extern "C" {
 
 /* The words of an answer's row that has one ride, as all rows of a direct query have. */
 #define DAIRYEPOCH_DIRECT_ROW_WORDS 6
+
+/*
+ * More words than any answer has: durations rise from 1 to at most 2,879, and a row has 3 words and 3 for each of at
+ * most 63 rides. Hardly any answer comes near; the program listing lends 16,384 words.
+ */
+#define DAIRYEPOCH_ANSWER_WORDS_MOST (2879 * (3 + 3 * 63))
+
+/*
+ * The bytes of stack that each call needs at most, those of its own frame among them. A test runs the calls on a stack
+ * of its own, over the timetables that take most, and holds these numbers to what was touched.
+ */
+#define DAIRYEPOCH_READ_STACK 18432
+#define DAIRYEPOCH_CHECK_TIMETABLE_STACK 1024
+#define DAIRYEPOCH_BUILD_LINES_STACK 4096
+#define DAIRYEPOCH_CHECK_LINES_STACK 4096
+#define DAIRYEPOCH_CHECK_LINES_ALONE_STACK 54272
+#define DAIRYEPOCH_LINE_TRIPS_STACK 54272
+#define DAIRYEPOCH_DIRECT_STACK 15872
+#define DAIRYEPOCH_MAKE_STORE_STACK 69632
+#define DAIRYEPOCH_QUERY_STACK 69632
+
+/*
+ * The time of a call, in milliseconds, as `cargo run --release --bin bench` in tests/ measured it on one core of a
+ * server for timetables at the limits. A display takes longer by a factor of its own.
+ *
+ *   dairyepoch_read                0.13
+ *   dairyepoch_check_timetable     0.004
+ *   dairyepoch_build_lines         0.01 for one line, 0.35 for 256; dairyepoch_check_lines likewise
+ *   dairyepoch_check_lines_alone   0.07 for one line, 0.46 for 256; dairyepoch_line_trips likewise
+ *   dairyepoch_direct              0.02 for one line, 0.34 for 256, 1.1 for an answer of 507 rows
+ *   dairyepoch_make_store          3 on a rural timetable, 9 on random trips, 37 at worst
+ *   dairyepoch_query               0.1 on a rural timetable, 0.4 on random trips; up to 900 for a hundred rows or more
+ */
+
+/* The numbers of a reply. dairyepoch_words has words for each. */
+enum dairyepoch_number {
+    DAIRYEPOCH_DONE = 0,
+    DAIRYEPOCH_TEXT_TOO_LONG = 1,      /* line 0 */
+    DAIRYEPOCH_NO_SHAPE = 2,           /* from here to 6: the line, counted from 1 */
+    DAIRYEPOCH_OUT_OF_RANGE = 3,
+    DAIRYEPOCH_OUT_OF_PLACE = 4,
+    DAIRYEPOCH_TOO_MANY = 5,
+    DAIRYEPOCH_STOP_UNFIT = 6,
+    DAIRYEPOCH_ENDS_EARLY = 7,         /* the text's lines, plus one */
+    DAIRYEPOCH_SLICE_TOO_SHORT = 8,    /* from here on no line: 0 */
+    DAIRYEPOCH_NO_TIMETABLE = 9,
+    DAIRYEPOCH_OTHER_LINES = 10,
+    DAIRYEPOCH_NOT_LISTED = 11,
+    DAIRYEPOCH_NO_MINUTE = 12,
+    DAIRYEPOCH_STORE_ILL_MADE = 13,
+    DAIRYEPOCH_NO_CONNECTION = 14,
+    DAIRYEPOCH_RESULT_TOO_LONG = 15
+};
+
+/* What a reply of this number says, in words. docs/FORMAT.md tells what to do about each. */
+static inline const char *dairyepoch_words(uint32_t number)
+{
+    switch (number) {
+    case DAIRYEPOCH_DONE:
+        return "done";
+    case DAIRYEPOCH_TEXT_TOO_LONG:
+        return "the text has more than 65,536 bytes";
+    case DAIRYEPOCH_NO_SHAPE:
+        return "the line has no known shape";
+    case DAIRYEPOCH_OUT_OF_RANGE:
+        return "a value is out of its range";
+    case DAIRYEPOCH_OUT_OF_PLACE:
+        return "the line is out of place";
+    case DAIRYEPOCH_TOO_MANY:
+        return "a station, trip or stop too many";
+    case DAIRYEPOCH_STOP_UNFIT:
+        return "the stop's station is not listed or is that of the stop before, or its times do not follow each other";
+    case DAIRYEPOCH_ENDS_EARLY:
+        return "the text ends without a station, or amid a trip";
+    case DAIRYEPOCH_SLICE_TOO_SHORT:
+        return "a lent slice is too short";
+    case DAIRYEPOCH_NO_TIMETABLE:
+        return "the timetable words come from no accepted text";
+    case DAIRYEPOCH_OTHER_LINES:
+        return "the line tables are not those of the timetable words, or of no accepted timetable";
+    case DAIRYEPOCH_NOT_LISTED:
+        return "a station or the line is not there, or from and to are one";
+    case DAIRYEPOCH_NO_MINUTE:
+        return "the minute is above 2,879";
+    case DAIRYEPOCH_STORE_ILL_MADE:
+        return "the store is not well made";
+    case DAIRYEPOCH_NO_CONNECTION:
+        return "there is no feasible connection, or none whose pattern the store holds";
+    case DAIRYEPOCH_RESULT_TOO_LONG:
+        return "the result slice is too short, or a store would have more than 16,383 nodes or arcs";
+    default:
+        return "no number of a reply";
+    }
+}
 
 /* The number of a reply, and the count or line beside it. */
 #define DAIRYEPOCH_NUMBER(reply) ((uint32_t)((uint64_t)(reply) >> 32))

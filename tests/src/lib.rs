@@ -20,6 +20,7 @@ pub mod lines;
 pub mod random;
 pub mod reference;
 pub mod search;
+pub mod stack;
 pub mod store;
 pub mod tables;
 pub mod timetable;

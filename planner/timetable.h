@@ -1,0 +1,52 @@
+/* A timetable as people read it: the change values, stations, times and penalties of its text. */
+#ifndef PLANNER_TIMETABLE_H
+#define PLANNER_TIMETABLE_H
+
+#include "dairyepoch.h"
+#include "text.h"
+
+/* The fields of an S line and of a T line, after their letter. */
+enum { STATION_NUMBER = 1, CHANGE_MINUTES, CHANGE_PENALTY, STATION_FIELDS };
+enum { TRIP_NUMBER = 1, STOP_NUMBER, STOP_STATION, ARRIVE, DEPART, RIDE_PENALTY, STOP_FIELDS };
+
+struct station {
+    int change_minutes;
+    int change_penalty;
+};
+
+/* Arrive, or depart and penalty, are EMPTY where the text leaves them empty. */
+struct stop {
+    int station;
+    int arrive;
+    int depart;
+    int penalty;
+};
+
+/* Stations, trips and the stops of a trip count from 1, and so do the arrays. */
+struct timetable {
+    int stations;
+    int trips;
+    int stops; /* of all trips */
+    struct station station[DAIRYEPOCH_STATIONS_MOST + 1];
+    int first_stop[DAIRYEPOCH_TRIPS_MOST + 1]; /* the place of each trip's stop 1 */
+    struct stop stop[DAIRYEPOCH_STOPS_MOST + 1];
+};
+
+/* Takes in the first so many lines of a text. The library has found nothing wrong with these. */
+void take_lines(struct timetable *timetable, const char *text, size_t bytes, int lines);
+
+/* How many stops a trip has. */
+int stops_of(const struct timetable *timetable, int trip);
+
+const struct stop *stop_of(const struct timetable *timetable, int trip, int stop);
+
+/* The last stop so far; none before the first. */
+const struct stop *last_stop(const struct timetable *timetable);
+
+/* Whether the last trip so far has not ended. */
+bool is_open(const struct timetable *timetable);
+
+/* The minutes at which something leaves a station. Returns how many they are: rising, each once. */
+int departures(const struct timetable *timetable, int station, int minutes[DAIRYEPOCH_MINUTES]);
+
+#endif
