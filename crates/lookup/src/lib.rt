@@ -1,24 +1,37 @@
 // Line tables by their words: the lines, their courses, trips and times, and the lists of stations.
 ghost use mathlib.Core.Path.{_≡_};
 ghost use Prim.Native.Nat.{_+_, _-_, _≤_, _<_};
-ghost use lib.ListN.{getD};
+ghost use lib.ListN.{length, getD};
+ghost use lib.Seq.{slice};
 ghost use Rattle.lookup.specs.First.{firstTrip};
 ghost use Rattle.lookup.specs.Lookup.{
   lineAt,
   numberAt,
   stationAt,
-  pointsAt,
+  totalAt,
   timesPlace,
   arriveAt,
   departAt,
   callsPlace,
+  listOf,
 };
+
+// The words of a position on a line, and the values that one word has.
+const POSITION_WORDS: usize = 3;
+
+const WORD_VALUES: usize = 65536;
 
 // A line: where its words begin, its positions and its trips.
 pub struct Line {
     pub at: usize,
     pub positions: usize,
     pub trips: usize,
+}
+
+// The indices of some words: from one up to before another.
+pub struct List {
+    pub from: usize,
+    pub end: usize,
 }
 
 // The word at index i, or 0 past the end.
@@ -60,15 +73,16 @@ pub fn station_at(v: &[u16], l: Line, p: usize) -> usize
     requires { ⌜ (l .at < 65536) × (l .trips < 65536) × (p < 65536) ⌝ }
     ensures { λ r. ⌜ (r ≡ stationAt (now (v .entry)) l p) × (r < 65536) ⌝ }
 {
-    peek(v, l.at + 2 + l.trips + 2 * p)
+    peek(v, l.at + 2 + l.trips + POSITION_WORDS * p)
 }
 
-// The penalty of the ride from place p of a line to the next.
-pub fn points_at(v: &[u16], l: Line, p: usize) -> usize
+// What the rides of a line cost from its first place up to place p: a low word and a high word.
+pub fn total_at(v: &[u16], l: Line, p: usize) -> usize
     requires { ⌜ (l .at < 65536) × (l .trips < 65536) × (p < 65536) ⌝ }
-    ensures { λ r. ⌜ (r ≡ pointsAt (now (v .entry)) l p) × (r < 65536) ⌝ }
+    ensures { λ r. ⌜ (r ≡ totalAt (now (v .entry)) l p) × (r < 4294967296) ⌝ }
 {
-    peek(v, l.at + 2 + l.trips + 2 * p + 1)
+    let at = l.at + 2 + l.trips + POSITION_WORDS * p;
+    peek(v, at + 1) + WORD_VALUES * peek(v, at + 2)
 }
 
 // The index where the arrivals at place p of a line begin.
@@ -76,7 +90,7 @@ fn times_place(l: Line, p: usize) -> usize
     requires { ⌜ (l .at < 65536) × (l .positions < 65536) × (l .trips < 65536) × (p < 65536) ⌝ }
     ensures { λ r. ⌜ (r ≡ timesPlace l p) × (r < 9000000000) ⌝ }
 {
-    l.at + 2 + l.trips + 2 * l.positions + 2 * (p * l.trips)
+    l.at + 2 + l.trips + POSITION_WORDS * l.positions + 2 * (p * l.trips)
 }
 
 // When the trip at place j of a line arrives at place p.
@@ -103,6 +117,26 @@ pub fn calls_place(v: &[u16], s: usize) -> usize
     peek(v, peek(v, 3) + s)
 }
 
+// Where the words of the list of a station stand: from one index up to before another. A station that is not listed has
+// none.
+pub fn list_of(v: &[u16], station: usize) -> List
+    ensures { λ r. ⌜ slice (r .from) (r .end) (now (v .entry)) ≡ listOf (now (v .entry)) station ⌝ }
+    ensures { λ r. ⌜ (r .from < 65536) × (r .end < 65536) × (r .end ≤ length (now (v .entry))) ⌝ }
+{
+    if station < 1 {
+        return List { from: 0, end: 0 };
+    }
+    if peek(v, 0) < station {
+        return List { from: 0, end: 0 };
+    }
+    let from = calls_place(v, station - 1);
+    let end = calls_place(v, station);
+    if v.len() < end {
+        return List { from, end: v.len() };
+    }
+    List { from, end }
+}
+
 // A number from 1 as a place from 0. A word that is 0 where none should be counts as 1.
 fn less_one(n: usize) -> usize
     ensures { λ r. ⌜ r ≡ n - 1 ⌝ }
@@ -113,12 +147,11 @@ fn less_one(n: usize) -> usize
     n - 1
 }
 
-// The line of the call at index k.
-pub fn call_line(v: &[u16], k: usize) -> Line
-    ensures { λ r. ⌜ r ≡ lineAt (now (v .entry)) (getD (now (v .entry)) k 0 - 1) ⌝ }
-    ensures { λ r. ⌜ (r .at < 65536) × (r .positions < 65536) × (r .trips < 65536) ⌝ }
+// The place of the line of the call at index k.
+pub fn call_line(v: &[u16], k: usize) -> usize
+    ensures { λ r. ⌜ (r ≡ getD (now (v .entry)) k 0 - 1) × (r < 65536) ⌝ }
 {
-    line_at(v, less_one(peek(v, k)))
+    less_one(peek(v, k))
 }
 
 // The place on its line of the call at index k.

@@ -8,4 +8,4 @@ returns : tie.Need-returns
 returns c = (search call-line-is, search needs)
 
 pub call-line-spec : {M : Type 1} → statement M
-call-line-spec = tie.close (tie.spec (λ c. search needs) (λ c. search needs) (λ c. search needs) returns)
+call-line-spec = tie.close (tie.spec (λ c. search needs) (λ c. search needs) returns)
