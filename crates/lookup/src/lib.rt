@@ -1,9 +1,9 @@
 // Line tables by their words: the lines, their courses, trips and times, and the lists of stations.
 ghost use mathlib.Core.Path.{_≡_};
 ghost use Prim.Native.Nat.{_+_, _-_, _≤_, _<_};
-ghost use lib.ListN.{length, getD};
-ghost use lib.Seq.{slice};
+ghost use lib.ListN.{getD};
 ghost use Rattle.lookup.specs.First.{firstTrip};
+ghost use Rattle.lookup.specs.Calls.{callAt, callsOf, callsIn, Inside, later, after};
 ghost use Rattle.lookup.specs.Lookup.{
   lineAt,
   numberAt,
@@ -13,7 +13,6 @@ ghost use Rattle.lookup.specs.Lookup.{
   arriveAt,
   departAt,
   callsPlace,
-  listOf,
 };
 
 // The words of a position on a line, and the values that one word has.
@@ -28,10 +27,16 @@ pub struct Line {
     pub trips: usize,
 }
 
-// The indices of some words: from one up to before another.
-pub struct List {
+// A piece of line tables: the words from one index up to before another.
+pub struct Piece {
     pub from: usize,
     pub end: usize,
+}
+
+// A call in the list of a station: the place of its line, and the place on it.
+pub struct Call {
+    pub line: usize,
+    pub place: usize,
 }
 
 // The word at index i, or 0 past the end.
@@ -117,24 +122,22 @@ pub fn calls_place(v: &[u16], s: usize) -> usize
     peek(v, peek(v, 3) + s)
 }
 
-// Where the words of the list of a station stand: from one index up to before another. A station that is not listed has
-// none.
-pub fn list_of(v: &[u16], station: usize) -> List
-    ensures { λ r. ⌜ slice (r .from) (r .end) (now (v .entry)) ≡ listOf (now (v .entry)) station ⌝ }
-    ensures { λ r. ⌜ (r .from < 65536) × (r .end < 65536) × (r .end ≤ length (now (v .entry))) ⌝ }
+// The list of a station. A station that is not listed has none.
+pub fn list_of(v: &[u16], station: usize) -> Piece
+    ensures { λ r. ⌜ (callsIn (now (v .entry)) r ≡ callsOf (now (v .entry)) station) × Inside (now (v .entry)) r ⌝ }
 {
     if station < 1 {
-        return List { from: 0, end: 0 };
+        return Piece { from: 0, end: 0 };
     }
     if peek(v, 0) < station {
-        return List { from: 0, end: 0 };
+        return Piece { from: 0, end: 0 };
     }
     let from = calls_place(v, station - 1);
     let end = calls_place(v, station);
     if v.len() < end {
-        return List { from, end: v.len() };
+        return Piece { from, end: v.len() };
     }
-    List { from, end }
+    Piece { from, end }
 }
 
 // A number from 1 as a place from 0. A word that is 0 where none should be counts as 1.
@@ -147,19 +150,45 @@ fn less_one(n: usize) -> usize
     n - 1
 }
 
-// The place of the line of the call at index k.
-pub fn call_line(v: &[u16], k: usize) -> usize
-    ensures { λ r. ⌜ (r ≡ getD (now (v .entry)) k 0 - 1) × (r < 65536) ⌝ }
+// The call at index k.
+pub fn call_at(v: &[u16], k: usize) -> Call
+    requires { ⌜ k < 65536 ⌝ }
+    ensures { λ r. ⌜ (r ≡ callAt (now (v .entry)) k) × (r .line < 65536) × (r .place < 65536) ⌝ }
 {
-    less_one(peek(v, k))
+    Call {
+        line: less_one(peek(v, k)),
+        place: less_one(peek(v, k + 1)),
+    }
 }
 
-// The place on its line of the call at index k.
-pub fn call_place(v: &[u16], k: usize) -> usize
-    requires { ⌜ k < 65536 ⌝ }
-    ensures { λ r. ⌜ (r ≡ getD (now (v .entry)) (k + 1) 0 - 1) × (r < 65536) ⌝ }
+// Whether call d stands after call c: on a later line, or at a later place of the same.
+fn is_later(c: Call, d: Call) -> bool
+    ensures { λ r. ⌜ r ≡ later c d ⌝ }
 {
-    less_one(peek(v, k + 1))
+    if c.line < d.line {
+        return true;
+    }
+    if d.line < c.line {
+        return false;
+    }
+    c.place < d.place
+}
+
+// What is left of a list of calls after call c.
+pub fn calls_after(v: &[u16], c: Call, list: Piece) -> Piece
+    requires { ⌜ Inside (now v) list ⌝ }
+    ensures { λ r. ⌜ (callsIn (now (v .entry)) r ≡ after c (callsIn (now (v .entry)) list))
+        × Inside (now (v .entry)) r ⌝ }
+{
+    let end = list.end;
+    let mut k = list.from;
+    while k + 1 < end {
+        if is_later(c, call_at(v, k)) {
+            break;
+        }
+        k += 2;
+    }
+    Piece { from: k, end }
 }
 
 // The first trip of a line that leaves place x at the minute or later; the number of its trips if none does.
