@@ -9,14 +9,18 @@ use lib.ListN.{length, getD}
 use lib.Seq.{slice}
 use Rattle.lookup.specs.declared.Call.{Call as CallStruct}
 use Rattle.lookup.specs.declared.Piece.{Piece as PieceStruct}
-use Rattle.lookup.specs.Lookup.{listOf}
+use Rattle.lookup.specs.declared.Boarding.{Boarding as BoardingStruct}
+use Rattle.lookup.specs.Lookup.{lineAt, listOf}
 
--- a call: the place of its line, and the place on it; the structs of src/
+-- the structs of src/: a call is the place of its line, and the place on it
 abbrev pub Call : Type 0
 Call = CallStruct
 
 abbrev pub Piece : Type 0
 Piece = PieceStruct
+
+abbrev pub Boarding : Type 0
+Boarding = BoardingStruct
 
 -- the call of the words at indices k and k + 1, which are numbers from 1
 abbrev pub callAt : List ℕ → (k : ℕ) → Call
@@ -50,3 +54,18 @@ later c d =
 unfoldable pub after : Call → List Call → List Call
 after c [] = []
 after c (d ∷ l) = cond (later c d) (d ∷ l) (after c l)
+
+-- who boards at the call at index k, where the calls in a piece are left to alight at: the call, its line, and the calls
+-- after it
+pub record BoardsAt (v : List ℕ) (k : ℕ) (rest : Piece) (g : Boarding) : Type 0 where
+  pub call : g .call ≡ callAt v k
+  pub line : g .line ≡ lineAt v (g .call .line)
+  pub left : callsIn v (g .rest) ≡ after (g .call) (callsIn v rest)
+
+-- how large its numbers get
+pub record Within (v : List ℕ) (g : Boarding) : Type 0 where
+  pub at-few : g .line .at < 65536
+  pub positions-few : g .line .positions < 65536
+  pub trips-few : g .line .trips < 65536
+  pub place-few : g .call .place < 65536
+  pub rest-inside : Inside v (g .rest)

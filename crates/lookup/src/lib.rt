@@ -3,7 +3,7 @@ ghost use mathlib.Core.Path.{_≡_};
 ghost use Prim.Native.Nat.{_+_, _-_, _≤_, _<_};
 ghost use lib.ListN.{getD};
 ghost use Rattle.lookup.specs.First.{firstTrip};
-ghost use Rattle.lookup.specs.Calls.{callAt, callsOf, callsIn, Inside, later, after};
+ghost use Rattle.lookup.specs.Calls.{callAt, callsOf, callsIn, Inside, later, after, BoardsAt, Within};
 ghost use Rattle.lookup.specs.Lookup.{
   lineAt,
   numberAt,
@@ -37,6 +37,13 @@ pub struct Piece {
 pub struct Call {
     pub line: usize,
     pub place: usize,
+}
+
+// A call to board at, its line, and the calls that are left to alight at.
+pub struct Boarding {
+    pub call: Call,
+    pub line: Line,
+    pub rest: Piece,
 }
 
 // The word at index i, or 0 past the end.
@@ -189,6 +196,17 @@ pub fn calls_after(v: &[u16], c: Call, list: Piece) -> Piece
         k += 2;
     }
     Piece { from: k, end }
+}
+
+// Who boards at the call at index k, where some calls are left to alight at: those after it are left then.
+pub fn boarding_at(v: &[u16], k: usize, rest: Piece) -> Boarding
+    requires { ⌜ (k < 65536) × Inside (now v) rest ⌝ }
+    ensures { λ r. ⌜ BoardsAt (now (v .entry)) k rest r × Within (now (v .entry)) r ⌝ }
+{
+    let call = call_at(v, k);
+    let line = line_at(v, call.line);
+    let rest = calls_after(v, call, rest);
+    Boarding { call, line, rest }
 }
 
 // The first trip of a line that leaves place x at the minute or later; the number of its trips if none does.
