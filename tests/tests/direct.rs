@@ -428,7 +428,7 @@ fn the_first_no_ends_it() {
     let mut random = Random::new(18);
     let good = Lent::text(M);
     for ([slice, timetable, lines, station, minute, none, room], number) in noes([8, 9, 10, 11, 12, 14, 15]) {
-        let shorts = if slice { &[0, 1, 51, 16_383][..] } else { &[] };
+        let shorts = if slice { &[0, 1, 56, 16_383][..] } else { &[] };
         let lent = good.with_noes(timetable, lines);
         let (from, to) = if none { (3, 1) } else { (2, 3) };
         let queries = match station {

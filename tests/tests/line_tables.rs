@@ -14,12 +14,12 @@ use dairyepoch_tests::timetable::{clock, Timetable};
 use dairyepoch_tests::words::{to_words, TIMETABLE_WORDS};
 
 #[rustfmt::skip]
-const M_LINES: [u16; 51] = [
-    3, 2, 3, 37,
-    6, 21,
-    3, 1,  1,  1, 0,  2, 0,  3, 0,  0, 480,  500, 501,  560, 0,
-    2, 2,  3, 2,  2, 0,  3, 0,  0, 0, 502, 503,  515, 520, 0, 0,
-    41, 43, 47, 51,
+const M_LINES: [u16; 56] = [
+    3, 2, 3, 42,
+    6, 24,
+    3, 1,  1,  1, 0, 0,  2, 0, 0,  3, 0, 0,  0, 480,  500, 501,  560, 0,
+    2, 2,  3, 2,  2, 0, 0,  3, 0, 0,  0, 0, 502, 503,  515, 520, 0, 0,
+    46, 48, 52, 56,
     1, 1,
     1, 2,  2, 1,
     1, 3,  2, 2,
@@ -186,10 +186,10 @@ fn a_station_met_twice_is_listed_twice() {
     let text = two_trips([[",00:07,1", "00:08,00:09,2", "00:10,,"], [",00:07,1", "00:09,00:09,2", "00:11,,"]]);
     #[rustfmt::skip]
     let words = [
-        2, 1, 2, 27,
+        2, 1, 2, 30,
         5,
-        3, 2,  1, 2,  1, 1,  2, 2,  1, 0,  0, 0, 7, 7,  8, 9, 9, 9,  10, 11, 0, 0,
-        30, 34, 36,
+        3, 2,  1, 2,  1, 0, 0,  2, 1, 0,  1, 3, 0,  0, 0, 7, 7,  8, 9, 9, 9,  10, 11, 0, 0,
+        33, 37, 39,
         1, 1,  1, 3,
         1, 2,
     ];
@@ -325,7 +325,7 @@ fn one_trip_of_all_stops() {
     for stations in [2, 3, 63, 64] {
         let words = lent(&with_trips(&mut random, stations, &[2_048]), &mut random);
         Host::new(14).expect_lines(&words, 0, 1);
-        assert_eq!(built(&words).len(), 4 + 1 + (2 + 1 + 4_096 + 4_096) + stations + 1 + 4_096);
+        assert_eq!(built(&words).len(), 4 + 1 + (2 + 1 + 6_144 + 4_096) + stations + 1 + 4_096);
     }
 }
 
@@ -337,7 +337,7 @@ fn a_slice_too_short_gives_8_before_9() {
     const ENOUGH: usize = 16_384;
     for words in &whole {
         for words in [words.clone(), damaged(words.clone())] {
-            for short in [0, 1, 41, 51, 13_381, 16_383] {
+            for short in [0, 1, 41, 56, 15_429, 16_383] {
                 Host::new(16).expect_lines(&words[..short], 8, 0);
                 Host::lending_both(short, ENOUGH, 17).expect_lines(&words, 8, 0);
                 Host::lending_both(ENOUGH, short, 18).expect_lines(&words, 8, 0);

@@ -835,7 +835,7 @@ fn the_first_no_ends_it() {
     let good = WithStore::of_m(&mut random);
     for (noes, number) in noes([8, 9, 10, 11, 12, 13, 14, 15]) {
         let [slice, timetable, lines, station, minute, store, none, room] = noes;
-        let shorts = if slice { &[0, 51, 16_383][..] } else { &[] };
+        let shorts = if slice { &[0, 56, 16_383][..] } else { &[] };
         let store = match (store, none) {
             (true, _) => random.pick(&[&[][..], &[0], &[0, 2, 3, 0, 3, 0], &[0, 16_384], &[1, 0, 2, 1]]),
             (false, true) => random.pick(&[&[0, 0][..], &[1, 1, 2, 0, 2, 0], &[1, 1, 3, 0, 3, 1]]),

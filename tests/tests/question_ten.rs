@@ -157,7 +157,7 @@ fn many_values_in_each_word_of_m() {
     let Lent { timetable: words, lines: mut tables } = Lent::new(&accepted(M), &mut random);
     let edges = [1_000, 2_878, 2_879, 2_880, 4_096, 16_383, 16_384, 32_767, 32_768, 65_534, 65_535];
     let mut tally = [0; 11];
-    for at in 0..51 {
+    for at in 0..56 {
         let word = tables[at];
         for value in (0..=120).chain((121..600).step_by(7)).chain([514, 515, 516, 520, 521, 559, 560]).chain(edges) {
             tables[at] = value;
@@ -377,7 +377,7 @@ fn heads_that_lead_out_of_the_slice() {
     let mut random = Random::new(32);
     let Lent { timetable: words, lines: mut tables } = Lent::new(&accepted(M), &mut random);
     let head: Vec<u16> = tables[..4].to_vec();
-    let counts = [0, 1, 2, 3, 37, 64, 65, 256, 16_383, 65_535];
+    let counts = [0, 1, 2, 3, 42, 64, 65, 256, 16_383, 65_535];
     let heads = counts.iter().flat_map(|&stations| counts.iter().map(move |&lines| (stations, lines)));
     for (stations, lines) in heads {
         for (trips, index) in counts.iter().flat_map(|&trips| counts.iter().map(move |&index| (trips, index))) {
@@ -468,7 +468,7 @@ fn the_first_no_ends_it() {
         assert_eq!(host.check_lines(&vec![u16::MAX; TIMETABLE_WORDS], &vec![u16::MAX; LINE_WORDS]), 9);
         for words in [&words, &damaged(words.clone())] {
             for tables in [&tables, &wrong] {
-                for short in [0, 1, 51, 13_381, 16_383] {
+                for short in [0, 1, 56, 15_429, 16_383] {
                     assert_eq!(host.check_lines(&words[..short], tables), 8);
                     assert_eq!(host.check_lines(words, &tables[..short]), 8);
                     assert_eq!(host.check_lines_alone(&tables[..short]), 8);
@@ -498,7 +498,7 @@ fn slices_of_16384_words_or_more_are_long_enough() {
         ] {
             let mut host = Host::lending_both(0, work_length, 42);
             let mut wrong = tables.clone();
-            wrong[13_380] ^= 1;
+            wrong[15_428] ^= 1;
             assert_eq!(ask_both(&mut host, words, tables, true), 0);
             assert_eq!(ask_both(&mut host, words, &wrong, false), 10);
             assert_eq!(host.check_lines(&damaged(words.clone()), tables), 9);
