@@ -3,8 +3,9 @@
 use dairyepoch_tests::examples::M;
 use dairyepoch_tests::ffi::{self, Reply};
 use dairyepoch_tests::generate::{
-    largest, long_lines, overtaking, timetable, with_shared_ways, with_trips, Size, LARGE, MIDDLING, SMALL,
+    largest, long_lines, one_way, overtaking, timetable, with_shared_ways, with_trips, Size, LARGE, MIDDLING, SMALL,
 };
+use dairyepoch_tests::handmade;
 use dairyepoch_tests::host::{self, longer, Host};
 use dairyepoch_tests::lent::damaged;
 use dairyepoch_tests::lines::{lines, same_way, LINE_WORDS, LINE_WORDS_MOST, WORK_WORDS};
@@ -194,6 +195,56 @@ fn a_station_met_twice_is_listed_twice() {
         1, 2,
     ];
     assert_eq!(built(&lent_text(&text)), words);
+}
+
+/// The words of a position of one trip that has this ride penalty at each of 2,048 stops; places count from 0.
+fn position(penalty: u16, place: usize) -> [u16; 3] {
+    let words = lent(&one_way(2_048, penalty, &[0, 2_047]), &mut Random::new(30));
+    Host::new(31).expect_lines(&words, 0, 1);
+    built(&words)[8 + 3 * place..][..3].try_into().expect("3 words")
+}
+
+#[test]
+fn a_total_has_two_words_the_low_one_first() {
+    for (place, words) in [
+        (0, [1, 0, 0]),
+        (1, [4, 100, 0]),
+        (2, [3, 200, 0]),
+        (655, [4, 65_500, 0]),
+        (656, [3, 64, 1]),
+        (1_310, [3, 65_464, 1]),
+        (1_311, [4, 28, 2]),
+        (1_966, [3, 65_528, 2]),
+        (1_967, [4, 92, 3]),
+        (2_043, [4, 7_692, 3]),
+        (2_046, [3, 7_992, 3]),
+        (2_047, [2, 8_092, 3]),
+    ] {
+        assert_eq!(position(100, place), words, "place {place}");
+    }
+    // exactly 65,535, 65,536 and 131,072
+    assert_eq!(position(51, 1_285), [4, 65_535, 0]);
+    assert_eq!(position(51, 1_286), [3, 50, 1]);
+    assert_eq!(position(64, 1_023), [4, 65_472, 0]);
+    assert_eq!(position(64, 1_024), [3, 0, 1]);
+    assert_eq!(position(0, 2_047), [2, 0, 0]);
+    assert_eq!([1_310, 1_311].map(|place| position(50, place)), [[3, 65_500, 0], [4, 14, 1]]);
+}
+
+#[test]
+fn each_line_has_totals_of_its_own() {
+    let trips: [&[_]; 2] = [&[(1, 0, 10, 7), (2, 20, 20, 90), (1, 30, 0, 0)], &[(2, 0, 15, 5), (1, 25, 0, 0)]];
+    #[rustfmt::skip]
+    let words = [
+        2, 2, 2, 37,
+        6, 24,
+        3, 1,  1,  1, 0, 0,  2, 7, 0,  1, 97, 0,  0, 10,  20, 20,  30, 0,
+        2, 1,  2,  2, 0, 0,  1, 5, 0,  0, 15,  25, 0,
+        40, 46, 50,
+        1, 1,  1, 3,  2, 2,
+        1, 2,  2, 1,
+    ];
+    assert_eq!(built(&lent_text(&handmade::text(&[(0, 1); 2], &trips))), words);
 }
 
 /// What must have been met among generated timetables.
