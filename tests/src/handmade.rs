@@ -1,6 +1,6 @@
 //! Texts of timetables that a test writes down number by number.
 
-use crate::timetable::{Onward, Station, Stop, Timetable};
+use crate::timetable::{Onward, Station, Stop, Timetable, RIDE_PENALTY_MOST};
 
 /// Station, arrival, departure and ride penalty of a stop. No arrival counts at a trip's first stop, and neither of the
 /// others at its last.
@@ -31,4 +31,17 @@ pub fn hop(from: u16, to: u16, depart: u16, arrive: u16, penalty: u16) -> Hop {
 /// As `text`, where all trips are of two stops.
 pub fn text_of_hops(stations: &[(u16, u16)], hops: &[Hop]) -> String {
     text(stations, &hops.iter().map(|hop| &hop[..]).collect::<Vec<_>>())
+}
+
+/// A trip from one station to another by stations 3 and 4 in turn, whose ride penalties add up to so much: 100 at each
+/// stop, as long as there is so much left. It rides a minute from each stop to the next, and then to its last until
+/// `arrive`.
+pub fn detour(from: u16, to: u16, depart: u16, arrive: u16, penalty: u32) -> Vec<Numbers> {
+    let rides = penalty.div_ceil(RIDE_PENALTY_MOST.into()).max(1) as u16;
+    let stop = |place: u16| {
+        let left = penalty - u32::from(place) * u32::from(RIDE_PENALTY_MOST);
+        let station = if place == 0 { from } else { 3 + place % 2 };
+        (station, depart + place, depart + place, left.min(RIDE_PENALTY_MOST.into()) as u16)
+    };
+    (0..rides).map(stop).chain([(to, arrive, 0, 0)]).collect()
 }
