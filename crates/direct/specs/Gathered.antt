@@ -140,7 +140,7 @@ module _
         let listed = all-listed v n t told a u b (r .0) (r .1) in
         let q = all-read-out v n t told a u b some inside (listed .0) (listed .1) (r .0) (r .1) in
         let k = q .0 in
-        Memᴰ·cast (sym (ap direct (k .is) ∙ r .2)) 
+        Memᴰ·cast (sym (ap direct (k .is) ∙ r .2))
         (by-direct (k .i) (k .x) (k .y) (k .j) (k .by) listed (q .1))
 
     -- a direct ride by the line of its trip
@@ -181,7 +181,7 @@ module _
         let timely : T (leb u (r .0 .depart)) = search reads in
         let k = on-its-line (r .0) from to (rides-out t (r .0) (r .1)) in
         let leaves = subst (λ r. T (leb u (r .depart))) (sym (k .is)) timely in
-        let behind = 
+        let behind =
         by-timely v n t told a u b some inside (listed .0) (listed .1) (k .i) (k .x) (k .y) (k .j) (k .by) leaves in
         Memᴰ·cast (sym (ap direct (k .is) ∙ r .3))
         (Memᴰ·map direct (all-read-in v n t told a u b some inside (listed .0) (listed .1) (k .i) (k .x) (k .y) (k .j) (k .by) behind))

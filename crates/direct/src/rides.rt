@@ -207,16 +207,7 @@ fn keep_reach(v: &[u16], g: Boarding, first: usize, best: &[u32], kept: &mut [u3
             break;
         }
         let points = costs::ride_points(v, g.line, g.call.place, d.place);
-        keep_trips(
-            v,
-            g.line,
-            g.call.place,
-            d.place,
-            first,
-            points,
-            best,
-            kept,
-        );
+        keep_trips(v, g.line, g.call.place, d.place, first, points, best, kept);
         k += 2;
     }
 }

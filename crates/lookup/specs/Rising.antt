@@ -115,9 +115,10 @@ module _ (c : Call) where
 rising-append : (a b : List Call) → Rising a → Rising b → ((c d : Call) → c ∈ a → d ∈ b → Later c d)
     → Rising (a ++ b)
 rising-append [] b r s h = s
-rising-append (c ∷ a) b r s h =
-    (λ d m. append-cases a m (λ i. r .0 d i) (λ i. h c d (here refl) i),
-    rising-append a b (r .1) s (λ e d i j. h e d (there i) j))
+rising-append (c ∷ a) b r s h = (
+  λ d m. append-cases a m (λ i. r .0 d i) (λ i. h c d (here refl) i),
+  rising-append a b (r .1) s (λ e d i j. h e d (there i) j),
+)
 
 abbrev pub callOf : (i p : ℕ) → Call
 callOf i p = record { line = i; place = p }
