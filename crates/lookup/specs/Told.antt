@@ -54,7 +54,6 @@ pub record Told (v : List ℕ) (n : ℕ) (t : List Trip) : Type 0 where
   pub line-count : lineCount v ≡ length (lines t)
   pub trip-count : getD v 2 0 ≡ length t
   pub line : (i : ℕ) → i < length (lines t) → LineTold v t i (getD (lines t) i [])
-  pub calls-inside : (s : ℕ) → s < n → callsPlace v (s + 1) ≤ length v
   pub calls : (s : ℕ) → s < n → slice (callsPlace v s) (callsPlace v (s + 1)) v ≡ callPairs t (suc s)
 
 -- the words begin with those of the line tables: "no question judges the words past a table"

@@ -122,7 +122,7 @@ pub fn depart_at(v: &[u16], l: Line, p: usize, j: usize) -> usize
 }
 
 // Where the list of station s + 1 begins.
-pub fn calls_place(v: &[u16], s: usize) -> usize
+fn calls_place(v: &[u16], s: usize) -> usize
     requires { ⌜ s < 65536 ⌝ }
     ensures { λ r. ⌜ (r ≡ callsPlace (now (v .entry)) s) × (r < 65536) ⌝ }
 {
