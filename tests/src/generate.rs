@@ -101,9 +101,30 @@ pub fn most_rows() -> Timetable {
         }
         way.push((2, 0));
     }
+    minute_by_minute(4, &way)
+}
+
+/// One trip of so many stops, each with this ride penalty, which can add up to 204,700. It meets stations 1, 2, .. once
+/// each, at these places counted from 0 and rising; elsewhere it goes to and fro between two more.
+pub fn one_way(stops: usize, penalty: u16, places: &[usize]) -> Timetable {
+    let station = |place: usize| match places.iter().position(|&marked| marked == place) {
+        Some(marked) => marked + 1,
+        None => places.len() + 1 + place % 2,
+    };
+    let way: Way = (0..stops).map(|place| (station(place), penalty)).collect();
+    minute_by_minute(places.len() + 2, &way)
+}
+
+/// For `one_way` with 2,048 stops and ride penalty 100: its ends, and where its total passes 65,536, 131,072 and
+/// 196,608, each with places beside them.
+pub const TELLING_PLACES: [usize; 16] =
+    [0, 1, 654, 655, 656, 657, 1_309, 1_310, 1_311, 1_312, 1_965, 1_966, 1_967, 1_968, 2_046, 2_047];
+
+/// A timetable of one trip, which takes a minute from each stop to the next and waits nowhere.
+fn minute_by_minute(stations: usize, way: &[(usize, u16)]) -> Timetable {
     let rides: Vec<(u16, u16)> = (1..way.len() as u16).map(|minute| (minute, minute + 1)).collect();
-    let stations = vec![Station { change_minutes: 0, change_penalty: CHANGE_PENALTY_LEAST }; 4];
-    Timetable { stations, trips: vec![trip_on(&way, &rides)] }
+    let stations = vec![Station { change_minutes: 0, change_penalty: CHANGE_PENALTY_LEAST }; stations];
+    Timetable { stations, trips: vec![trip_on(way, &rides)] }
 }
 
 /// A timetable of few ways, alike or almost so, with trips that run a little before or behind one another.
@@ -471,6 +492,19 @@ mod tests {
         let timetable = most_rows();
         assert_eq!(timetable.trips[0].len(), 2_044);
         assert_eq!(read(&timetable.to_text()), Ok(timetable));
+    }
+
+    #[test]
+    fn one_way_reads_back_from_its_text() {
+        for places in [&[0, 2_047][..], &[], &[0, 1, 2, 655, 656, 2_046]] {
+            let timetable = one_way(STOPS_MOST, RIDE_PENALTY_MOST, places);
+            assert_eq!(timetable.trips[0].len(), STOPS_MOST);
+            for (station, &place) in (1..).zip(places) {
+                let met = timetable.trips[0].iter().position(|stop| stop.station == station);
+                assert_eq!(met, Some(place));
+            }
+            assert_eq!(read(&timetable.to_text()), Ok(timetable));
+        }
     }
 
     #[test]

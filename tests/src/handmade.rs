@@ -1,6 +1,6 @@
 //! Texts of timetables that a test writes down number by number.
 
-use crate::timetable::{Onward, Station, Stop, Timetable};
+use crate::timetable::{Onward, Station, Stop, Timetable, RIDE_PENALTY_MOST};
 
 /// Station, arrival, departure and ride penalty of a stop. No arrival counts at a trip's first stop, and neither of the
 /// others at its last.
@@ -32,3 +32,30 @@ pub fn hop(from: u16, to: u16, depart: u16, arrive: u16, penalty: u16) -> Hop {
 pub fn text_of_hops(stations: &[(u16, u16)], hops: &[Hop]) -> String {
     text(stations, &hops.iter().map(|hop| &hop[..]).collect::<Vec<_>>())
 }
+
+/// A trip from one station to another by stations 3 and 4 in turn, whose ride penalties add up to so much: 100 at each
+/// stop, as long as there is so much left. It rides a minute from each stop to the next, and then to its last until
+/// `arrive`.
+pub fn detour(from: u16, to: u16, depart: u16, arrive: u16, penalty: u32) -> Vec<Numbers> {
+    let rides = penalty.div_ceil(RIDE_PENALTY_MOST.into()).max(1) as u16;
+    let stop = |place: u16| {
+        let left = penalty - u32::from(place) * u32::from(RIDE_PENALTY_MOST);
+        let station = if place == 0 { from } else { 3 + place % 2 };
+        (station, depart + place, depart + place, left.min(RIDE_PENALTY_MOST.into()) as u16)
+    };
+    (0..rides).map(stop).chain([(to, arrive, 0, 0)]).collect()
+}
+
+/// Penalties of a quick and of a slow ride, around what a word of 16 bits tells, and whether both are shown: the slow
+/// one only if it is cheaper.
+pub const PENALTIES_PAST_A_WORD: [(u32, u32, bool); 9] = [
+    (65_546, 65_000, true),
+    (65_000, 65_546, false),
+    (65_541, 5, true),
+    (5, 65_541, false),
+    (65_536, 0, true),
+    (65_536, 65_535, true),
+    (65_535, 65_536, false),
+    (131_082, 65_546, true),
+    (65_546, 131_082, false),
+];

@@ -74,7 +74,7 @@ impl Lent {
             with_noes.timetable = damaged(with_noes.timetable);
         }
         if lines {
-            with_noes.lines[50] += 1; // M's last
+            with_noes.lines[55] += 1; // M's last
         }
         with_noes
     }

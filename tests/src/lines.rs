@@ -8,7 +8,7 @@ pub const LINE_WORDS: usize = 16_384;
 /// The same for working space, in words of 32 bits.
 pub const WORK_WORDS: usize = 16_384;
 /// No line tables have more words than these, by docs/LAYOUT.md.
-pub const LINE_WORDS_MOST: usize = 13_381;
+pub const LINE_WORDS_MOST: usize = 15_429;
 
 /// For each line the places of its trips among all trips, counted from 0, as they joined it.
 pub fn lines(timetable: &Timetable) -> Vec<Vec<usize>> {
@@ -86,12 +86,22 @@ fn line_words(timetable: &Timetable, line: &[usize]) -> Vec<u16> {
     let way = trips[0];
     let mut words = vec![word(way.len()), word(trips.len())];
     words.extend(line.iter().map(|trip| word(trip + 1)));
-    words.extend(way.iter().flat_map(|stop| [stop.station, penalty(stop).unwrap_or(0)]));
+    let mut total = 0;
+    for stop in way {
+        words.push(stop.station);
+        words.extend(total_words(total));
+        total += penalty(stop).map_or(0, u32::from);
+    }
     for position in 0..way.len() {
         words.extend(trips.iter().map(|trip| trip[position].arrive.unwrap_or(0)));
         words.extend(trips.iter().map(|trip| depart(&trip[position]).unwrap_or(0)));
     }
     words
+}
+
+/// The sum of the ride penalties before a position, in two words, the low one first.
+pub fn total_words(total: u32) -> [u16; 2] {
+    [total % 65_536, total / 65_536].map(|part| word(part as usize))
 }
 
 /// Line and position wherever a line meets the station.

@@ -42,19 +42,27 @@ fn line_from_words(words: &[u16]) -> Option<Vec<(u16, Vec<Stop>)>> {
     let (counts, mut rest) = words.split_first_chunk()?;
     let [positions, trips] = counts.map(usize::from);
     let numbers = take(&mut rest, trips)?;
-    let course = take(&mut rest, 2 * positions)?;
+    let course: Vec<&[u16]> = take(&mut rest, 3 * positions)?.chunks(3).collect();
+    let penalties = course.windows(2).map(penalty_between).collect::<Option<Vec<u16>>>()?;
     let times = take(&mut rest, 2 * positions * trips)?;
     let stop = |place: usize, position: usize| {
         let (arrivals, departures) = times[2 * trips * position..][..2 * trips].split_at(trips);
-        let onward = Onward { depart: departures[place], penalty: course[2 * position + 1] };
+        let onward = |&penalty: &u16| Onward { depart: departures[place], penalty };
         Stop {
-            station: course[2 * position],
+            station: course[position][0],
             arrive: (position > 0).then_some(arrivals[place]),
-            onward: (position + 1 < positions).then_some(onward),
+            onward: penalties.get(position).map(onward),
         }
     };
     let stops = |place: usize| (0..positions).map(|position| stop(place, position)).collect();
     Some(numbers.iter().enumerate().map(|(place, &number)| (number, stops(place))).collect())
+}
+
+/// The ride penalty between a position and the next, by their words, if it is one that can be written down. Whether the
+/// first total is 0 does not show in it, and is left to the comparison of all words.
+fn penalty_between(positions: &[&[u16]]) -> Option<u16> {
+    let [here, next] = [0, 1].map(|at| u32::from(positions[at][1]) + 65_536 * u32::from(positions[at][2]));
+    next.checked_sub(here)?.try_into().ok()
 }
 
 /// Where in the timetable's line tables the numbers of a line's trips stand, if there is this line.
@@ -64,7 +72,7 @@ pub fn piece(timetable: &Timetable, line: u32) -> Option<Range<usize>> {
     let trips = lines.get(place)?.len();
     let words = |line: &Vec<usize>| {
         let (positions, trips) = (timetable.trips[line[0]].len(), line.len());
-        2 + trips + 2 * positions + 2 * positions * trips
+        2 + trips + 3 * positions + 2 * positions * trips
     };
     let start = 4 + lines.len() + lines[..place].iter().map(words).sum::<usize>() + 2;
     Some(start..start + trips)
@@ -100,6 +108,6 @@ mod tests {
     #[test]
     fn the_pieces_of_m() {
         let m = reference::accepted(M);
-        assert_eq!([0, 1, 2, 3].map(|line| piece(&m, line)), [None, Some(8..9), Some(23..25), None]);
+        assert_eq!([0, 1, 2, 3].map(|line| piece(&m, line)), [None, Some(8..9), Some(26..28), None]);
     }
 }

@@ -4,22 +4,25 @@ use dairyepoch_tests::direct::{self, Query, Ride, ROW_WORDS};
 use dairyepoch_tests::examples::M;
 use dairyepoch_tests::ffi::{self, Reply};
 use dairyepoch_tests::generate::{
-    crowded, every_timetable, every_trip, largest, long_lines, most_rows, overtaking, timetable, with_shared_ways,
-    with_trips, Size, CROWDED, DIRECT_ROWS_MOST, LARGE, MIDDLING, SMALL,
+    crowded, every_timetable, every_trip, largest, long_lines, most_rows, one_way, overtaking, timetable,
+    with_shared_ways, with_trips, Size, CROWDED, DIRECT_ROWS_MOST, LARGE, MIDDLING, SMALL, TELLING_PLACES,
 };
-use dairyepoch_tests::handmade::{self, hop, text_of_hops, Hop, Numbers};
+use dairyepoch_tests::handmade::{self, detour, hop, text_of_hops, Hop, Numbers, PENALTIES_PAST_A_WORD};
 use dairyepoch_tests::host::{Host, ANSWER_WORDS};
 use dairyepoch_tests::lent::{
     lend_any_words, noes, queries_of_wrong_stations, replies_to_tampered, Lent, LONGER_LENGTHS,
 };
 use dairyepoch_tests::lines::{lines, WORK_WORDS};
 use dairyepoch_tests::random::Random;
-use dairyepoch_tests::timetable::{Station, Stop, Timetable, LAST_MINUTE};
+use dairyepoch_tests::timetable::{Onward, Station, Stop, Timetable, LAST_MINUTE, RIDE_PENALTY_MOST};
 
 /// The rows of a text's direct query, or the number of its refusal; they are also the reference's.
 fn rows(text: &str, from: u32, to: u32, minute: u32) -> Result<Vec<[u32; ROW_WORDS]>, u32> {
-    let lent = Lent::text(text);
-    let query = Query { from, to, minute };
+    rows_of(&Lent::text(text), Query { from, to, minute })
+}
+
+/// The same of tables that are lent.
+fn rows_of(lent: &Lent, query: Query) -> Result<Vec<[u32; ROW_WORDS]>, u32> {
     let mut answer = vec![0xabcd_abcd; ANSWER_WORDS];
     let reply = ffi::direct(&lent.timetable, &lent.lines, &mut vec![0; WORK_WORDS], query, &mut answer);
     assert_eq!(lent.direct(&mut Host::new(1), query), reply);
@@ -107,6 +110,48 @@ fn penalties_of_every_stop_ridden_from_add_up() {
     assert_eq!(rows(&text, 1, 64, 0), Ok(vec![[63, 6_300, 1, 1, 1, 64]]));
     assert_eq!(rows(&text, 2, 63, 0), Ok(vec![[62, 6_100, 1, 1, 2, 63]]));
     assert_eq!(rows(&text, 64, 1, 0), Err(14));
+}
+
+#[test]
+fn penalties_between_any_two_stops_of_a_long_dear_trip() {
+    let lent = Lent::new(&one_way(2_048, 100, &TELLING_PLACES), &mut Random::new(33));
+    let stops = || (1..).zip(TELLING_PLACES.map(|place| place as u32 + 1));
+    for (from, board) in stops() {
+        for (to, alight) in stops().filter(|&(to, _)| to != from) {
+            // the trip is at its first stop at minute 1, at its second at 2, ..
+            let row = |&ridden: &u32| vec![[ridden, 100 * ridden, 1, 1, board, alight]];
+            let expected = alight.checked_sub(board).as_ref().map(row).ok_or(14);
+            assert_eq!(rows_of(&lent, Query { from, to, minute: board }), expected);
+        }
+    }
+    assert_eq!(rows_of(&lent, Query { from: 1, to: 16, minute: 0 }), Ok(vec![[2_048, 204_700, 1, 1, 1, 2_048]]));
+}
+
+#[test]
+fn penalties_of_several_trips_on_one_long_dear_line() {
+    let mut timetable = one_way(1_024, 99, &[0, 600, 700, 1_023]);
+    timetable.trips.push(timetable.trips[0].clone());
+    for stop in &mut timetable.trips[1] {
+        stop.arrive = stop.arrive.map(|arrive| arrive + 3);
+        stop.onward = stop.onward.map(|onward| Onward { depart: onward.depart + 3, ..onward });
+    }
+    assert_eq!(lines(&timetable), [[0, 1]]);
+    let lent = Lent::new(&timetable, &mut Random::new(34));
+    assert_eq!(rows_of(&lent, Query { from: 1, to: 4, minute: 1 }), Ok(vec![[1_023, 101_277, 1, 1, 1, 1_024]]));
+    assert_eq!(rows_of(&lent, Query { from: 1, to: 3, minute: 2 }), Ok(vec![[702, 69_300, 1, 2, 1, 701]]));
+    assert_eq!(rows_of(&lent, Query { from: 2, to: 4, minute: 602 }), Ok(vec![[425, 41_877, 1, 2, 601, 1_024]]));
+    assert_eq!(rows_of(&lent, Query { from: 1, to: 2, minute: 5 }), Err(14));
+}
+
+#[test]
+fn penalties_that_differ_by_more_than_a_word_tells() {
+    for (quick, slow, both) in PENALTIES_PAST_A_WORD {
+        let trips = [detour(1, 2, 0, 1_400, quick), detour(1, 2, 0, 1_500, slow)];
+        let stops = [0, 1].map(|trip| trips[trip].len() as u32);
+        let mut shown = vec![[1_400, quick, 1, 1, 1, stops[0]], [1_500, slow, 1, 2, 1, stops[1]]];
+        shown.truncate(if both { 2 } else { 1 });
+        assert_eq!(rows(&text(4, &[&trips[0], &trips[1]]), 1, 2, 0), Ok(shown), "{quick} and {slow}");
+    }
 }
 
 #[test]
@@ -340,7 +385,8 @@ fn queries_of_middling_and_large_timetables() {
 fn queries_of_the_largest_timetables() {
     let mut host = Host::new(10);
     let mut random = Random::new(11);
-    for timetable in [long_lines(), overtaking(), largest(&mut random), with_trips(&mut random, 2, &[2_048])] {
+    let dearest = one_way(2_048, RIDE_PENALTY_MOST, &[0, 500, 1_000, 2_047]);
+    for timetable in [long_lines(), overtaking(), largest(&mut random), with_trips(&mut random, 2, &[2_048]), dearest] {
         assert!(some_queries(&mut host, &timetable, 20, &mut random) > 0);
     }
     let one_line = Lent::new(&long_lines(), &mut random);
@@ -428,7 +474,7 @@ fn the_first_no_ends_it() {
     let mut random = Random::new(18);
     let good = Lent::text(M);
     for ([slice, timetable, lines, station, minute, none, room], number) in noes([8, 9, 10, 11, 12, 14, 15]) {
-        let shorts = if slice { &[0, 1, 51, 16_383][..] } else { &[] };
+        let shorts = if slice { &[0, 1, 56, 16_383][..] } else { &[] };
         let lent = good.with_noes(timetable, lines);
         let (from, to) = if none { (3, 1) } else { (2, 3) };
         let queries = match station {

@@ -3,8 +3,9 @@
 use dairyepoch_tests::examples::M;
 use dairyepoch_tests::ffi::{self, Reply};
 use dairyepoch_tests::generate::{
-    largest, long_lines, overtaking, timetable, with_shared_ways, with_trips, Size, LARGE, MIDDLING, SMALL,
+    largest, long_lines, one_way, overtaking, timetable, with_shared_ways, with_trips, Size, LARGE, MIDDLING, SMALL,
 };
+use dairyepoch_tests::handmade;
 use dairyepoch_tests::host::{self, longer, Host};
 use dairyepoch_tests::lent::damaged;
 use dairyepoch_tests::lines::{lines, same_way, LINE_WORDS, LINE_WORDS_MOST, WORK_WORDS};
@@ -14,12 +15,12 @@ use dairyepoch_tests::timetable::{clock, Timetable};
 use dairyepoch_tests::words::{to_words, TIMETABLE_WORDS};
 
 #[rustfmt::skip]
-const M_LINES: [u16; 51] = [
-    3, 2, 3, 37,
-    6, 21,
-    3, 1,  1,  1, 0,  2, 0,  3, 0,  0, 480,  500, 501,  560, 0,
-    2, 2,  3, 2,  2, 0,  3, 0,  0, 0, 502, 503,  515, 520, 0, 0,
-    41, 43, 47, 51,
+const M_LINES: [u16; 56] = [
+    3, 2, 3, 42,
+    6, 24,
+    3, 1,  1,  1, 0, 0,  2, 0, 0,  3, 0, 0,  0, 480,  500, 501,  560, 0,
+    2, 2,  3, 2,  2, 0, 0,  3, 0, 0,  0, 0, 502, 503,  515, 520, 0, 0,
+    46, 48, 52, 56,
     1, 1,
     1, 2,  2, 1,
     1, 3,  2, 2,
@@ -186,14 +187,64 @@ fn a_station_met_twice_is_listed_twice() {
     let text = two_trips([[",00:07,1", "00:08,00:09,2", "00:10,,"], [",00:07,1", "00:09,00:09,2", "00:11,,"]]);
     #[rustfmt::skip]
     let words = [
-        2, 1, 2, 27,
+        2, 1, 2, 30,
         5,
-        3, 2,  1, 2,  1, 1,  2, 2,  1, 0,  0, 0, 7, 7,  8, 9, 9, 9,  10, 11, 0, 0,
-        30, 34, 36,
+        3, 2,  1, 2,  1, 0, 0,  2, 1, 0,  1, 3, 0,  0, 0, 7, 7,  8, 9, 9, 9,  10, 11, 0, 0,
+        33, 37, 39,
         1, 1,  1, 3,
         1, 2,
     ];
     assert_eq!(built(&lent_text(&text)), words);
+}
+
+/// The words of a position of one trip that has this ride penalty at each of 2,048 stops; places count from 0.
+fn position(penalty: u16, place: usize) -> [u16; 3] {
+    let words = lent(&one_way(2_048, penalty, &[0, 2_047]), &mut Random::new(30));
+    Host::new(31).expect_lines(&words, 0, 1);
+    built(&words)[8 + 3 * place..][..3].try_into().expect("3 words")
+}
+
+#[test]
+fn a_total_has_two_words_the_low_one_first() {
+    for (place, words) in [
+        (0, [1, 0, 0]),
+        (1, [4, 100, 0]),
+        (2, [3, 200, 0]),
+        (655, [4, 65_500, 0]),
+        (656, [3, 64, 1]),
+        (1_310, [3, 65_464, 1]),
+        (1_311, [4, 28, 2]),
+        (1_966, [3, 65_528, 2]),
+        (1_967, [4, 92, 3]),
+        (2_043, [4, 7_692, 3]),
+        (2_046, [3, 7_992, 3]),
+        (2_047, [2, 8_092, 3]),
+    ] {
+        assert_eq!(position(100, place), words, "place {place}");
+    }
+    // exactly 65,535, 65,536 and 131,072
+    assert_eq!(position(51, 1_285), [4, 65_535, 0]);
+    assert_eq!(position(51, 1_286), [3, 50, 1]);
+    assert_eq!(position(64, 1_023), [4, 65_472, 0]);
+    assert_eq!(position(64, 1_024), [3, 0, 1]);
+    assert_eq!(position(0, 2_047), [2, 0, 0]);
+    assert_eq!([1_310, 1_311].map(|place| position(50, place)), [[3, 65_500, 0], [4, 14, 1]]);
+}
+
+#[test]
+fn each_line_has_totals_of_its_own() {
+    let trips: [&[_]; 2] = [&[(1, 0, 10, 7), (2, 20, 20, 90), (1, 30, 0, 0)], &[(2, 0, 15, 5), (1, 25, 0, 0)]];
+    #[rustfmt::skip]
+    let words = [
+        2, 2, 2, 37,
+        6, 24,
+        3, 1,  1,  1, 0, 0,  2, 7, 0,  1, 97, 0,  0, 10,  20, 20,  30, 0,
+        2, 1,  2,  2, 0, 0,  1, 5, 0,  0, 15,  25, 0,
+        40, 46, 50,
+        1, 1,  1, 3,  2, 2,
+        1, 2,  2, 1,
+    ];
+    assert_eq!(built(&lent_text(&handmade::text(&[(0, 1); 2], &trips))), words);
 }
 
 /// What must have been met among generated timetables.
@@ -325,7 +376,7 @@ fn one_trip_of_all_stops() {
     for stations in [2, 3, 63, 64] {
         let words = lent(&with_trips(&mut random, stations, &[2_048]), &mut random);
         Host::new(14).expect_lines(&words, 0, 1);
-        assert_eq!(built(&words).len(), 4 + 1 + (2 + 1 + 4_096 + 4_096) + stations + 1 + 4_096);
+        assert_eq!(built(&words).len(), 4 + 1 + (2 + 1 + 6_144 + 4_096) + stations + 1 + 4_096);
     }
 }
 
@@ -337,7 +388,7 @@ fn a_slice_too_short_gives_8_before_9() {
     const ENOUGH: usize = 16_384;
     for words in &whole {
         for words in [words.clone(), damaged(words.clone())] {
-            for short in [0, 1, 41, 51, 13_381, 16_383] {
+            for short in [0, 1, 41, 56, 15_429, 16_383] {
                 Host::new(16).expect_lines(&words[..short], 8, 0);
                 Host::lending_both(short, ENOUGH, 17).expect_lines(&words, 8, 0);
                 Host::lending_both(ENOUGH, short, 18).expect_lines(&words, 8, 0);

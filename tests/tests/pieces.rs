@@ -31,8 +31,8 @@ fn case_e_the_lines_of_m() {
     let tables = lent(lines::to_words(&accepted(M)), &mut Random::new(1));
     let mut host = Host::new(2);
     assert_eq!(host.line_trips(&tables, 1), Reply { number: 0, beside: 8 * 65_536 + 1 });
-    assert_eq!(host.line_trips(&tables, 2), Reply { number: 0, beside: 23 * 65_536 + 2 });
-    assert_eq!((tables[8], &tables[23..25]), (1, &[3, 2][..]));
+    assert_eq!(host.line_trips(&tables, 2), Reply { number: 0, beside: 26 * 65_536 + 2 });
+    assert_eq!((tables[8], &tables[26..28]), (1, &[3, 2][..]));
     assert_eq!([0, 3].map(|line| host.line_trips(&tables, line)), [Reply::refused(11); 2]);
 }
 
@@ -136,7 +136,7 @@ fn a_slice_too_short_gives_8_before_10_and_11() {
         wrong[1] += 1;
         for tables in [&tables, &wrong] {
             for line in [0, 1, 2, 257, u32::MAX] {
-                for short in [0, 1, 4, 51, 13_381, 16_383] {
+                for short in [0, 1, 4, 56, 15_429, 16_383] {
                     assert_eq!(Host::new(16).line_trips(&tables[..short], line), Reply::refused(8));
                     assert_eq!(Host::lending_both(0, short, 17).line_trips(tables, line), Reply::refused(8));
                     assert_eq!(Host::lending_both(0, short, 18).line_trips(&tables[..short], line), Reply::refused(8));

@@ -9,10 +9,11 @@ use dairyepoch_tests::expected;
 use dairyepoch_tests::ffi::{self, Reply, Tables};
 use dairyepoch_tests::following::Guide;
 use dairyepoch_tests::generate::{
-    changing, crowded, every_timetable, every_trip, largest, long_lines, most_rows, overtaking, rural, timetable,
-    with_shared_ways, Diamonds, Size, BUSY, CHANGING, CROWDED, DIRECT_ROWS_MOST, MIDDLING, SMALL,
+    changing, crowded, every_timetable, every_trip, largest, long_lines, most_rows, one_way, overtaking, rural,
+    timetable, with_shared_ways, Diamonds, Size, BUSY, CHANGING, CROWDED, DIRECT_ROWS_MOST, MIDDLING, SMALL,
+    TELLING_PLACES,
 };
-use dairyepoch_tests::handmade::{hop, text, text_of_hops};
+use dairyepoch_tests::handmade::{detour, hop, text, text_of_hops, PENALTIES_PAST_A_WORD};
 use dairyepoch_tests::host::{lent, longer, Host, QUERY_WORDS};
 use dairyepoch_tests::lent::{noes, queries_of_wrong_stations, replies_to_tampered, Lent, LONGER_LENGTHS};
 use dairyepoch_tests::lines::{LINE_WORDS, WORK_WORDS};
@@ -425,7 +426,7 @@ fn queries_from_reordered_stores() {
 
 #[test]
 fn queries_from_stores_with_doubled_nodes() {
-    let met = all_queries_from(12, 150, |random, _, sequences| {
+    let met = all_queries_from(12, 200, |random, _, sequences| {
         let words = store::to_words(&sequences).expect("not too many");
         let mut store = Store::from_words(&words).expect("all its words");
         // each node may stand twice, so that arcs read the same; others are nobody's
@@ -572,6 +573,70 @@ fn the_most_rows() {
     for minute in [1_950, 2_000, 2_040, 2_045] {
         let query = Query { minute, ..query };
         lent.ask_for(&mut host, query, &guide.rows(&network, query));
+    }
+}
+
+/// A connection on trip 1 of `one_way`, boarded at the first of these stops, then left and boarded again at each but
+/// the last, with 100 points for each stop and 1 for each change. The trip is at its first stop at minute 1, at its
+/// second at 2, ..
+fn along(stops: &[u32], changes: Vec<u16>, to: u16) -> Connection {
+    let (depart, arrive) = (stops[0], stops[stops.len() - 1]);
+    let penalty = 100 * (arrive - depart) + changes.len() as u32;
+    let rides = stops.windows(2).map(|ends| [1, ends[0], ends[1]]).collect();
+    Connection { depart, arrive, penalty, changes, rides, to }
+}
+
+#[test]
+fn penalties_between_any_two_stops_of_a_long_dear_trip() {
+    let mut host = Host::new(51);
+    let mut random = Random::new(52);
+    let timetable = one_way(2_048, 100, &TELLING_PLACES);
+    let stops = TELLING_PLACES.map(|place| place as u32 + 1);
+    let arcs = (1..=16).map(|to| (to, 0)).collect();
+    let direct = WithStore::new(&timetable, Store { nodes: Vec::new(), arcs }.to_words(), &mut random);
+    for (from, &board) in (1u16..).zip(&stops) {
+        for (to, &alight) in (1..).zip(&stops).filter(|&(to, _)| to != from) {
+            let query = Query { from: from.into(), to: to.into(), minute: board };
+            let rows: Vec<Connection> =
+                (board < alight).then(|| along(&[board, alight], Vec::new(), to)).into_iter().collect();
+            direct.ask_for(&mut host, query, &rows);
+        }
+    }
+    for [from, by, to] in [[1, 2, 16], [1, 5, 16], [1, 15, 16], [2, 5, 8], [4, 5, 6], [3, 9, 12], [5, 10, 14]] {
+        let stops = [from, by, to].map(|station| stops[usize::from(station) - 1]);
+        let store = Store { nodes: vec![(by, 0)], arcs: vec![(to, 1)] };
+        let changing = WithStore::new(&timetable, store.to_words(), &mut random);
+        let query = Query { from: from.into(), to: to.into(), minute: stops[0] };
+        changing.ask_for(&mut host, query, &[along(&stops, vec![by], to)]);
+    }
+}
+
+#[test]
+fn penalties_that_differ_by_more_than_a_word_tells() {
+    for (quick, slow, both) in PENALTIES_PAST_A_WORD {
+        let trips = [detour(1, 2, 0, 1_400, quick), detour(1, 2, 0, 1_500, slow)];
+        let mut shown = vec![
+            (1_400, quick, vec![[1, 1, trips[0].len() as u32]]),
+            (1_500, slow, vec![[2, 1, trips[1].len() as u32]]),
+        ];
+        shown.truncate(if both { 2 } else { 1 });
+        let text = text(&[(0, 1_000); 4], &[&trips[0], &trips[1]]);
+        assert_eq!(rows_from(&text, &[0, 1, 2, 0], 1, 2, 0), Ok(shown), "{quick} and {slow}");
+        assert!(rows(&text, 1, 2, 0).is_ok());
+    }
+}
+
+#[test]
+fn dear_rides_before_and_after_a_change() {
+    // 131,546 points with the change of 1,000, and a direct ride that arrives a minute before or after
+    for (direct_arrives, change_minutes) in [(1_399, 3), (1_401, 3), (1_401, 4)] {
+        let trips =
+            [detour(1, 2, 0, 660, 65_546), detour(2, 5, 663, 1_400, 65_000), detour(1, 5, 0, direct_arrives, 500)];
+        let text = text(&[(change_minutes, 1_000); 5], &[&trips[0], &trips[1], &trips[2]]);
+        let direct = (direct_arrives.into(), 500, vec![[3, 1, 6]]);
+        let changing = (1_400, 131_546, vec![[1, 1, 657], [2, 1, 651]]);
+        let shown = if direct_arrives > 1_400 && change_minutes == 3 { vec![changing, direct] } else { vec![direct] };
+        assert_eq!(rows_from(&text, &[1, 2, 2, 0, 5, 0, 5, 1], 1, 5, 0), Ok(shown));
     }
 }
 
@@ -835,7 +900,7 @@ fn the_first_no_ends_it() {
     let good = WithStore::of_m(&mut random);
     for (noes, number) in noes([8, 9, 10, 11, 12, 13, 14, 15]) {
         let [slice, timetable, lines, station, minute, store, none, room] = noes;
-        let shorts = if slice { &[0, 51, 16_383][..] } else { &[] };
+        let shorts = if slice { &[0, 56, 16_383][..] } else { &[] };
         let store = match (store, none) {
             (true, _) => random.pick(&[&[][..], &[0], &[0, 2, 3, 0, 3, 0], &[0, 16_384], &[1, 0, 2, 1]]),
             (false, true) => random.pick(&[&[0, 0][..], &[1, 1, 2, 0, 2, 0], &[1, 1, 3, 0, 3, 1]]),

@@ -4,15 +4,15 @@
 use dairyepoch_tests::examples::M;
 use dairyepoch_tests::ffi::{self, Reply};
 use dairyepoch_tests::generate::{
-    crowded, every_trip, largest, long_lines, overtaking, timetable, with_shared_ways, with_trips, Size, CROWDED,
-    LARGE, MIDDLING, SMALL,
+    crowded, every_trip, largest, long_lines, one_way, overtaking, timetable, with_shared_ways, with_trips, Size,
+    CROWDED, LARGE, MIDDLING, SMALL,
 };
 use dairyepoch_tests::host::{lent, Host};
 use dairyepoch_tests::lent::{damaged, Lent};
-use dairyepoch_tests::lines::{self, lines, same_way, words_of, LINE_WORDS, WORK_WORDS};
+use dairyepoch_tests::lines::{self, lines, same_way, total_words, words_of, LINE_WORDS, WORK_WORDS};
 use dairyepoch_tests::random::Random;
 use dairyepoch_tests::reference::{self, accepted};
-use dairyepoch_tests::timetable::{Station, Timetable, LAST_MINUTE};
+use dairyepoch_tests::timetable::{Station, Timetable, LAST_MINUTE, RIDE_PENALTY_MOST};
 use dairyepoch_tests::words::{to_words, TIMETABLE_WORDS};
 
 /// Timetables with lines of several trips and of one, overtaken trips, equal times and stations met twice.
@@ -24,9 +24,11 @@ fn any_timetable(random: &mut Random) -> Timetable {
     }
 }
 
-/// Timetables of 64 stations, 256 trips and 2,048 stops, of one line, of 256 and of any, and one of a single trip.
-fn timetables_at_the_limits(random: &mut Random) -> [Timetable; 4] {
-    [long_lines(), overtaking(), largest(random), with_trips(random, 64, &[2_048])]
+/// Timetables of 64 stations, 256 trips and 2,048 stops, of one line, of 256 and of any, and two of a single trip, the
+/// second with the greatest total.
+fn timetables_at_the_limits(random: &mut Random) -> [Timetable; 5] {
+    let dearest = one_way(2_048, RIDE_PENALTY_MOST, &[0, 2_047]);
+    [long_lines(), overtaking(), largest(random), with_trips(random, 64, &[2_048]), dearest]
 }
 
 /// What was built for the timetable has a yes in both forms.
@@ -150,6 +152,179 @@ fn words_of_tables_at_the_limits_tampered_with() {
     }
 }
 
+/// Where in line tables the low word of the first line's total at a position stands, which counts from 0. The station
+/// stands before it and the high word after it.
+fn total_at(tables: &[u16], position: usize) -> usize {
+    let begin = usize::from(tables[4]);
+    begin + 2 + usize::from(tables[begin + 1]) + 3 * position + 1
+}
+
+/// The totals of the first line.
+fn totals(tables: &[u16]) -> Vec<u32> {
+    let total = |position| {
+        let at = total_at(tables, position);
+        u32::from(tables[at]) + 65_536 * u32::from(tables[at + 1])
+    };
+    (0..usize::from(tables[usize::from(tables[4])])).map(total).collect()
+}
+
+/// Timetables of one line, all but one so long and dear that some high words are not 0.
+fn dear_lines(random: &mut Random) -> Vec<Timetable> {
+    let mut shared = one_way(1_024, 99, &[0, 1_023]);
+    shared.trips.push(shared.trips[0].clone());
+    let penalties = [(2_044, 100), (2_048, 100), (2_048, 50), (2_048, 33)];
+    let mut dear: Vec<Timetable> =
+        penalties.iter().map(|&(stops, penalty)| one_way(stops, penalty, &[0, stops - 1])).collect();
+    dear.extend([with_trips(random, 64, &[2_048]), shared, long_lines()]);
+    dear
+}
+
+/// The positions at which words of totals are tampered with: the ends, those where a high word rises with those beside
+/// them, and some others.
+fn telling_positions(totals: &[u32], random: &mut Random) -> Vec<usize> {
+    let last = totals.len() - 1;
+    let rises = (1..=last).filter(|&position| totals[position] / 65_536 > totals[position - 1] / 65_536);
+    let mut positions: Vec<usize> = rises.flat_map(|position| [position - 1, position, position + 1]).collect();
+    positions.extend([0, 1, last - 1, last, random.within(0..=last), random.within(0..=last)]);
+    positions.retain(|&position| position <= last);
+    positions.sort_unstable();
+    positions.dedup();
+    positions
+}
+
+/// Asks both forms about tables of one line, with these totals in the place of its own. Alone they have a yes exactly
+/// if the totals begin with 0, never fall, and rise by at most 100 a stop.
+fn ask_with_totals(host: &mut Host, lent: &Lent, totals: &[u32], what: &str) -> u32 {
+    let mut tables = lent.lines.clone();
+    for (position, &total) in totals.iter().enumerate() {
+        let at = total_at(&tables, position);
+        tables[at..at + 2].copy_from_slice(&total_words(total));
+    }
+    let number = ask_both(host, &lent.timetable, &tables, tables == lent.lines);
+    let rises = |pair: &[u32]| pair[1].checked_sub(pair[0]).is_some_and(|penalty| penalty <= 100);
+    let yes = totals[0] == 0 && totals.windows(2).all(rises);
+    assert_eq!(number, if yes { 0 } else { 10 }, "{what}");
+    number
+}
+
+const MOVES: [u32; 9] = [1, 50, 51, 67, 68, 100, 101, 65_535, 65_536];
+
+/// Asks about totals of which some, from a position on, were moved by as much, up and down.
+fn ask_with_moved(seed: u64, moved: impl Fn(&mut [u32], usize) -> &mut [u32]) {
+    let mut host = Host::new(seed);
+    let mut random = Random::new(seed + 1);
+    let mut tally = [0; 11];
+    for timetable in dear_lines(&mut random) {
+        let lent = Lent::new(&timetable, &mut random);
+        let totals = totals(&lent.lines);
+        for position in telling_positions(&totals, &mut random) {
+            for by in MOVES.iter().flat_map(|&by| [by, by.wrapping_neg()]) {
+                let mut other = totals.clone();
+                moved(&mut other, position).iter_mut().for_each(|total| *total = total.wrapping_add(by));
+                let what = format!("moved by {} at {position}", by as i32);
+                tally[ask_with_totals(&mut host, &lent, &other, &what) as usize] += 1;
+            }
+        }
+    }
+    assert!(tally[0] > 50 && tally[10] > 500, "by reply number: {tally:?}");
+}
+
+#[test]
+fn one_total_moved() {
+    ask_with_moved(45, |totals, position| &mut totals[position..=position]);
+}
+
+#[test]
+fn all_totals_moved_from_a_position_on() {
+    ask_with_moved(47, |totals, position| &mut totals[position..]);
+}
+
+#[test]
+fn station_and_both_words_of_a_total_tampered_with() {
+    let mut host = Host::new(49);
+    let mut random = Random::new(50);
+    for timetable in dear_lines(&mut random) {
+        let Lent { timetable: words, lines: mut tables } = Lent::new(&timetable, &mut random);
+        for position in telling_positions(&totals(&tables), &mut random) {
+            let low = total_at(&tables, position);
+            for at in [low - 1, low, low + 1] {
+                for kind in 0..KINDS {
+                    let (word, next) = (tables[at], tables[at + 1]);
+                    let changed = tamper(&mut tables, at, kind, &mut random);
+                    ask_both(&mut host, &words, &tables, !changed);
+                    (tables[at], tables[at + 1]) = (word, next);
+                }
+            }
+        }
+    }
+}
+
+#[test]
+fn totals_that_another_rule_tells() {
+    let mut host = Host::new(51);
+    let mut random = Random::new(52);
+    for timetable in dear_lines(&mut random) {
+        let lent = Lent::new(&timetable, &mut random);
+        let totals = totals(&lent.lines);
+        let all = totals[totals.len() - 1];
+        let high = all > 65_535;
+        let mut penalties: Vec<u32> = totals.windows(2).map(|pair| pair[1] - pair[0]).collect();
+        penalties.push(0);
+        let mut ask = |what: &str, rule: &dyn Fn(usize) -> u32| {
+            let other: Vec<u32> = (0..totals.len()).map(rule).collect();
+            let number = ask_with_totals(&mut host, &lent, &other, what);
+            (other != totals).then_some(number)
+        };
+        assert_eq!(ask("as it is", &|at| totals[at]), None);
+        assert_eq!(ask("low words alone", &|at| totals[at] % 65_536), high.then_some(10));
+        assert_eq!(ask("at most 65,535", &|at| totals[at].min(65_535)), high.then_some(0));
+        assert_eq!(ask("words swapped", &|at| totals[at].rotate_left(16)), Some(10));
+        assert_eq!(ask("parted at 256", &|at| totals[at] % 256 + totals[at] / 256 * 65_536), Some(10));
+        assert_eq!(ask("from the end", &|at| all - totals[at]), Some(10));
+        ask("the single penalties", &|at| penalties[at]);
+        ask("from the second stop", &|at| totals[at].saturating_sub(penalties[0]));
+        ask("with the stop's own penalty", &|at| totals[at] + penalties[at]);
+        ask("without the last ride", &|at| totals[at.min(totals.len() - 2)]);
+        for by in [1, 100, 65_535, 65_536, 131_072, u32::MAX] {
+            assert_eq!(ask("shifted", &|at| totals[at].wrapping_add(by)), Some(10), "by {by}");
+        }
+    }
+}
+
+#[test]
+fn dear_lines_have_totals_of_two_words() {
+    let mut random = Random::new(53);
+    let greatest = |timetable: &Timetable| totals(&lines::to_words(timetable)).pop().expect("a line has positions");
+    let last: Vec<u32> = dear_lines(&mut random).iter().map(greatest).collect();
+    assert_eq!(
+        (last[0], last[1], last[2], last[3], last[5], last[6]),
+        (204_300, 204_700, 102_350, 67_551, 101_277, 700)
+    );
+    assert!(last[4] > 65_536);
+}
+
+/// M's tables as they were with a single ride penalty at each position.
+#[rustfmt::skip]
+const FORMER_M: [u16; 51] = [
+    3, 2, 3, 37,
+    6, 21,
+    3, 1,  1,  1, 0,  2, 0,  3, 0,  0, 480,  500, 501,  560, 0,
+    2, 2,  3, 2,  2, 0,  3, 0,  0, 0, 502, 503,  515, 520, 0, 0,
+    41, 43, 47, 51,
+    1, 1,
+    1, 2,  2, 1,
+    1, 3,  2, 2,
+];
+
+#[test]
+fn tables_of_single_penalties_have_a_no() {
+    let mut host = Host::new(54);
+    let mut random = Random::new(55);
+    let words = lent(to_words(&accepted(M)), &mut random);
+    let tables = lent(FORMER_M.to_vec(), &mut random);
+    assert_eq!(ask_both(&mut host, &words, &tables, false), 10);
+}
+
 #[test]
 fn many_values_in_each_word_of_m() {
     let mut host = Host::new(11);
@@ -157,7 +332,7 @@ fn many_values_in_each_word_of_m() {
     let Lent { timetable: words, lines: mut tables } = Lent::new(&accepted(M), &mut random);
     let edges = [1_000, 2_878, 2_879, 2_880, 4_096, 16_383, 16_384, 32_767, 32_768, 65_534, 65_535];
     let mut tally = [0; 11];
-    for at in 0..51 {
+    for at in 0..56 {
         let word = tables[at];
         for value in (0..=120).chain((121..600).step_by(7)).chain([514, 515, 516, 520, 521, 559, 560]).chain(edges) {
             tables[at] = value;
@@ -377,7 +552,7 @@ fn heads_that_lead_out_of_the_slice() {
     let mut random = Random::new(32);
     let Lent { timetable: words, lines: mut tables } = Lent::new(&accepted(M), &mut random);
     let head: Vec<u16> = tables[..4].to_vec();
-    let counts = [0, 1, 2, 3, 37, 64, 65, 256, 16_383, 65_535];
+    let counts = [0, 1, 2, 3, 42, 64, 65, 256, 16_383, 65_535];
     let heads = counts.iter().flat_map(|&stations| counts.iter().map(move |&lines| (stations, lines)));
     for (stations, lines) in heads {
         for (trips, index) in counts.iter().flat_map(|&trips| counts.iter().map(move |&index| (trips, index))) {
@@ -468,7 +643,7 @@ fn the_first_no_ends_it() {
         assert_eq!(host.check_lines(&vec![u16::MAX; TIMETABLE_WORDS], &vec![u16::MAX; LINE_WORDS]), 9);
         for words in [&words, &damaged(words.clone())] {
             for tables in [&tables, &wrong] {
-                for short in [0, 1, 51, 13_381, 16_383] {
+                for short in [0, 1, 56, 15_429, 16_383] {
                     assert_eq!(host.check_lines(&words[..short], tables), 8);
                     assert_eq!(host.check_lines(words, &tables[..short]), 8);
                     assert_eq!(host.check_lines_alone(&tables[..short]), 8);
@@ -498,7 +673,7 @@ fn slices_of_16384_words_or_more_are_long_enough() {
         ] {
             let mut host = Host::lending_both(0, work_length, 42);
             let mut wrong = tables.clone();
-            wrong[13_380] ^= 1;
+            wrong[15_428] ^= 1;
             assert_eq!(ask_both(&mut host, words, tables, true), 0);
             assert_eq!(ask_both(&mut host, words, &wrong, false), 10);
             assert_eq!(host.check_lines(&damaged(words.clone()), tables), 9);

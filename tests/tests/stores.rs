@@ -480,7 +480,7 @@ fn sources_that_are_not_there_give_11() {
 fn the_first_no_ends_it() {
     let good = Lent::text(M);
     for ([slice, timetable, lines, source, room], number) in noes([8, 9, 10, 11, 15]) {
-        let shorts = if slice { &[0, 1, 51, 16_383][..] } else { &[] };
+        let shorts = if slice { &[0, 1, 56, 16_383][..] } else { &[] };
         let sources = if source { &[0, 4, u32::MAX][..] } else { &[1] };
         let lengths = if room { &[0, 1, 2, 9][..] } else { &[10, 11] };
         let expected = if number == 0 { Reply::done(10) } else { Reply::refused(number) };

@@ -1,9 +1,10 @@
--- The loops that write stations, stops and starts: each turn puts the next words behind those that stand there.
+-- The loops that write stations, stops and starts: each turn puts the next words after those that stand there.
 use mathlib.Core.Path.{_≡_, sym, ap, _∙_}
 use mathlib.Core.List.{List, [], _∷_, _++_, map, map-append, append-nil}
-use Prim.Native.Nat.{ℕ, _+_, _-_, _*_, _≤_, _<_}
+use Prim.Native.Nat.{ℕ, _+_, _-_, _*_, _%_, _≤_, _<_}
 use native.Mathlib.Nat.{zero-add}
 use native.Mathlib.Omega.{arith}
+use borrow.Author.Tests.{lt-ltb, le-ltb}
 use lib.ListN.{
   length,
   set,
@@ -29,10 +30,11 @@ use Rattle.timetable.specs.WordLaws.{
   start-first,
 }
 use Rattle.accepted.specs.OwnWords.{range-append}
-use Rattle.lookup.specs.Lookup.{stationAt, pointsAt, arriveAt, departAt}
+use Rattle.lookup.specs.Lookup.{Line, stationAt, lowAt, arriveAt, departAt}
 use Rattle.alone.specs.Drawn.{
   Home,
   homeOf,
+  nextPoints,
   stopOn,
   tripOn,
   drawnTrip,
@@ -40,6 +42,17 @@ use Rattle.alone.specs.Drawn.{
   plainStation,
 }
 use Rattle.alone.proofs.CountLaws.{length-tripOn}
+
+-- ---- the penalty of one ride, by the low words of two totals
+module _ (v : List ℕ) (l : Line) (p : ℕ) where
+  pub no-next : l .positions ≤ p + 1 → 0 ≡ nextPoints v l p
+  unfolding nextPoints
+  no-next h = rw (le-ltb (p + 1) (l .positions) h)
+
+  pub next-told : p + 1 < l .positions → (here next : ℕ) → here ≡ lowAt v l p → next ≡ lowAt v l (p + 1)
+      → (65536 + next - here) % 65536 ≡ nextPoints v l p
+  unfolding nextPoints
+  next-told more here next is-here is-next = rw (lt-ltb (p + 1) (l .positions) more, is-here, is-next)
 
 -- the next words, behind the m that stand there
 put-behind : (at m : ℕ) (a b c old body out : List ℕ) → body ≡ put at a old → length a ≡ m → at + m ≤ length old
@@ -80,7 +93,7 @@ module _ (v : List ℕ) (h : Home) (p at : ℕ) (old body : List ℕ)
     (held : body ≡ put at (stopWords (map (stopOn v h) (range 0 p))) old) where
   pub stop-more : p < (h .line) .positions → at + 4 * (h .line) .positions ≤ length old → (a b c d : ℕ)
       → a ≡ stationAt v (h .line) p → b ≡ arriveAt v (h .line) p (h .place) → c ≡ departAt v (h .line) p (h .place)
-      → d ≡ pointsAt v (h .line) p → (out : List ℕ) → out ≡ put (at + 4 * p) (a ∷ b ∷ c ∷ d ∷ []) body
+      → d ≡ nextPoints v (h .line) p → (out : List ℕ) → out ≡ put (at + 4 * p) (a ∷ b ∷ c ∷ d ∷ []) body
       → out ≡ put at (stopWords (map (stopOn v h) (range 0 (p + 1)))) old
   unfolding stopWords
   stop-more more room a b c d is-a is-b is-c is-d out wrote =

@@ -128,13 +128,18 @@ counts-fit v t y told =
       le-leb (tripsFrom v 0 (lineCount v)) 256 (omega (arith, all, trips, all-on-lines (t .trips), bounds .trips)),
     )
 
+valid-trips : (t : Timetable) → valid t ≡ true → validTrips (length (t .stations)) (t .trips) ≡ true
+unfolding valid
+valid-trips t y =
+    and-right (counted t && validStations (t .stations)) (validTrips (length (t .stations)) (t .trips)) y
+
 holds-yes : (v : List ℕ) (t : Timetable) → valid t ≡ true → Holds v (length (t .stations)) (t .trips)
     → areSome v ≡ true
 unfolding areSome
 holds-yes v t y holds =
     let n = length (t .stations) in
     let told = holding v n (t .trips) holds in
-    rw (redrawn v n (t .trips) told, counts-fit v t y told, plain-valid t y)
+    rw (redrawn v n (t .trips) told (valid-trips t y), counts-fit v t y told, plain-valid t y)
     (plain-begins v n (t .trips) holds)
 
 comes-yes : (v : List ℕ) → ComesFromTimetable v → areSome v ≡ true

@@ -3,14 +3,14 @@
 -- one? Alone shows that, if they come from any, they come from this one.
 use mathlib.Core.Bool.{Bool, cond, _&&_}
 use mathlib.Core.List.{List, [], _∷_, map}
-use Prim.Native.Nat.{ℕ, zero, suc, _+_}
+use Prim.Native.Nat.{ℕ, zero, suc, _+_, _-_, _%_}
 use lib.Dec.{leb, ltb, eqb}
 use lib.ListN.{length, getD, replicate}
 use Rattle.lists.specs.Lists.{range}
 use Rattle.questions.specs.Question.{ask, firstNo}
 use Rattle.timetable.specs.Timetable.{Station, Stop, Trip, Timetable, valid}
 use Rattle.tables.specs.Building.{slicesLeast}
-use Rattle.lookup.specs.Lookup.{Line, lineCount, lineAt, numberAt, stationAt, pointsAt, arriveAt, departAt}
+use Rattle.lookup.specs.Lookup.{Line, lineCount, lineAt, numberAt, stationAt, lowAt, arriveAt, departAt}
 use Rattle.lookup.specs.First.{firstFrom}
 use Rattle.checking.specs.Question10.{begins}
 use Rattle.alone.specs.declared.Home.{Home as HomeStruct}
@@ -45,13 +45,19 @@ homeOf v number =
     })
     noHome
 
+-- the penalty of the ride from place p of a line to the next, and none from the last place: a penalty is less than a
+-- word can say, so that the low words of both totals tell it
+unfoldable pub nextPoints : List ℕ → Line → (p : ℕ) → ℕ
+nextPoints v l p =
+    cond (ltb (p + 1) (l .positions)) ((65536 + lowAt v l (p + 1) - lowAt v l p) % 65536) 0
+
 abbrev pub stopOn : List ℕ → Home → (p : ℕ) → Stop
 stopOn v h p =
     record {
       station = stationAt v (h .line) p;
       arrive = arriveAt v (h .line) p (h .place);
       depart = departAt v (h .line) p (h .place);
-      points = pointsAt v (h .line) p;
+      points = nextPoints v (h .line) p;
     }
 
 unfoldable pub tripOn : List ℕ → Home → Trip

@@ -1,21 +1,27 @@
 -- What is drawn from line tables are the trips that they were built from: a trip stands on some line, the first line
--- that has its number is found, and all trips of a line agree in stations and ride penalties.
+-- that has its number is found, and all trips of a line agree in stations and ride penalties. A penalty is told
+-- by the low words of two totals; at a trip's last stop a valid timetable has none.
 use mathlib.Core.Path.{_≡_, refl, sym, ap, subst, _∙_}
 use mathlib.Core.Bool.{Bool, true, false, cond}
 use mathlib.Core.List.{List, [], _∷_, map, List·Memᴰ·head as here, List·Memᴰ·tail as there}
-use Prim.Native.Nat.{ℕ, zero, suc, _+_, _≤_, _<_}
+use Prim.Native.Nat.{ℕ, zero, suc, _+_, _-_, _*_, _%_, _/_, _≤_, _<_}
+use native.Mathlib.Nat.{mod-lt, mod-add-div, mod-eq-of-lt}
+use native.Mathlib.Numerals.{add-one}
 use native.Mathlib.Omega.{arith}
-use native.Mathlib.Decide.{ℕ-discrete}
-use borrow.Author.Tests.{ltb-true, lt-ltb, eqb-true, eq-eqb}
+use native.Mathlib.Decide.{ℕ-discrete, decLt}
+use borrow.Author.Tests.{ltb-true, lt-ltb, le-ltb, eqb-true, eq-eqb}
+use lib.Arith.{digits-mod}
 use lib.Dec.{T, eqb}
 use lib.ListN.{length, getD, replicate}
 use Rattle.lists.specs.Lists.{_∈_, range}
-use Rattle.timetable.specs.Timetable.{Trip, Timetable}
+use Rattle.timetable.specs.Timetable.{Trip, Timetable, validTrip, validTrips}
+use Rattle.timetable.specs.Access.{trip-valid, trip-cheap, trip-free}
 use Rattle.connections.specs.Rides.{noStop}
+use Rattle.connections.specs.RideLaws.{points-more}
 use Rattle.lines.specs.Lines.{lines, course}
 use Rattle.lines.specs.Ordered.{Line, lines-good, line-length, line-stop}
 use Rattle.lines.specs.Once.{line-of}
-use Rattle.tables.specs.Tables.{stopOf}
+use Rattle.tables.specs.Tables.{stopOf, totalOn}
 use Rattle.tables.specs.Spelled.{within}
 use Rattle.lookup.specs.Lookup.{lineCount, lineAt, numberAt}
 use Rattle.lookup.specs.First.{firstFrom}
@@ -26,6 +32,7 @@ use Rattle.alone.specs.Drawn.{
   hasTrip,
   homeLine,
   homeOf,
+  nextPoints,
   stopOn,
   tripOn,
   drawnTrip,
@@ -96,6 +103,46 @@ record Homed (v : List ℕ) (t : List Trip) (z : ℕ) : Type 0 where
   trip : getD (getD (lines t) line []) place 0 ≡ z
   is : homeOf v (z + 1) ≡ record { line = lineAt v line; place = place }
 
+-- ---- one ride further: the low words of two totals tell the single penalty
+-- what was added to a number that is told modulo 65,536, if it is less than that
+added : (n k : ℕ) → k < 65536 → (65536 + (n + k) % 65536 - n % 65536) % 65536 ≡ k
+added n k h =
+    elim (decLt (n % 65536 + k) 65536) [
+      | yes g ↦
+          let is : n + k ≡ n / 65536 * 65536 + (n % 65536 + k) = omega (arith, mod-add-div n 65536) in
+          let low : (n + k) % 65536 ≡ n % 65536 + k = ap (λ m. m % 65536) is ∙ digits-mod (n / 65536) g in
+          let rest : 65536 + (n % 65536 + k) - n % 65536 ≡ 1 * 65536 + k = omega arith in
+          ap (λ m. (65536 + m - n % 65536) % 65536) low ∙ ap (λ m. m % 65536) rest ∙ digits-mod 1 h
+      | no g ↦
+          let below : n % 65536 + k - 65536 < 65536 = omega (arith, mod-lt n {m = 65536} (omega arith)) in
+          let is : n + k ≡ (n / 65536 + 1) * 65536 + (n % 65536 + k - 65536) =
+          omega (arith, mod-add-div n 65536) in
+          let low : (n + k) % 65536 ≡ n % 65536 + k - 65536 =
+          ap (λ m. m % 65536) is ∙ digits-mod (n / 65536 + 1) below in
+          let rest : 65536 + (n % 65536 + k - 65536) - n % 65536 ≡ k = omega arith in
+          ap (λ m. (65536 + m - n % 65536) % 65536) low ∙ ap (λ m. m % 65536) rest ∙ mod-eq-of-lt h
+    ]
+
+module _ (v : List ℕ) (t : List Trip) (i : ℕ) (l : List ℕ) (told : LineTold v t i l) (p : ℕ) where
+  next-total : p + 1 < length (course t l)
+      → totalOn (course t l) (p + 1) ≡ totalOn (course t l) p + (getD (course t l) p noStop) .points
+  next-total h =
+      ap (totalOn (course t l)) (add-one p) ∙ points-more (course t l) 0 p (omega arith) (omega arith)
+
+  next-drawn : p + 1 < length (course t l) → (getD (course t l) p noStop) .points ≤ 100
+      → nextPoints v (lineAt v i) p ≡ (getD (course t l) p noStop) .points
+  unfolding nextPoints
+  next-drawn h cheap =
+      let here = told .low p (omega arith) in
+      let next = told .low (p + 1) h ∙ ap (λ m. m % 65536) (next-total h) in
+      rw (lt-ltb (p + 1) ((lineAt v i) .positions) (omega (arith, told .positions)))
+      ((λ k. (65536 + next k - here k) % 65536)
+      ∙ added (totalOn (course t l) p) ((getD (course t l) p noStop) .points) (omega arith))
+
+  last-drawn : p + 1 ≡ length (course t l) → nextPoints v (lineAt v i) p ≡ 0
+  unfolding nextPoints
+  last-drawn h = rw (le-ltb (p + 1) ((lineAt v i) .positions) (omega (arith, told .positions)))
+
 module _ (v : List ℕ) (n : ℕ) (t : List Trip) (told : Told v n t) (z : ℕ) where
   abbrev numbered : (i j : ℕ) → Bool
   numbered i j = eqb (numberAt v (lineAt v i) j) (z + 1)
@@ -148,7 +195,7 @@ module _ (v : List ℕ) (n : ℕ) (t : List Trip) (told : Told v n t) (z : ℕ) 
       }
 
   -- ---- the trip that is drawn there is the timetable's
-  module _ (home : Homed v t z) where
+  module _ (home : Homed v t z) (sound : validTrip n (getD t z []) ≡ true) where
     abbrev line : List ℕ
     line = getD (lines t) (home .line) []
 
@@ -170,6 +217,19 @@ module _ (v : List ℕ) (n : ℕ) (t : List Trip) (told : Told v n t) (z : ℕ) 
     long : length (course t line) ≡ length trip
     long = line-length t line z good member
 
+    points-drawn : (p : ℕ) → p < length trip → nextPoints v (found .line) p ≡ (getD trip p noStop) .points
+    points-drawn p h =
+        let same = line-stop t line z p good member .points in
+        elim (ℕ-discrete (p + 1) (length trip)) [
+          | yes e ↦
+              last-drawn v t (home .line) line line-told p (omega (arith, long))
+              ∙ sym (trip-free n noStop trip sound p e)
+          | no e ↦
+              next-drawn v t (home .line) line line-told p (omega (arith, long))
+              (omega (arith, same, trip-cheap n noStop trip sound p h))
+              ∙ same
+        ]
+
     drawn-stop : (p : ℕ) → p < length trip → stopOn v found p ≡ getD trip p noStop
     drawn-stop p h =
         let j = home .place in
@@ -178,7 +238,7 @@ module _ (v : List ℕ) (n : ℕ) (t : List Trip) (told : Told v n t) (z : ℕ) 
         let course-stop = line-stop t line z p good member in
         let inside : p < length (course t line) = omega (arith, long) in
         let station = line-told .station p inside ∙ course-stop .station in
-        let points = line-told .points p inside ∙ course-stop .points in
+        let points = points-drawn p h in
         let arrive = line-told .arrive p j inside on ∙ ap (λ x. (stopOf t x p) .arrive) same in
         let depart = line-told .depart p j inside on ∙ ap (λ x. (stopOf t x p) .depart) same in
         λ i. record { station = station i; arrive = arrive i; depart = depart i; points = points i }
@@ -194,11 +254,11 @@ module _ (v : List ℕ) (n : ℕ) (t : List Trip) (told : Told v n t) (z : ℕ) 
 abbrev pub plain : (n : ℕ) (t : List Trip) → Timetable
 plain n t = record { stations = replicate n plainStation; trips = t }
 
-pub redrawn : (v : List ℕ) (n : ℕ) (t : List Trip) → Told v n t → drawn v ≡ plain n t
+pub redrawn : (v : List ℕ) (n : ℕ) (t : List Trip) → Told v n t → validTrips n t ≡ true → drawn v ≡ plain n t
 unfolding drawn
-redrawn v n t told =
+redrawn v n t told sound =
     let each : (z : ℕ) → z < length t → drawnTrip v z ≡ getD t z [] =
-    λ z h. drawn-trip v n t told z (homed v n t told z h) in
+    λ z h. drawn-trip v n t told z (homed v n t told z h) (trip-valid n t z [] sound h) in
     let counted = ap (λ k. map (drawnTrip v) (range 0 k)) (told .trip-count) in
     let trips = counted ∙ read-all [] (drawnTrip v) t each in
     λ i. record { stations = replicate (told .stations i) plainStation; trips = trips i }

@@ -6,22 +6,23 @@ use mathlib.Core.List.{List, [], _∷_, _++_, map}
 use Prim.Native.Nat.{ℕ, _+_, _-_, _*_, _≤_, _<_}
 use native.Mathlib.Omega.{arith}
 use native.Mathlib.Decide.{ℕ-discrete}
-use borrow.Author.Tests.{lt-ltb, le-ltb, eq-eqb, ne-eqb}
+use borrow.Author.Tests.{lt-ltb, le-ltb}
 use lib.Dec.{eqb}
 use lib.ListN.{length, getD}
-use lib.Seq.{slice}
 use Rattle.words.specs.Put.{put, put-append}
-use Rattle.lists.specs.Lists.{keep, concatMap}
+use Rattle.lists.specs.Lists.{concatMap}
+use Rattle.results.specs.declared.Points.{Points}
 use Rattle.connections.specs.Rides.{Ride}
 use Rattle.tables.proofs.TimesLaws.{range-more, range-none}
-use Rattle.lookup.specs.Lookup.{Line, lineAt, numberAt, stationAt, pointsAt, arriveAt, departAt, callsPlace}
+use Rattle.lookup.specs.Lookup.{Line, numberAt, pointsBetween, arriveAt, departAt}
+use Rattle.lookup.specs.Calls.{Call, Piece, Boarding, callAt, callsOf, callsIn, BoardsAt}
 use Rattle.lookup.specs.First.{firstTrip}
-use Rattle.direct.specs.Candidates.{Reach, pairsOf, rideOn, reach, allRead}
+use Rattle.direct.specs.Candidates.{Reach, reachOf, reachBy, legs, rideOn, allLeg, allRead}
 use Rattle.direct.specs.Choosing.{Found, noFound, goesBefore}
 use Rattle.direct.specs.Keeping.{keptAt, rideWords, keptWith, keptOn, keepAll, Unkept, put-here, put-elsewhere}
-use Rattle.direct.specs.Turns.{tripsFrom, keptTo, allCalls}
-use Rattle.direct.proofs.ReachLaws.{rest, rest-next, rest-none}
-use Rattle.direct.proofs.CallLaws.{pairs-more, pairs-none, calls-are}
+use Rattle.direct.specs.Turns.{tripsFrom, allCalls}
+use Rattle.direct.proofs.ReachLaws.{from, reach-none, reach-other, reach-next}
+use Rattle.direct.proofs.CallLaws.{legs-none, legs-more}
 
 -- ---- four words, two at a time
 pub ride-put : (m : ℕ) (f : Found) (old one two : List ℕ) → m < 2880 → length old ≡ 11520
@@ -128,83 +129,70 @@ module _ (v : List ℕ) (l : Line) (x p j points : ℕ) (best kept old : List �
   trips-done h =
       sym (so-far ∙ ap (λ js. keepAll best kept (map (λ i. rideOn v l x i to-place) js)) (range-none j (l .trips) h))
 
--- ---- one place
-module _ (v : List ℕ) (l : Line) (x p first b points : ℕ) (best kept : List ℕ) (s : ℕ) (is-s : s ≡ stationAt v l p)
-  where
-    pub place-here : s ≡ b → (end : List ℕ)
-        → end ≡ keepAll best kept (tripsFrom v l x first (record { place = p; points = points }))
-        → end ≡ keptTo v l x p first b points best kept
-    unfolding keptTo
-    place-here h end e = rw (eq-eqb (stationAt v l p) b (sym is-s ∙ h)) e
-
-    pub place-not : (s ≡ b → ⊥) → kept ≡ keptTo v l x p first b points best kept
-    unfolding keptTo
-    place-not h = rw (ne-eqb (stationAt v l p) b (λ e. h (is-s ∙ e))) refl
-
 -- ---- from place to place
-module _ (v : List ℕ) (l : Line) (x first b p points : ℕ) (best kept : List ℕ) where
-  turn : p + 1 < l .positions
-      → keepAll best kept (concatMap (tripsFrom v l x first) (rest v l b p points))
-      ≡ keepAll best (keptTo v l x (p + 1) first b (points + pointsAt v l p) best kept)
-      (concatMap (tripsFrom v l x first) (rest v l b (p + 1) (points + pointsAt v l p)))
-  unfolding keptTo
-  turn h =
-      ap (λ r. keepAll best kept (concatMap (tripsFrom v l x first) r)) (rest-next v l b p points h)
-      ∙ go (eqb (stationAt v l (p + 1)) b)
-    where
-      here : Reach
-      here = record { place = p + 1; points = points + pointsAt v l p }
+module _ (v : List ℕ) (l : Line) (c : Call) (first k end : ℕ) (best kept old : List ℕ) (all : List Reach)
+    (so-far : keepAll best old (concatMap (tripsFrom v l (c .place) first) all)
+    ≡ keepAll best kept (concatMap (tripsFrom v l (c .place) first) (reachOf v l c (callsIn v (from k end))))) where
+  done : reachOf v l c (callsIn v (from k end)) ≡ []
+      → kept ≡ keepAll best old (concatMap (tripsFrom v l (c .place) first) all)
+  unfolding keepAll
+  done e = sym (so-far ∙ ap (λ r. keepAll best kept (concatMap (tripsFrom v l (c .place) first) r)) e)
 
-      left : List Reach
-      left = rest v l b (p + 1) (points + pointsAt v l p)
+  pub places-done : end ≤ k + 1 → kept ≡ keepAll best old (concatMap (tripsFrom v l (c .place) first) all)
+  places-done h = done (reach-none v l c k end h)
 
-      go : (t : Bool)
-          → keepAll best kept (concatMap (tripsFrom v l x first) (keep t here left))
-          ≡ keepAll best (cond t (keepAll best kept (tripsFrom v l x first here)) kept)
-          (concatMap (tripsFrom v l x first) left)
-      go true = keepAll-append best kept (tripsFrom v l x first here) (concatMap (tripsFrom v l x first) left)
-      go false = refl
+  module _ (more : k + 1 < end) (inside : end ≤ length v) (d : Call) (is-d : d ≡ callAt v k) where
+    pub places-other : (d .line ≡ c .line → ⊥)
+        → kept ≡ keepAll best old (concatMap (tripsFrom v l (c .place) first) all)
+    places-other h = done (reach-other v l c k end more inside d is-d h)
 
-  module _
-      (old : List ℕ)
-      (so-far : keepAll best old (concatMap (tripsFrom v l x first) (reach v l x b))
-      ≡ keepAll best kept (concatMap (tripsFrom v l x first) (rest v l b p points)))
-    where
-      pub places-more : p + 1 < l .positions → (r sum : ℕ) → r ≡ pointsAt v l p → sum ≡ points + r → (end : List ℕ)
-          → end ≡ keptTo v l x (p + 1) first b sum best kept
-          → keepAll best old (concatMap (tripsFrom v l x first) (reach v l x b))
-          ≡ keepAll best end (concatMap (tripsFrom v l x first) (rest v l b (p + 1) sum))
-      places-more h r sum is-r is-sum end e = rw (e, is-sum, is-r) (so-far ∙ turn h)
-
-      pub places-done : l .positions ≤ p + 1
-          → kept ≡ keepAll best old (concatMap (tripsFrom v l x first) (reach v l x b))
-      unfolding keepAll
-      places-done h =
-          sym (so-far
-          ∙ ap (λ r. keepAll best kept (concatMap (tripsFrom v l x first) r)) (rest-none v l b p points h))
+    pub places-more : d .line ≡ c .line
+        → (points : Points) → points .0 ≡ pointsBetween v l (c .place) (d .place)
+        → (next : List ℕ)
+        → next
+        ≡ keepAll best kept
+        (tripsFrom v l (c .place) first (record { place = d .place; points = points .0 }))
+        → keepAll best old (concatMap (tripsFrom v l (c .place) first) all)
+        ≡ keepAll best next
+        (concatMap (tripsFrom v l (c .place) first) (reachOf v l c (callsIn v (from (k + 2) end))))
+    places-more h points is-points next e =
+        let one : Reach = record { place = d .place; points = pointsBetween v l (c .place) (d .place) } in
+        let rest = reachOf v l c (callsIn v (from (k + 2) end)) in
+        so-far
+        ∙ ap (λ r. keepAll best kept (concatMap (tripsFrom v l (c .place) first) r))
+        (reach-next v l c k end more inside d is-d h)
+        ∙ keepAll-append best kept (tripsFrom v l (c .place) first one)
+        (concatMap (tripsFrom v l (c .place) first) rest)
+        ∙ ap (λ n. keepAll best n (concatMap (tripsFrom v l (c .place) first) rest))
+        (sym
+        (e
+        ∙ ap
+        (λ p. keepAll best kept (tripsFrom v l (c .place) first (record { place = d .place; points = p })))
+        is-points))
 
 -- ---- from call to call
-module _ (v : List ℕ) (a u b k end : ℕ) (best old kept : List ℕ) where
-  pub all-begins : k ≡ callsPlace v (a - 1) → end ≡ callsPlace v a → 1 ≤ a
-      → keepAll best old (allRead v a u b) ≡ keepAll best old (allCalls v u b (pairsOf (slice k end v)))
+module _ (v : List ℕ) (a u b : ℕ) (best old : List ℕ) where
+  pub all-begins : (list rest : Piece) → callsIn v list ≡ callsOf v a → callsIn v rest ≡ callsOf v b
+      → keepAll best old (allRead v a u b) ≡ keepAll best old (allCalls v u (callsIn v list) (callsIn v rest))
   unfolding allRead allCalls
-  all-begins e g h = rw (calls-are v a k end e g h)
+  all-begins list rest e f = rw (e, f)
 
-  module _
-      (so-far : keepAll best old (allRead v a u b) ≡ keepAll best kept (allCalls v u b (pairsOf (slice k end v))))
-    where
-      pub all-done : end ≤ k + 1 → kept ≡ keepAll best old (allRead v a u b)
-      unfolding keepAll allCalls
-      all-done h = sym (so-far ∙ ap (λ l. keepAll best kept (allCalls v u b l)) (pairs-none v k end h))
+  module _ (kept : List ℕ) (k end : ℕ) (rest : Piece)
+      (so-far : keepAll best old (allRead v a u b)
+      ≡ keepAll best kept (allCalls v u (callsIn v (from k end)) (callsIn v rest))) where
+    pub all-done : end ≤ k + 1 → kept ≡ keepAll best old (allRead v a u b)
+    unfolding keepAll allCalls
+    all-done h = sym (so-far ∙ ap (λ g. keepAll best kept (concatMap (allLeg v u) g)) (legs-none v u k end rest h))
 
-      pub all-more : k + 1 < end → end ≡ callsPlace v a → callsPlace v a ≤ length v
-          → (l : Line) (x first : ℕ) → l ≡ lineAt v (getD v k 0 - 1) → x ≡ getD v (k + 1) 0 - 1
-          → first ≡ firstTrip v l x u → (next : List ℕ)
-          → next ≡ keepAll best kept (concatMap (tripsFrom v l x first) (reach v l x b))
-          → keepAll best old (allRead v a u b) ≡ keepAll best next (allCalls v u b (pairsOf (slice (k + 2) end v)))
-      unfolding allCalls
-      all-more more to-end inside l x first is-l is-x is-first next e =
-          so-far
-          ∙ ap (λ m. keepAll best kept (allCalls v u b m)) (pairs-more v k end more (omega arith))
-          ∙ rw (e, is-first, ← is-l, ← is-x)
-          (keepAll-append best kept _ (allCalls v u b (pairsOf (slice (k + 2) end v))))
+    pub all-more : k + 1 < end → end ≤ length v → (g : Boarding) → BoardsAt v k rest g
+        → (first : ℕ) → first ≡ firstTrip v (g .line) (g .call .place) u → (next : List ℕ)
+        → next ≡ keepAll best kept (concatMap (tripsFrom v (g .line) (g .call .place) first) (reachBy v g))
+        → keepAll best old (allRead v a u b)
+        ≡ keepAll best next (allCalls v u (callsIn v (from (k + 2) end)) (callsIn v (g .rest)))
+    unfolding allCalls
+    all-more more inside g is first is-first next e =
+        so-far
+        ∙ ap (λ g. keepAll best kept (concatMap (allLeg v u) g)) (legs-more v u k end rest more inside g is)
+        ∙ rw (e, is-first, is .line)
+        (keepAll-append best kept _
+        (concatMap (allLeg v u) (legs v (callsIn v (from (k + 2) end)) (callsIn v (g .rest)))))

@@ -1,80 +1,77 @@
--- From place to place of a line, with the penalty so far: the places of the station asked for are noted.
+-- From call to call in front of a list: those of the line are noted, until one is of another.
 use mathlib.Core.Path.{_≡_, refl, sym, ap, _∙_}
-use mathlib.Core.Bool.{Bool, true, false, cond}
-use mathlib.Core.List.{List, [], map}
-use Prim.Native.Nat.{ℕ, suc, _+_, _-_, _≤_, _<_}
+use mathlib.Core.List.{List, [], _∷_, map}
+use Prim.Native.Nat.{ℕ, _+_, _-_, _≤_, _<_}
+use lib.ListN.{length}
 use native.Mathlib.Omega.{arith}
 use borrow.Author.Tests.{eq-eqb, ne-eqb}
-use lib.Dec.{eqb}
-use Rattle.lists.specs.Lists.{keep}
-use Rattle.lookup.specs.Lookup.{Line, stationAt, pointsAt, arriveAt}
-use Rattle.direct.specs.Candidates.{Reach, reachFrom, reach, rideOn}
+use Rattle.results.specs.declared.Points.{Points}
+use Rattle.lookup.specs.Lookup.{Line, totalAt, pointsBetween, arriveAt}
+use Rattle.lookup.specs.Calls.{Call, Piece, callAt, callsIn, Inside}
+use Rattle.lookup.proofs.LookupLaws.{pairs-more, pairs-none}
+use Rattle.direct.specs.Candidates.{Reach, reachOf, rideOn}
 use Rattle.minutes.specs.Minutes.{noteAll, lowered}
-use Rattle.direct.specs.Turns.{notedAt}
 
--- the places left behind place p
-abbrev pub rest : List ℕ → Line → (b p points : ℕ) → List Reach
-rest v l b p points = reachFrom v l b p (l .positions - (p + 1)) points
+-- ---- the penalty, by two totals
+module _ (v : List ℕ) (l : Line) (x y here there : ℕ) (is-here : here ≡ totalAt v l x) (is : there ≡ totalAt v l y)
+  where
+    pub totals-fall : there < here → 0 ≡ pointsBetween v l x y
+    totals-fall h = omega (arith, is, is-here)
 
-module _ (v : List ℕ) (l : Line) (b p points : ℕ) where
-  pub rest-next : p + 1 < l .positions
-      → rest v l b p points
-      ≡ keep (eqb (stationAt v l (p + 1)) b) (record { place = p + 1; points = points + pointsAt v l p })
-      (rest v l b (p + 1) (points + pointsAt v l p))
-  unfolding reachFrom
-  rest-next h =
-      let some : l .positions - (p + 1) ≡ suc (l .positions - (p + 1 + 1)) = omega arith in
-      rw some
+    pub totals-rise : there - here ≡ pointsBetween v l x y
+    totals-rise = λ i. is i - is-here i
 
-  pub rest-none : l .positions ≤ p + 1 → rest v l b p points ≡ []
-  unfolding reachFrom
-  rest-none h =
-      let none : l .positions - (p + 1) ≡ 0 = omega arith in
-      rw none
+-- a piece from index k on
+abbrev pub from : (k end : ℕ) → Piece
+from k end = record { from = k; end = end }
 
--- one place
-module _ (v : List ℕ) (l : Line) (p j b points : ℕ) (best : List ℕ) (s : ℕ) (is-s : s ≡ stationAt v l p) where
-  pub noted-here : s ≡ b → (a : ℕ) → a ≡ arriveAt v l p j → (end : List ℕ) → end ≡ lowered best a points
-      → end ≡ notedAt v l p j b points best
-  unfolding notedAt
-  noted-here h a e end f =
-      rw (eq-eqb (stationAt v l p) b (sym is-s ∙ h)) (f ∙ ap (λ m. lowered best m points) e)
+-- ---- what is left of the places to ride to
+module _ (v : List ℕ) (l : Line) (c : Call) (k end : ℕ) where
+  pub reach-none : end ≤ k + 1 → reachOf v l c (callsIn v (from k end)) ≡ []
+  unfolding reachOf
+  reach-none h = ap (reachOf v l c) (pairs-none v k end h)
 
-  pub noted-not : (s ≡ b → ⊥) → best ≡ notedAt v l p j b points best
-  unfolding notedAt
-  noted-not h = rw (ne-eqb (stationAt v l p) b (λ e. h (is-s ∙ e)))
+  module _ (more : k + 1 < end) (inside : end ≤ length v) (d : Call) (is-d : d ≡ callAt v k) where
+    front : callsIn v (from k end) ≡ d ∷ callsIn v (from (k + 2) end)
+    front = pairs-more v k end more inside ∙ ap (λ d. d ∷ callsIn v (from (k + 2) end)) (sym is-d)
 
-module _ (v : List ℕ) (l : Line) (x j b p points : ℕ) (best : List ℕ) where
-  turn : p + 1 < l .positions
-      → noteAll best (map (rideOn v l x j) (rest v l b p points))
-      ≡ noteAll (notedAt v l (p + 1) j b (points + pointsAt v l p) best)
-      (map (rideOn v l x j) (rest v l b (p + 1) (points + pointsAt v l p)))
-  unfolding noteAll notedAt
-  turn h =
-      ap (λ r. noteAll best (map (rideOn v l x j) r)) (rest-next v l b p points h)
-      ∙ go (eqb (stationAt v l (p + 1)) b)
-    where
-      go : (t : Bool)
-          → noteAll best
-          (map (rideOn v l x j)
-          (keep t (record { place = p + 1; points = points + pointsAt v l p })
-          (rest v l b (p + 1) (points + pointsAt v l p))))
-          ≡ noteAll (cond t (lowered best (arriveAt v l (p + 1) j) (points + pointsAt v l p)) best)
-          (map (rideOn v l x j) (rest v l b (p + 1) (points + pointsAt v l p)))
-      go true = refl
-      go false = refl
+    pub reach-other : (d .line ≡ c .line → ⊥) → reachOf v l c (callsIn v (from k end)) ≡ []
+    unfolding reachOf
+    reach-other h = ap (reachOf v l c) front ∙ rw (ne-eqb (d .line) (c .line) h)
 
-  module _
-      (old : List ℕ)
-      (so-far : noteAll old (map (rideOn v l x j) (reach v l x b))
-      ≡ noteAll best (map (rideOn v l x j) (rest v l b p points)))
-    where
-      pub reach-more : p + 1 < l .positions → (r sum : ℕ) → r ≡ pointsAt v l p → sum ≡ points + r → (end : List ℕ)
-          → end ≡ notedAt v l (p + 1) j b sum best
-          → noteAll old (map (rideOn v l x j) (reach v l x b))
-          ≡ noteAll end (map (rideOn v l x j) (rest v l b (p + 1) sum))
-      reach-more h r sum is-r is-sum end e = rw (e, is-sum, is-r) (so-far ∙ turn h)
+    pub reach-next : d .line ≡ c .line
+        → reachOf v l c (callsIn v (from k end))
+        ≡ record { place = d .place; points = pointsBetween v l (c .place) (d .place) }
+        ∷ reachOf v l c (callsIn v (from (k + 2) end))
+    unfolding reachOf
+    reach-next h = ap (reachOf v l c) front ∙ rw (eq-eqb (d .line) (c .line) h)
 
-      pub reach-done : l .positions ≤ p + 1 → best ≡ noteAll old (map (rideOn v l x j) (reach v l x b))
-      unfolding noteAll
-      reach-done h = sym (so-far ∙ ap (λ r. noteAll best (map (rideOn v l x j) r)) (rest-none v l b p points h))
+-- ---- noting them
+module _ (v : List ℕ) (l : Line) (c : Call) (j k end : ℕ) (best old : List ℕ) (all : List Reach)
+    (so-far : noteAll old (map (rideOn v l (c .place) j) all)
+    ≡ noteAll best (map (rideOn v l (c .place) j) (reachOf v l c (callsIn v (from k end))))) where
+  done : reachOf v l c (callsIn v (from k end)) ≡ [] → best ≡ noteAll old (map (rideOn v l (c .place) j) all)
+  unfolding noteAll
+  done e = sym (so-far ∙ ap (λ r. noteAll best (map (rideOn v l (c .place) j) r)) e)
+
+  pub noted-all : end ≤ k + 1 → best ≡ noteAll old (map (rideOn v l (c .place) j) all)
+  noted-all h = done (reach-none v l c k end h)
+
+  module _ (more : k + 1 < end) (inside : end ≤ length v) (d : Call) (is-d : d ≡ callAt v k) where
+    pub noted-line : (d .line ≡ c .line → ⊥) → best ≡ noteAll old (map (rideOn v l (c .place) j) all)
+    noted-line h = done (reach-other v l c k end more inside d is-d h)
+
+    pub noted-more : d .line ≡ c .line
+        → (points : Points) → points .0 ≡ pointsBetween v l (c .place) (d .place)
+        → (m : ℕ) → m ≡ arriveAt v l (d .place) j
+        → (next : List ℕ) → next ≡ lowered best m (points .0)
+        → noteAll old (map (rideOn v l (c .place) j) all)
+        ≡ noteAll next (map (rideOn v l (c .place) j) (reachOf v l c (callsIn v (from (k + 2) end))))
+    unfolding noteAll
+    noted-more h points is-points m is-m next e =
+        let here = e ∙ (λ i. lowered best (is-m i) (is-points i)) in
+        so-far
+        ∙ ap (λ r. noteAll best (map (rideOn v l (c .place) j) r)) (reach-next v l c k end more inside d is-d h)
+        ∙ ap
+        (λ b. noteAll b (map (rideOn v l (c .place) j) (reachOf v l c (callsIn v (from (k + 2) end)))))
+        (sym here)

@@ -40,6 +40,8 @@ use Rattle.direct.specs.ByLine.{
   line-listed,
   line-good,
   from-inside,
+  first-listed,
+  all-listed,
   first-read-in,
   first-read-out,
   all-read-in,
@@ -55,9 +57,13 @@ module _
     (a u b : ℕ)
     (some : 1 ≤ a)
     (inside : a ≤ length (timetable .stations))
+    (yes : valid timetable ≡ true)
   where
     abbrev t : List Trip
     t = timetable .trips
+
+    is-valid : T (valid timetable)
+    is-valid = rw yes tt
 
     abbrev n : ℕ
     n = length (timetable .stations)
@@ -75,8 +81,8 @@ module _
           let this = subst (λ j. getD (lineOf t i) j 0 ∈ firstOf (inTime t u x) (lineOf t i)) e trip in
           first-in t a u b (lineOf t i) x y (getD (lineOf t i) j 0) (line-listed t i (k .listed)) (k .pair) this
 
-      by-direct : first i x ≤ j → direct (rideBy t i x y j) ∈ directs (net timetable) a u b
-      by-direct h =
+      by-direct : (1 ≤ b) × (b ≤ n) → first i x ≤ j → direct (rideBy t i x y j) ∈ directs (net timetable) a u b
+      by-direct to-listed h =
           let z = getD (lineOf t i) j 0 in
           let good = line-good t i (k .listed) in
           let member = within (lineOf t i) j 0 (k .runs) in
@@ -86,20 +92,30 @@ module _
           let end = k .pair .inside in
           let from = sym (line-stop t (lineOf t i) z x good member .station) ∙ k .pair .board in
           let to = sym (line-stop t (lineOf t i) z y good member .station) ∙ k .pair .alight in
-          let timely = timely-by v n t told a u b some inside i x y j k h in
+          let timely = timely-by v n t told a u b some inside (to-listed .0) (to-listed .1) i x y j k h in
           let listed = rides-in t z x y (trip-listed t z on-line) (k .pair .later) (omega arith) in
           direct-in timetable a u b (rideBy t i x y j) listed (search writes)
+
+    -- a direct ride ends at a listed station
+    direct-listed : (c : Connection) → c ∈ directs (net timetable) a u b → (1 ≤ b) × (b ≤ n)
+    direct-listed c m =
+        let r = direct-out timetable a u b c m in
+        let wanted = r .2 in
+        let to : r .0 .to ≡ b = search reads in
+        subst (λ b. (1 ≤ b) × (b ≤ n)) to (sound timetable is-valid .arrives (r .0) (r .1))
 
     -- ---- the first rides read are those of the lines
     first-to : (c : Connection) → c ∈ map direct (firstRead v a u b) → c ∈ firstRides t a u b
     first-to c m =
         let r = Memᴰ·of-map direct (firstRead v a u b) m in
-        let q = first-read-out v n t told a u b some inside (r .0) (r .1) in
+        let listed = first-listed v n t told a u b (r .0) (r .1) in
+        let q = first-read-out v n t told a u b some inside (listed .0) (listed .1) (r .0) (r .1) in
         let k = q .0 in
         Memᴰ·cast (sym (ap direct (k .is) ∙ r .2)) (by-first (k .i) (k .x) (k .y) (k .j) (k .by) (q .1))
 
     first-back : (c : Connection) → c ∈ firstRides t a u b → c ∈ map direct (firstRead v a u b)
     first-back c m =
+        let listed = direct-listed c (first-direct timetable a u b c m) in
         let r = first-ride t a u b c m in
         let x = r .x in
         let y = r .y in
@@ -111,7 +127,8 @@ module _
         let q = first-trip-out v t i (lineOf t i) (told .line i (p .inside)) x u x-inside (r .z) member in
         let by : By t a b i x y (first i x) = record { listed = p .inside; pair = pair; runs = q .0 } in
         let same = ap (λ z. direct (rideAt (getD t z []) z x y)) (q .1) ∙ r .is in
-        Memᴰ·cast (sym same) (Memᴰ·map direct (first-read-in v n t told a u b some inside i x y (first i x) by refl))
+        Memᴰ·cast (sym same) (Memᴰ·map direct
+        (first-read-in v n t told a u b some inside (listed .0) (listed .1) i x y (first i x) by refl))
 
     pub first-read : (c : Connection) → c ∈ map direct (firstRead v a u b) ↔ c ∈ firstRides (timetable .trips) a u b
     first-read c = (first-to c, first-back c)
@@ -120,9 +137,11 @@ module _
     all-to : (c : Connection) → c ∈ map direct (allRead v a u b) → c ∈ directs (net timetable) a u b
     all-to c m =
         let r = Memᴰ·of-map direct (allRead v a u b) m in
-        let q = all-read-out v n t told a u b some inside (r .0) (r .1) in
+        let listed = all-listed v n t told a u b (r .0) (r .1) in
+        let q = all-read-out v n t told a u b some inside (listed .0) (listed .1) (r .0) (r .1) in
         let k = q .0 in
-        Memᴰ·cast (sym (ap direct (k .is) ∙ r .2)) (by-direct (k .i) (k .x) (k .y) (k .j) (k .by) (q .1))
+        Memᴰ·cast (sym (ap direct (k .is) ∙ r .2))
+        (by-direct (k .i) (k .x) (k .y) (k .j) (k .by) listed (q .1))
 
     -- a direct ride by the line of its trip
     on-its-line : (r : Ride) → r .from ≡ a → r .to ≡ b → Taken t r → Read t a b r
@@ -154,6 +173,7 @@ module _
 
     all-back : (c : Connection) → c ∈ directs (net timetable) a u b → c ∈ map direct (allRead v a u b)
     all-back c m =
+        let listed = direct-listed c m in
         let r = direct-out timetable a u b c m in
         let wanted = r .2 in
         let from : r .0 .from ≡ a = search reads in
@@ -161,9 +181,11 @@ module _
         let timely : T (leb u (r .0 .depart)) = search reads in
         let k = on-its-line (r .0) from to (rides-out t (r .0) (r .1)) in
         let leaves = subst (λ r. T (leb u (r .depart))) (sym (k .is)) timely in
-        let behind = by-timely v n t told a u b some inside (k .i) (k .x) (k .y) (k .j) (k .by) leaves in
+        let behind =
+        by-timely v n t told a u b some inside (listed .0) (listed .1) (k .i) (k .x) (k .y) (k .j) (k .by) leaves in
         Memᴰ·cast (sym (ap direct (k .is) ∙ r .3))
-        (Memᴰ·map direct (all-read-in v n t told a u b some inside (k .i) (k .x) (k .y) (k .j) (k .by) behind))
+        (Memᴰ·map direct
+        (all-read-in v n t told a u b some inside (listed .0) (listed .1) (k .i) (k .x) (k .y) (k .j) (k .by) behind))
 
     pub all-read : (c : Connection) → c ∈ map direct (allRead v a u b) ↔ c ∈ directs (net timetable) a u b
     all-read c = (all-to c, all-back c)
@@ -180,37 +202,33 @@ module _
         (λ c m. (c, first-back c m, omega arith))
         ∙ direct-costs timetable a u b
 
-    -- ---- of a valid timetable
-    module _ (yes : valid timetable ≡ true) where
-      is-valid : T (valid timetable)
-      is-valid = rw yes tt
+    -- ---- how large their numbers get
+    trips-few : length t ≤ 256
+    unfolding valid counted
+    trips-few = let h = is-valid in search reads
 
-      trips-few : length t ≤ 256
-      unfolding valid counted
-      trips-few = let h = is-valid in search reads
+    direct-bounds : (r : Ride) → direct r ∈ directs (net timetable) a u b → Bounds u r
+    direct-bounds r m =
+        let boards = directs-exactly timetable a u b (direct r) .0 m .0 .0 in
+        let listed = boards .listed in
+        let net-sound = sound timetable is-valid in
+        let forward = net-sound .forward r listed in
+        let bounded = net-sound .bounded r listed in
+        let cheap = ride-cheap timetable is-valid r listed in
+        let k = rides-out t r listed in
+        let number = ap (λ r. r .trip) (k .is) in
+        record {
+          leaves = boards .timely;
+          later = forward;
+          minute = omega arith;
+          depart-minute = omega arith;
+          few = omega arith;
+          trip-few = omega (arith, number, k .listed, trips-few);
+        }
 
-      direct-bounds : (r : Ride) → direct r ∈ directs (net timetable) a u b → Bounds u r
-      direct-bounds r m =
-          let boards = directs-exactly timetable a u b (direct r) .0 m .0 .0 in
-          let listed = boards .listed in
-          let net-sound = sound timetable is-valid in
-          let forward = net-sound .forward r listed in
-          let bounded = net-sound .bounded r listed in
-          let cheap = ride-cheap timetable is-valid r listed in
-          let k = rides-out t r listed in
-          let number = ap (λ r. r .trip) (k .is) in
-          record {
-            leaves = boards .timely;
-            later = forward;
-            minute = omega arith;
-            depart-minute = omega arith;
-            few = omega arith;
-            trip-few = omega (arith, number, k .listed, trips-few);
-          }
+    pub all-bounds : (r : Ride) → r ∈ allRead v a u b → Bounds u r
+    all-bounds r m = direct-bounds r (all-to (direct r) (Memᴰ·map direct m))
 
-      pub all-bounds : (r : Ride) → r ∈ allRead v a u b → Bounds u r
-      all-bounds r m = direct-bounds r (all-to (direct r) (Memᴰ·map direct m))
-
-      pub first-bounds : (r : Ride) → r ∈ firstRead v a u b → Bounds u r
-      first-bounds r m =
-          direct-bounds r (first-direct timetable a u b (direct r) (first-to (direct r) (Memᴰ·map direct m)))
+    pub first-bounds : (r : Ride) → r ∈ firstRead v a u b → Bounds u r
+    first-bounds r m =
+        direct-bounds r (first-direct timetable a u b (direct r) (first-to (direct r) (Memᴰ·map direct m)))

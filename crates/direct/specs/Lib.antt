@@ -5,7 +5,6 @@ pub mod Keeping
 pub mod Bounds
 pub mod Picking
 pub mod Chosen
-pub mod Met
 pub mod Foremost
 pub mod Reached
 pub mod ByLine

@@ -1,29 +1,31 @@
 -- What the code reads of one line: the later positions of a station with the penalties of the rides there, the first
 -- trip that leaves in time, and the rides themselves. They are those that the timetable says.
-use mathlib.Core.Path.{_≡_, sym, ap, subst, _∙_}
-use mathlib.Core.List.{List, []}
-use Prim.Native.Nat.{ℕ, zero, suc, _+_, _-_, _≤_, _<_}
+use mathlib.Core.Path.{_≡_, refl, sym, ap, subst, _∙_}
+use mathlib.Core.Bool.{Bool, true, false, cond}
+use mathlib.Core.List.{List, [], _∷_, List·Memᴰ·head as here, List·Memᴰ·tail as there}
+use Prim.Native.Nat.{ℕ, _≤_, _<_}
 use native.Mathlib.Numerals.{add-one}
 use native.Mathlib.Omega.{arith}
 use native.Mathlib.Decide.{ℕ-discrete}
-use lib.Dec.{T, leb, eqb, eqb→eq, leb→le, le→leb}
+use borrow.Author.Tests.{eqb-true, eqb-false}
+use lib.Dec.{T, leb, eqb, leb→le, le→leb}
 use lib.ListN.{length, getD}
 use Rattle.timetable.specs.Timetable.{Trip}
 use Rattle.lists.specs.Lists.{_∈_, firstOf}
-use Rattle.lists.specs.Tests.{eq→eqb}
-use Rattle.lists.specs.Members.{none, kept-cases, keep-here, keep-there}
+use Rattle.lists.specs.Members.{none, cons-cases}
 use Rattle.connections.specs.Rides.{ridePoints, rideAt}
-use Rattle.connections.specs.RideLaws.{points-more, points-split}
 use Rattle.lines.specs.Lines.{course, stationOn}
 use Rattle.lines.specs.DirectRides.{inTime}
 use Rattle.lines.specs.Behind.{behind-points}
 use Rattle.lines.specs.Ordered.{Line as GoodLine, line-stop, head-behind, no-overtaking}
 use Rattle.tables.specs.Tables.{stopOf}
 use Rattle.tables.specs.Spelled.{within}
-use Rattle.lookup.specs.Lookup.{Line, lineAt, stationAt, pointsAt, departAt}
+use Rattle.lookup.specs.Lookup.{Line, lineAt, pointsBetween, departAt}
 use Rattle.lookup.specs.First.{firstTrip}
-use Rattle.lookup.specs.Told.{LineTold}
-use Rattle.direct.specs.Candidates.{Reach, reachFrom, reach, rideOn}
+use Rattle.lookup.specs.Calls.{Call}
+use Rattle.lookup.specs.Told.{LineTold, ride-difference}
+use Rattle.lookup.specs.Rising.{Later, Rising}
+use Rattle.direct.specs.Candidates.{Reach, reachOf, rideOn}
 use Rattle.direct.specs.Foremost.{Foremost, foremost, first-at-in, first-at-out}
 
 -- a later place of station b on line l, and the penalty of the ride from place x
@@ -33,92 +35,90 @@ pub record Reached (t : List Trip) (l : List ℕ) (x b : ℕ) (r : Reach) : Type
   pub station : stationOn t l (r .place) ≡ b
   pub costs : r .points ≡ ridePoints (course t l) x (r .place)
 
+-- calls of station b that rise, each of them after place x of the line at place i, which is l
+pub record Left (t : List Trip) (i : ℕ) (l : List ℕ) (b x : ℕ) (ds : List Call) : Type 0 where
+  pub rise : Rising ds
+  pub behind : (d : Call) → d ∈ ds → Later (record { line = i; place = x }) d
+  pub met : (d : Call) → d ∈ ds → d .line ≡ i → (d .place < length (course t l)) × (stationOn t l (d .place) ≡ b)
+
 module _ (v : List ℕ) (t : List Trip) (i : ℕ) (l : List ℕ) (told : LineTold v t i l) where
   abbrev line : Line
   line = lineAt v i
 
-  abbrev points : (x y : ℕ) → ℕ
-  points x y = ridePoints (course t l) x y
-
-  -- ---- the places that one can ride to
+  -- ---- the places that one can ride to: in front of what is left after the call stand those of its line
   module _ (b x : ℕ) where
-    -- one place further
-    next : (p so-far : ℕ) → x ≤ p → p < length (course t l) → so-far ≡ points x p
-        → so-far + pointsAt v line p ≡ points x (p + 1)
-    next p so-far h g e =
-        omega (arith, told .points p g, points-more (course t l) x p h g, ap (points x) (add-one p))
+    abbrev call : Call
+    call = record { line = i; place = x }
 
-    from-out : (n p so-far : ℕ) → x ≤ p → p + n < length (course t l) → so-far ≡ points x p
-        → (r : Reach) → r ∈ reachFrom v line b p n so-far → Reached t l x b r
-    unfolding reachFrom
-    from-out zero p so-far h g e r m = none m
-    from-out (suc n) p so-far h g e r m =
-        let more = next p so-far h (omega arith) e in
-        kept-cases
-        (eqb (stationAt v line (p + 1)) b)
-        m
-        (λ q s.
-        subst
-        (Reached t l x b)
-        (sym q)
-        (record {
-          later = omega arith;
-          inside = omega arith;
-          station = sym (told .station (p + 1) (omega arith)) ∙ eqb→eq (stationAt v line (p + 1)) b s;
-          costs = more;
-        }))
-        (from-out n (p + 1) (so-far + pointsAt v line p) (omega arith) (omega arith) more r)
+    rest-left : (d : Call) (ds : List Call) → Left t i l b x (d ∷ ds) → Left t i l b x ds
+    rest-left d ds k =
+        record {
+          rise = k .rise .1;
+          behind = λ e m. k .behind e (there m);
+          met = λ e m. k .met e (there m);
+        }
 
-    from-in : (n p so-far : ℕ) → x ≤ p → p + n < length (course t l) → so-far ≡ points x p
-        → (y : ℕ) → p < y → y ≤ p + n → stationOn t l y ≡ b
-        → record { place = y; points = points x y } ∈ reachFrom v line b p n so-far
-    unfolding reachFrom
-    from-in zero p so-far h g e y j k s = absurd (omega arith)
-    from-in (suc n) p so-far h g e y j k s =
-        let more = next p so-far h (omega arith) e in
-        let test = eqb (stationAt v line (p + 1)) b in
-        let one : Reach = record { place = p + 1; points = so-far + pointsAt v line p } in
-        let rest = reachFrom v line b (p + 1) n (so-far + pointsAt v line p) in
-        elim (ℕ-discrete y (p + 1)) [
-          | yes q ↦
-              keep-here
-              rest
-              test
-              (λ k. record { place = q k; points = (ap (points x) q ∙ sym more) k })
-              (eq→eqb (stationAt v line (p + 1)) b
-              (told .station (p + 1) (omega arith) ∙ ap (stationOn t l) (sym q) ∙ s))
-          | no q ↦
-              keep-there
-              one
-              test
-              (from-in n (p + 1) (so-far + pointsAt v line p) (omega arith) (omega arith) more y (omega arith)
-              (omega arith) s)
-        ]
+    at-place : (d : Call) → Later call d → (d .line ≡ i)
+        → (d .place < length (course t l)) × (stationOn t l (d .place) ≡ b)
+        → Reached t l x b (record { place = d .place; points = pointsBetween v line x (d .place) })
+    at-place d later same k =
+        let x-before = later .place (sym same) in
+        record {
+          later = x-before;
+          inside = k .0;
+          station = k .1;
+          costs = ride-difference v t i l told x (d .place) (omega arith) (k .0);
+        }
 
-    module _ (h : x < length (course t l)) where
-      none-yet : 0 ≡ points x x
-      none-yet = omega (arith, points-split (course t l) x x x (omega arith) (omega arith))
+    pub reach-out : (ds : List Call) → Left t i l b x ds → (r : Reach) → r ∈ reachOf v line call ds → Reached t l x b r
+    unfolding reachOf
+    reach-out [] k r m = none m
+    reach-out (d ∷ ds) k r m = go (eqb (d .line) i) refl m (reach-out ds (rest-left d ds k) r)
+      where
+        one : Reach
+        one = record { place = d .place; points = pointsBetween v line x (d .place) }
 
-      all-places : x + (line .positions - (x + 1)) < length (course t l)
-      all-places = omega (arith, told .positions)
+        go : (q : Bool) → eqb (d .line) i ≡ q → r ∈ cond q (one ∷ reachOf v line call ds) []
+            → (r ∈ reachOf v line call ds → Reached t l x b r) → Reached t l x b r
+        go true e m ih =
+            let same = eqb-true (d .line) i e in
+            cons-cases
+            m
+            (λ p.
+            subst (Reached t l x b) (sym p)
+            (at-place d (k .behind d (here refl)) same (k .met d (here refl) same)))
+            ih
+        go false e m ih = none m
 
-      pub reach-out : (r : Reach) → r ∈ reach v line x b → Reached t l x b r
-      reach-out = from-out (line .positions - (x + 1)) x 0 (omega arith) all-places none-yet
+    -- a call of the line is not passed over: those before it are of the line too, since calls rise
+    pub reach-in : (ds : List Call) → Left t i l b x ds → (y : ℕ) → record { line = i; place = y } ∈ ds
+        → record { place = y; points = pointsBetween v line x y } ∈ reachOf v line call ds
+    unfolding reachOf
+    reach-in [] k y m = none m
+    reach-in (d ∷ ds) k y m = go (eqb (d .line) i) refl (reach-in ds (rest-left d ds k) y)
+      where
+        one : Reach
+        one = record { place = d .place; points = pointsBetween v line x (d .place) }
 
-      pub reach-in : (y : ℕ) → x < y → y < length (course t l) → stationOn t l y ≡ b
-          → record { place = y; points = points x y } ∈ reach v line x b
-      reach-in y g k s =
-          from-in
-          (line .positions - (x + 1))
-          x
-          0
-          (omega arith)
-          all-places
-          none-yet
-          y
-          g
-          (omega (arith, told .positions))
-          s
+        wanted : Reach
+        wanted = record { place = y; points = pointsBetween v line x y }
+
+        go : (q : Bool) → eqb (d .line) i ≡ q
+            → (record { line = i; place = y } ∈ ds → wanted ∈ reachOf v line call ds)
+            → wanted ∈ cond q (one ∷ reachOf v line call ds) []
+        go true e ih =
+            cons-cases
+            m
+            (λ p. here (ap (λ d. record { place = d .place; points = pointsBetween v line x (d .place) }) p))
+            (λ j. there (ih j))
+        go false e ih =
+            cons-cases
+            m
+            (λ p. absurd (eqb-false (d .line) i e (sym (ap (λ d. d .line) p))))
+            (λ j.
+            let front = k .behind d (here refl) .line in
+            let back = k .rise .0 (record { line = i; place = y }) j .line in
+            absurd (eqb-false (d .line) i e (omega arith)))
 
   -- ---- the first trip that leaves in time
   module _ (x u : ℕ) (h : x < length (course t l)) where

@@ -1,5 +1,5 @@
 -- What the code finds in line tables that belong to the timetable are the rows of the direct query.
-use mathlib.Core.Path.{_≡_, refl, sym, ap, subst, _∙_}
+use mathlib.Core.Path.{_≡_, refl, sym, ap, _∙_}
 use mathlib.Core.Bool.{true}
 use mathlib.Core.Logic.{_↔_}
 use mathlib.Core.List.{List, [], _∷_}
@@ -15,11 +15,9 @@ use Rattle.replies.specs.Replies.{replyOf, wordsAfter, reply-refused, words-kep
 use Rattle.replies.specs.Later.{asked-on, asked-out}
 use Rattle.timetable.specs.Timetable.{Timetable}
 use Rattle.timetable.specs.Words.{timetableOf, isTimetable}
-use Rattle.timetable.specs.Check.{length-stations}
-use Rattle.timetable.specs.Access.{spelled-valid, stations-few}
+use Rattle.timetable.specs.Access.{spelled-valid}
 use Rattle.results.specs.Results.{Cost}
 use Rattle.connections.specs.Connections.{net}
-use Rattle.lookup.specs.Lookup.{callsPlace}
 use Rattle.lookup.specs.Told.{Told}
 use Rattle.lookup.specs.Holding.{holding}
 use Rattle.lines.specs.DirectRides.{directRows}
@@ -57,18 +55,12 @@ module _
     told : Told v (length (t .stations)) (t .trips)
     told = holding v (length (t .stations)) (t .trips) (begins-holds v t .0 own)
 
-    -- the list of the station ends within the tables
-    pub calls-inside : callsPlace v a ≤ length v
-    calls-inside =
-        let there : a - 1 + 1 ≡ a = omega arith in
-        subst (λ k. callsPlace v k ≤ length v) there (told .calls-inside (a - 1) (omega arith))
-
     pub shown-rows : rowsFrom u (allRead v a u b) (leads noPoints 0 (bestOf v a b u)) ≡ rows w a b u
     unfolding directRows
     shown-rows =
         rows-chosen u (firstRead v a u b) (allRead v a u b) (rides w a b u)
-        (all-read v t told a u b some inside)
-        (read-costs v t told a u b some inside)
+        (all-read v t told a u b some inside (spelled-valid w accepted))
+        (read-costs v t told a u b some inside (spelled-valid w accepted))
         (first-bounds v t told a u b some inside (spelled-valid w accepted))
         (all-bounds v t told a u b some inside (spelled-valid w accepted))
 
@@ -76,16 +68,16 @@ module _
     unfolding directRows
     shown-count =
         rows-count u (firstRead v a u b) (allRead v a u b) (rides w a b u)
-        (all-read v t told a u b some inside)
-        (read-costs v t told a u b some inside)
+        (all-read v t told a u b some inside (spelled-valid w accepted))
+        (read-costs v t told a u b some inside (spelled-valid w accepted))
         (first-bounds v t told a u b some inside (spelled-valid w accepted))
         (all-bounds v t told a u b some inside (spelled-valid w accepted))
 
     none : (leads noPoints 0 (bestOf v a b u) ≡ []) ↔ (rides w a b u ≡ [])
     none =
         none-chosen u (firstRead v a u b) (allRead v a u b) (rides w a b u)
-        (all-read v t told a u b some inside)
-        (read-costs v t told a u b some inside)
+        (all-read v t told a u b some inside (spelled-valid w accepted))
+        (read-costs v t told a u b some inside (spelled-valid w accepted))
         (first-bounds v t told a u b some inside (spelled-valid w accepted))
         (all-bounds v t told a u b some inside (spelled-valid w accepted))
 
@@ -160,16 +152,6 @@ module _ (w v : List ℕ) (n a b u number : ℕ) (is : number ≡ queryNumber w 
 
   answers : Yes w v n a b u
   answers = yes-all w v n a b u (sym is ∙ none-denied)
-
-  pub lists-inside : callsPlace v a ≤ length v
-  lists-inside = calls-inside w v a b u (answers .accepted) (answers .own) (answers .some) (answers .inside)
-
-  pub source-first : 1 ≤ a
-  source-first = answers .some
-
-  pub source-few : a ≤ 64
-  source-few =
-      omega (arith, answers .inside, length-stations w, stations-few w (answers .accepted))
 
   same-number : (m : ℕ) → foundNumber v a b u m ≡ directNumber w v n a b u m
   unfolding foundNumber directNumber

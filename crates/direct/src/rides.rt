@@ -4,12 +4,13 @@ ghost use Prim.Native.Nat.{_*_, _≤_, _<_};
 ghost use lib.ListN.{length};
 ghost use Rattle.words.specs.Put.{put};
 ghost use Rattle.lists.specs.Lists.{concatMap};
-ghost use Rattle.lookup.specs.Lookup.{callsPlace};
-ghost use Rattle.direct.specs.Candidates.{rideOn, reach, allRead};
+ghost use Rattle.lookup.specs.Calls.{Within};
+ghost use Rattle.direct.specs.Candidates.{rideOn, reachBy, allRead};
 ghost use Rattle.direct.specs.Choosing.{goesBefore};
 ghost use Rattle.direct.specs.Keeping.{keptAt, rideWords, Unkept, keptWith, keptOn, keepAll, Keeps};
-ghost use Rattle.direct.specs.Turns.{tripsFrom, keptTo};
+ghost use Rattle.direct.specs.Turns.{tripsFrom};
 use crate::costs;
+use lookup::Boarding;
 use lookup::Line;
 use minutes::MINUTES;
 use results::Points;
@@ -186,87 +187,54 @@ fn keep_trips(
     }
 }
 
-// Keeps those rides, if the station at place p is the one asked for.
-fn keep_at(
-    v: &[u16],
-    l: Line,
-    x: usize,
-    p: usize,
-    first: usize,
-    to: usize,
-    points: Points,
-    best: &[u32],
-    kept: &mut [u32],
-)
-    requires { ⌜ (l .at < 65536)
-        × (l .positions < 65536)
-        × (l .trips < 65536)
-        × (x < 65536)
-        × (p < 65536)
-        × (first ≤ l .trips)
-        × (length (now best) ≡ 2880)
-        × (length (now kept) ≡ 11520) ⌝ }
-    ensures { λ _. ⌜ now (kept .exit)
-        ≡ keptTo (now (v .entry)) l x p first to (points .0) (now (best .entry)) (now (kept .entry)) ⌝ }
-    ensures { λ _. ⌜ length (now (kept .exit)) ≡ length (now (kept .entry)) ⌝ }
-{
-    if lookup::station_at(v, l, p) == to {
-        keep_trips(v, l, x, p, first, points, best, kept);
-    }
-}
-
-// Keeps the rides from place x of a line to the station, on its trips from place first on.
-fn keep_reach(v: &[u16], l: Line, x: usize, first: usize, to: usize, best: &[u32], kept: &mut [u32])
-    requires { ⌜ (l .at < 65536)
-        × (l .positions < 65536)
-        × (l .trips < 65536)
-        × (x < 65536)
-        × (first ≤ l .trips)
+// Keeps the rides from the call that is boarded at to the calls of its line that are left, on the line's trips from
+// place first on.
+fn keep_reach(v: &[u16], g: Boarding, first: usize, best: &[u32], kept: &mut [u32])
+    requires { ⌜ Within (now v) g
+        × (first ≤ g .line .trips)
         × (length (now best) ≡ 2880)
         × (length (now kept) ≡ 11520) ⌝ }
     ensures { λ _. ⌜ now (kept .exit)
         ≡ keepAll (now (best .entry)) (now (kept .entry))
-        (concatMap (tripsFrom (now (v .entry)) l x first) (reach (now (v .entry)) l x to)) ⌝ }
+        (concatMap (tripsFrom (now (v .entry)) (g .line) (g .call .place) first) (reachBy (now (v .entry)) g)) ⌝ }
     ensures { λ _. ⌜ length (now (kept .exit)) ≡ length (now (kept .entry)) ⌝ }
 {
-    let mut points = Points(0);
-    let mut p = x;
-    while p + 1 < l.positions {
-        points = minutes::sum(points, costs::ride_points(v, l, p));
-        p += 1;
-        keep_at(v, l, x, p, first, to, points, best, kept);
+    let end = g.rest.end;
+    let mut k = g.rest.from;
+    while k + 1 < end {
+        let d = lookup::call_at(v, k);
+        if d.line != g.call.line {
+            break;
+        }
+        let points = costs::ride_points(v, g.line, g.call.place, d.place);
+        keep_trips(v, g.line, g.call.place, d.place, first, points, best, kept);
+        k += 2;
     }
 }
 
 // Goes once through all rides from one station to another that leave at the minute or later, and keeps them.
 fn keep_all(v: &[u16], from: usize, to: usize, minute: usize, best: &[u32], kept: &mut [u32])
-    requires { ⌜ (1 ≤ from)
-        × (from ≤ 64)
-        × (callsPlace (now v) from ≤ length (now v))
-        × (length (now best) ≡ 2880)
-        × (length (now kept) ≡ 11520) ⌝ }
+    requires { ⌜ (length (now best) ≡ 2880) × (length (now kept) ≡ 11520) ⌝ }
     ensures { λ _. ⌜ now (kept .exit)
         ≡ keepAll (now (best .entry)) (now (kept .entry)) (allRead (now (v .entry)) from minute to) ⌝ }
     ensures { λ _. ⌜ length (now (kept .exit)) ≡ length (now (kept .entry)) ⌝ }
 {
-    let end = lookup::calls_place(v, from);
-    let mut k = lookup::calls_place(v, from - 1);
+    let mut rest = lookup::list_of(v, to);
+    let list = lookup::list_of(v, from);
+    let end = list.end;
+    let mut k = list.from;
     while k + 1 < end {
-        let l = lookup::call_line(v, k);
-        let x = lookup::call_place(v, k);
-        let first = lookup::first_trip(v, l, x, minute);
-        keep_reach(v, l, x, first, to, best, kept);
+        let g = lookup::boarding_at(v, k, rest);
+        rest = g.rest;
+        let first = lookup::first_trip(v, g.line, g.call.place, minute);
+        keep_reach(v, g, first, best, kept);
         k += 2;
     }
 }
 
 // Finds the rides that are shown, for each minute of arrival the one that goes before all others of its least penalty.
 pub fn find_rides(v: &[u16], from: usize, to: usize, minute: usize, best: &[u32], kept: &mut [u32])
-    requires { ⌜ (1 ≤ from)
-        × (from ≤ 64)
-        × (callsPlace (now v) from ≤ length (now v))
-        × (length (now best) ≡ 2880)
-        × (length (now kept) ≡ 11520) ⌝ }
+    requires { ⌜ (length (now best) ≡ 2880) × (length (now kept) ≡ 11520) ⌝ }
     ensures { λ _. ⌜ Keeps (now (best .entry)) (now (kept .exit)) (allRead (now (v .entry)) from minute to) ⌝ }
     ensures { λ _. ⌜ length (now (kept .exit)) ≡ length (now (kept .entry)) ⌝ }
 {

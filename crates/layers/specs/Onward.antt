@@ -17,12 +17,10 @@ use Rattle.connections.specs.Rides.{Ride}
 use Rattle.connections.specs.Connections.{net, Boards, Change, changeAt, noStation}
 use Rattle.connections.specs.RideLaws.{changes-in}
 use Rattle.connections.specs.Sound.{sound, ride-cheap, change-priced}
-use Rattle.lookup.specs.Lookup.{callsPlace}
 use Rattle.checking.specs.Question10.{areTables}
 use Rattle.direct.specs.Candidates.{allRead}
 use Rattle.minutes.specs.Minutes.{noPoints}
 use Rattle.minutes.specs.Noted.{getD-any}
-use Rattle.direct.specs.Shown.{calls-inside}
 use Rattle.riding.specs.Ridden.{read-rides}
 use Rattle.layers.specs.Layering.{stepOf, takenAll, firstValue}
 use Rattle.layers.specs.Fitting.{Fitting}
@@ -75,9 +73,6 @@ module _ (w : List ℕ) (accepted : isTimetable w ≡ true) where
   module _ (v : List ℕ) (own : areTables w v ≡ true) (x : ℕ) (i : Listed w x) where
     inside : x ≤ length (t .stations)
     inside = omega (arith, i .inside, length-stations w)
-
-    pub calls-within : callsPlace v x ≤ length v
-    calls-within = calls-inside w v x x 0 accepted own (i .some) inside
 
     between : (y e : ℕ) → Between (net t) x y e (allRead v x e y)
     between y e =

@@ -6,7 +6,6 @@ ghost use Prim.Native.Nat.{_+_, _-_, _≤_, _<_, min, max};
 ghost use lib.ListN.{length, getD};
 ghost use Rattle.timetable.specs.Words.{timetableOf, isTimetable};
 ghost use Rattle.connections.specs.Connections.{net};
-ghost use Rattle.lookup.specs.Lookup.{callsPlace};
 ghost use Rattle.checking.specs.Question10.{areTables};
 ghost use Rattle.direct.specs.Candidates.{allRead};
 ghost use Rattle.minutes.specs.Minutes.{noPoints, blank, lowered};
@@ -168,7 +167,6 @@ fn note_rides(
     change: Cost,
     best: &mut [u32],
 ) -> Span
-    requires { ⌜ (1 ≤ from) × (from ≤ 64) × (callsPlace (now lines) from ≤ length (now lines)) ⌝ }
     requires { ⌜ (length (now p) ≡ 2880)
         × (length (now best) ≡ 2880)
         × Fitting (now p) (allRead (now lines) from earliest to)
@@ -188,7 +186,7 @@ fn note_rides(
     let mut c = riding::begin(lines, from, to, earliest);
     while c.more {
         noted = note_ride(p, riding::tell(lines, c), change, best, noted);
-        c = riding::next(lines, from, to, earliest, c);
+        c = riding::next(lines, earliest, c);
     }
     noted
 }
@@ -205,7 +203,6 @@ fn step(
     q: &mut [u32],
 ) -> usize
     requires { ⌜ (16384 ≤ length (now words)) × (isTimetable (now words) ≡ true) × Listed (now words) to ⌝ }
-    requires { ⌜ (1 ≤ from) × (from ≤ 64) × (callsPlace (now lines) from ≤ length (now lines)) ⌝ }
     requires { ⌜ (length (now p) ≡ 2880)
         × (length (now q) ≡ 2880)
         × Fitting (now p) (allRead (now lines) from earliest to) ⌝ }
@@ -230,7 +227,6 @@ fn finish(
     p: &[u32],
     best: &mut [u32],
 ) -> Span
-    requires { ⌜ (1 ≤ from) × (from ≤ 64) × (callsPlace (now lines) from ≤ length (now lines)) ⌝ }
     requires { ⌜ (length (now p) ≡ 2880)
         × (length (now best) ≡ 2880)
         × Fitting (now p) (allRead (now lines) from earliest to) ⌝ }
@@ -258,7 +254,6 @@ fn step_turned(
     q: &mut [u32],
 ) -> usize
     requires { ⌜ (16384 ≤ length (now words)) × (isTimetable (now words) ≡ true) × Listed (now words) to ⌝ }
-    requires { ⌜ (1 ≤ from) × (from ≤ 64) × (callsPlace (now lines) from ≤ length (now lines)) ⌝ }
     requires { ⌜ (length (now p) ≡ 2880)
         × (length (now q) ≡ 2880)
         × Fitting (held turned (now p) (now q)) (allRead (now lines) from earliest to) ⌝ }
@@ -288,7 +283,6 @@ fn finish_turned(
     q: &[u32],
     best: &mut [u32],
 ) -> Span
-    requires { ⌜ (1 ≤ from) × (from ≤ 64) × (callsPlace (now lines) from ≤ length (now lines)) ⌝ }
     requires { ⌜ (length (now p) ≡ 2880)
         × (length (now q) ≡ 2880)
         × (length (now best) ≡ 2880)

@@ -4,5 +4,4 @@ pub mod Worked
 pub mod Behind
 pub mod Ordered
 pub mod Once
-pub mod Calls
 pub mod DirectLaws

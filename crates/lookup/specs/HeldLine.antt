@@ -3,15 +3,16 @@
 use mathlib.Core.Path.{_≡_, refl, sym, ap, subst, _∙_}
 use mathlib.Core.Bool.{Bool, true, false, cond}
 use mathlib.Core.List.{List, [], _∷_, _++_, map}
-use Prim.Native.Nat.{ℕ, zero, suc, _+_, _*_, _<_}
+use Prim.Native.Nat.{ℕ, zero, suc, _+_, _*_, _%_, _<_}
+use native.Mathlib.Nat.{mul-left-comm, mod-add-div}
 use native.Mathlib.Omega.{arith}
 use lib.ListN.{length, getD, length-append, length-map}
-use Rattle.lists.specs.Lists.{range}
+use Rattle.lists.specs.Lists.{concatMap, range}
 use Rattle.timetable.specs.Timetable.{Trip}
 use Rattle.timetable.specs.Check.{length-range}
 use Rattle.connections.specs.Rides.{noStop}
 use Rattle.lines.specs.Lines.{course, stationOn}
-use Rattle.tables.specs.Tables.{stopOf, timeRow, lineTimes, courseWords, lineWords}
+use Rattle.tables.specs.Tables.{stopOf, timeRow, lineTimes, totalOn, positionWords, courseWords, lineWords}
 use Rattle.lookup.specs.Lookup.{
   Line,
   linePlace,
@@ -19,7 +20,8 @@ use Rattle.lookup.specs.Lookup.{
   numberAt,
   coursePlace,
   stationAt,
-  pointsAt,
+  lowAt,
+  totalAt,
   timesPlace,
   arriveAt,
   departAt,
@@ -37,27 +39,25 @@ use Rattle.lookup.specs.Places.{
   range-at,
 }
 
--- ---- the course
-length-courseWords : (c : Trip) → length (courseWords c) ≡ 2 * length c
-unfolding courseWords
-length-courseWords [] = refl
-length-courseWords (s ∷ c) = omega (arith, length-courseWords c)
+-- ---- the course: three words for each position
+module _ (c : Trip) where
+  abbrev position : (p : ℕ) → List ℕ
+  position p = positionWords ((getD c p noStop) .station) (totalOn c p)
 
-course-station : (c : Trip) (p : ℕ) → p < length c → getD (courseWords c) (2 * p) 0 ≡ (getD c p noStop) .station
-unfolding courseWords
-course-station [] p h = absurd (omega arith)
-course-station (s ∷ c) zero h = refl
-course-station (s ∷ c) (suc p) h =
-    let two : 2 * suc p ≡ suc (suc (2 * p)) = omega arith in
-    ap (λ k. getD (courseWords (s ∷ c)) k 0) two ∙ course-station c p (omega arith)
+  position-place : (p : ℕ) → p < length c → rowPlace position (range 0 (length c)) p ≡ 3 * p
+  position-place p h =
+      omega (
+        arith,
+        even-rows position 3 (λ q. refl) (range 0 (length c)) p (omega (arith, length-range 0 (length c))),
+      )
 
-course-points : (c : Trip) (p : ℕ) → p < length c → getD (courseWords c) (2 * p + 1) 0 ≡ (getD c p noStop) .points
-unfolding courseWords
-course-points [] p h = absurd (omega arith)
-course-points (s ∷ c) zero h = refl
-course-points (s ∷ c) (suc p) h =
-    let two : 2 * suc p + 1 ≡ suc (suc (2 * p + 1)) = omega arith in
-    ap (λ k. getD (courseWords (s ∷ c)) k 0) two ∙ course-points c p (omega arith)
+  length-courseWords : length (courseWords c) ≡ 3 * length c
+  unfolding courseWords
+  length-courseWords = many 0 (length c)
+    where
+      many : (k n : ℕ) → length (concatMap position (range k n)) ≡ 3 * n
+      many k zero = refl
+      many k (suc n) = omega (arith, many (suc k) n)
 
 -- ---- the times
 module _ (t : List Trip) where
@@ -119,7 +119,7 @@ module _ (v : List ℕ) (t : List Trip) (i : ℕ) (l : List ℕ) (s : Stands (li
       subst (Stands (courseWords (course t l)) v) course-at
       (right-stands (map suc l) (courseWords (course t l)) v (at + 2) numbers-and-course)
 
-  times-at : at + 2 + length (map suc l ++ courseWords (course t l)) ≡ coursePlace line + 2 * line .positions
+  times-at : at + 2 + length (map suc l ++ courseWords (course t l)) ≡ coursePlace line + 3 * line .positions
   times-at =
       omega (
         arith,
@@ -129,7 +129,7 @@ module _ (v : List ℕ) (t : List Trip) (i : ℕ) (l : List ℕ) (s : Stands (li
         positions-told,
       )
 
-  times-stand : Stands (lineTimes t l) v (coursePlace line + 2 * line .positions)
+  times-stand : Stands (lineTimes t l) v (coursePlace line + 3 * line .positions)
   times-stand =
       subst (Stands (lineTimes t l) v) times-at
       (right-stands (map suc l ++ courseWords (course t l)) (lineTimes t l) v (at + 2) behind-counts)
@@ -140,19 +140,34 @@ module _ (v : List ℕ) (t : List Trip) (i : ℕ) (l : List ℕ) (s : Stands (li
       word-at (map suc l) v (at + 2) numbers-stand j (omega (arith, length-map l suc)) ∙ map-at suc l j 0 h
 
   module _ (p : ℕ) (h : p < stops) where
+    -- the words of position p
+    position-stands : Stands (position (course t l) p) v (coursePlace line + 3 * p)
+    unfolding courseWords
+    position-stands =
+        let places = range 0 stops in
+        let inside : p < length places = omega (arith, length-range 0 stops) in
+        let this : getD places p 0 ≡ p = omega (arith, range-at 0 stops p h) in
+        let row = row-stands (position (course t l)) places v (coursePlace line) p 0 inside course-stands in
+        subst (λ q. Stands (position (course t l) q) v (coursePlace line + 3 * p)) this
+        (subst (λ n. Stands (position (course t l) (getD places p 0)) v (coursePlace line + n))
+        (position-place (course t l) p h) row)
+
     station-told : stationAt v line p ≡ stationOn t l p
     unfolding stationAt
     station-told =
-        word-at _ v (coursePlace line) course-stands (2 * p) (omega (arith, length-courseWords (course t l)))
-        ∙ course-station (course t l) p h
+        ap (λ k. getD v k 0) (omega arith)
+        ∙ word-at (position (course t l) p) v (coursePlace line + 3 * p) position-stands 0 (omega arith)
 
-    points-told : pointsAt v line p ≡ (getD (course t l) p noStop) .points
-    unfolding pointsAt
-    points-told =
-        let place : coursePlace line + 2 * p + 1 ≡ coursePlace line + (2 * p + 1) = omega arith in
-        ap (λ k. getD v k 0) place
-        ∙ word-at _ v (coursePlace line) course-stands (2 * p + 1) (omega (arith, length-courseWords (course t l)))
-        ∙ course-points (course t l) p h
+    low-told : lowAt v line p ≡ totalOn (course t l) p % 65536
+    unfolding lowAt
+    low-told = word-at (position (course t l) p) v (coursePlace line + 3 * p) position-stands 1 (omega arith)
+
+    -- low and high word make the total again
+    total-told : totalAt v line p ≡ totalOn (course t l) p
+    unfolding totalAt
+    total-told =
+        let high = word-at (position (course t l) p) v (coursePlace line + 3 * p) position-stands 2 (omega arith) in
+        (λ i. low-told i + 65536 * high i) ∙ mod-add-div (totalOn (course t l) p) 65536
 
     -- both rows of position p
     rows-stand : Stands (bothRows t l p) v (timesPlace line p)
@@ -161,10 +176,11 @@ module _ (v : List ℕ) (t : List Trip) (i : ℕ) (l : List ℕ) (s : Stands (li
         let places = range 0 stops in
         let inside : p < length places = omega (arith, length-range 0 stops) in
         let this : getD places p 0 ≡ p = omega (arith, range-at 0 stops p h) in
-        let start = coursePlace line + 2 * line .positions in
+        let start = coursePlace line + 3 * line .positions in
         let row = row-stands (bothRows t l) places v start p 0 inside times-stand in
         let many : rowPlace (bothRows t l) places p ≡ 2 * (p * line .trips) =
-        even-rows (bothRows t l) (length l) (length-bothRows t l) places p inside
+        even-rows (bothRows t l) (2 * length l) (length-bothRows t l) places p inside
+        ∙ mul-left-comm p 2 (length l)
         ∙ ap (λ n. 2 * (p * n)) (sym trips-told) in
         subst (λ q. Stands (bothRows t l q) v (timesPlace line p)) this
         (subst (λ n. Stands (bothRows t l (getD places p 0)) v (start + n)) many row)
@@ -197,7 +213,8 @@ module _ (v : List ℕ) (t : List Trip) (i : ℕ) (l : List ℕ) (s : Stands (li
         trips = trips-told;
         number = number-told;
         station = station-told;
-        points = points-told;
+        low = low-told;
+        total = total-told;
         arrive = (λ p j h g. arrive-told p h j g);
         depart = (λ p j h g. depart-told p h j g);
       }

@@ -25,7 +25,6 @@ use Rattle.lookup.specs.Told.{Told, Holds}
 use Rattle.lookup.specs.Places.{
   Stands,
   front-stands,
-  part-inside,
   word-at,
   part-slice,
   left-stands,
@@ -172,9 +171,6 @@ module _ (v : List ℕ) (n : ℕ) (t : List Trip) (holds : Holds v n t) where
           ap (λ x. length (callPairs t x)) call-station,
         )
 
-    calls-inside : callsPlace v (s + 1) ≤ length v
-    calls-inside = omega (arith, calls-end, part-inside (callPairs t (suc s)) v (callsPlace v s) calls-stand)
-
     calls-are : slice (callsPlace v s) (callsPlace v (s + 1)) v ≡ callPairs t (suc s)
     calls-are =
         ap (λ k. slice (callsPlace v s) k v) (sym calls-end)
@@ -188,6 +184,5 @@ holding v n t holds =
       line-count = head-word v n t holds 1 (omega arith);
       trip-count = head-word v n t holds 2 (omega arith);
       line = (λ i h. line-told v t i (getD (lines t) i []) (line-stands v n t holds i h));
-      calls-inside = calls-inside v n t holds;
       calls = calls-are v n t holds;
     }

@@ -1,6 +1,9 @@
 pub mod Lookup
 pub mod First
+pub mod Calls
 pub mod Told
 pub mod Places
 pub mod HeldLine
 pub mod Holding
+pub mod Rising
+pub mod Met

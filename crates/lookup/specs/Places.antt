@@ -90,9 +90,8 @@ module _ {A : Type 0} (f : A → List ℕ) where
   row-next (x ∷ y ∷ l) zero d h = omega arith
   row-next (x ∷ l) (suc i) d h = omega (arith, row-next l i d (omega arith))
 
-  -- rows of 2 * m words each
-  pub even-rows : (m : ℕ) → ((x : A) → length (f x) ≡ 2 * m) → (l : List A) (i : ℕ) → i < length l
-      → rowPlace l i ≡ 2 * (i * m)
+  -- rows of m words each
+  pub even-rows : (m : ℕ) → ((x : A) → length (f x) ≡ m) → (l : List A) (i : ℕ) → i < length l → rowPlace l i ≡ i * m
   unfolding rowPlace
   even-rows m even [] i h = absurd (omega arith)
   even-rows m even (x ∷ l) zero h = omega arith

@@ -2,19 +2,23 @@
 -- says. Callers go by these laws, never by the places of words.
 use mathlib.Core.Path.{_≡_}
 use mathlib.Core.List.{List, []}
-use Prim.Native.Nat.{ℕ, suc, _+_, _≤_, _<_}
+use Prim.Native.Nat.{ℕ, suc, _+_, _%_, _≤_, _<_}
+use native.Mathlib.Omega.{arith}
 use lib.ListN.{length, getD, take}
 use lib.Seq.{slice}
 use Rattle.timetable.specs.Timetable.{Trip}
-use Rattle.connections.specs.Rides.{noStop}
+use Rattle.connections.specs.Rides.{ridePoints}
+use Rattle.connections.specs.RideLaws.{points-split}
 use Rattle.lines.specs.Lines.{lines, course, stationOn}
-use Rattle.tables.specs.Tables.{stopOf, callPairs, tableWords}
+use Rattle.tables.specs.Tables.{stopOf, totalOn, callPairs, tableWords}
 use Rattle.lookup.specs.Lookup.{
   lineCount,
   lineAt,
   numberAt,
   stationAt,
-  pointsAt,
+  lowAt,
+  totalAt,
+  pointsBetween,
   arriveAt,
   departAt,
   callsPlace,
@@ -26,11 +30,25 @@ pub record LineTold (v : List ℕ) (t : List Trip) (i : ℕ) (l : List ℕ) : Ty
   pub trips : (lineAt v i) .trips ≡ length l
   pub number : (j : ℕ) → j < length l → numberAt v (lineAt v i) j ≡ suc (getD l j 0)
   pub station : (p : ℕ) → p < length (course t l) → stationAt v (lineAt v i) p ≡ stationOn t l p
-  pub points : (p : ℕ) → p < length (course t l) → pointsAt v (lineAt v i) p ≡ (getD (course t l) p noStop) .points
+  pub low : (p : ℕ) → p < length (course t l) → lowAt v (lineAt v i) p ≡ totalOn (course t l) p % 65536
+  pub total : (p : ℕ) → p < length (course t l) → totalAt v (lineAt v i) p ≡ totalOn (course t l) p
   pub arrive : (p j : ℕ) → p < length (course t l) → j < length l
       → arriveAt v (lineAt v i) p j ≡ (stopOf t (getD l j 0) p) .arrive
   pub depart : (p j : ℕ) → p < length (course t l) → j < length l
       → departAt v (lineAt v i) p j ≡ (stopOf t (getD l j 0) p) .depart
+
+-- Document 02, Three: "The sum is to be shown equal to the old one, taken ride by ride, for every pair of stops": of
+-- any line, the difference of two totals is the sum of the single penalties between them
+pub ride-difference : (v : List ℕ) (t : List Trip) (i : ℕ) (l : List ℕ) → LineTold v t i l
+    → (x y : ℕ) → x ≤ y → y < length (course t l)
+    → pointsBetween v (lineAt v i) x y ≡ ridePoints (course t l) x y
+ride-difference v t i l told x y h g =
+    omega (
+      arith,
+      told .total x (omega arith),
+      told .total y g,
+      points-split (course t l) 0 x y (omega arith) h,
+    )
 
 -- the line tables of trips t, with n stations
 pub record Told (v : List ℕ) (n : ℕ) (t : List Trip) : Type 0 where
@@ -38,7 +56,6 @@ pub record Told (v : List ℕ) (n : ℕ) (t : List Trip) : Type 0 where
   pub line-count : lineCount v ≡ length (lines t)
   pub trip-count : getD v 2 0 ≡ length t
   pub line : (i : ℕ) → i < length (lines t) → LineTold v t i (getD (lines t) i [])
-  pub calls-inside : (s : ℕ) → s < n → callsPlace v (s + 1) ≤ length v
   pub calls : (s : ℕ) → s < n → slice (callsPlace v s) (callsPlace v (s + 1)) v ≡ callPairs t (suc s)
 
 -- the words begin with those of the line tables: "no question judges the words past a table"

@@ -1,66 +1,63 @@
 -- The rides from one station to another, one after the other, as line tables tell them: a cursor stands at one of them,
--- and what is left is that ride and those behind it.
+-- and what is left is that ride and those after it.
 use mathlib.Core.Path.{_≡_, ap}
 use mathlib.Core.Bool.{true, false, cond}
 use mathlib.Core.List.{List, [], _∷_, _++_}
-use Prim.Native.Nat.{ℕ, _+_, _-_, _*_, _≤_, _<_}
+use Prim.Native.Nat.{ℕ, _+_, _≤_, _<_}
 use native.Mathlib.Omega.{arith}
 use lib.ListN.{length}
-use lib.Seq.{slice}
 use Rattle.lists.specs.Lists.{concatMap}
 use Rattle.connections.specs.Rides.{Ride}
-use Rattle.lookup.specs.Lookup.{Line, callsPlace}
-use Rattle.direct.specs.Candidates.{Reach, reachFrom, pairsOf, rideOn}
+use Rattle.lookup.specs.Calls.{Piece, Boarding, callsIn, Inside, Within}
+use Rattle.direct.specs.Candidates.{Reach, reachOf, rideOn}
 use Rattle.direct.specs.Turns.{tripsFrom, allCalls}
 use Rattle.riding.specs.declared.Ride.{Ride as RideStruct}
 use Rattle.riding.specs.declared.Place.{Place}
 use Rattle.riding.specs.declared.Cursor.{Cursor}
 
--- the places of station b behind place p of a line, points being the penalty of the ride to place p
-unfoldable pub rest : List ℕ → Line → (b p points : ℕ) → List Reach
-rest v l b p points = reachFrom v l b p (l .positions - (p + 1)) points
+-- the places to alight at, from the call at index k on
+unfoldable pub rest : List ℕ → (g : Boarding) (k : ℕ) → List Reach
+rest v g k = reachOf v (g .line) (g .call) (callsIn v (record { from = k; end = g .rest .end }))
 
--- a place found, and those behind it
-unfoldable pub restAt : List ℕ → Line → (b : ℕ) → Place → List Reach
-restAt v l b s =
-    cond (s .found)
-    (record { place = s .place; points = s .points .0 } ∷ rest v l b (s .place) (s .points .0))
-    []
+-- the place at which one alights, and the penalty of the ride to it
+abbrev pub reachAt : Place → Reach
+reachAt s = record { place = s .place; points = s .points .0 }
 
--- the rides from the calls of station a that stand at index k or behind it
-unfoldable pub callsFrom : List ℕ → (a b u k : ℕ) → List Ride
-callsFrom v a b u k = allCalls v u b (pairsOf (slice k (callsPlace v a) v))
+-- a place found, and those after it
+unfoldable pub restAt : List ℕ → (g : Boarding) → Place → List Reach
+restAt v g s = cond (s .found) (reachAt s ∷ rest v g (s .next)) []
 
--- the place alighted at, and the penalty of the ride to it
-abbrev pub alightOf : Cursor → Reach
-alightOf c = record { place = c .p; points = c .points .0 }
+-- the rides from the calls in one piece to those in another
+unfoldable pub callsFrom : List ℕ → (u : ℕ) (calls others : Piece) → List Ride
+callsFrom v u calls others = allCalls v u (callsIn v calls) (callsIn v others)
+
+-- the rides on the trips from place j on, from where one boards to a place
+abbrev pub tripsOf : List ℕ → Boarding → (j : ℕ) → Reach → List Ride
+tripsOf v g j r = tripsFrom v (g .line) (g .call .place) j r
 
 -- the ride at which a cursor stands
 unfoldable pub rideOf : List ℕ → Cursor → Ride
-rideOf v c = rideOn v (c .line) (c .x) (c .j) (alightOf c)
+rideOf v c = rideOn v (c .boarding .line) (c .boarding .call .place) (c .j) (reachAt (c .to))
 
 -- the rides from the one at which a cursor stands on: on the trips left to its place, on all trips in time to the
 -- places left of its line, and from the calls left
-unfoldable pub left : List ℕ → (a b u : ℕ) → Cursor → List Ride
-left v a b u c =
+unfoldable pub left : List ℕ → (u : ℕ) → Cursor → List Ride
+left v u c =
     cond (c .more)
-    (tripsFrom v (c .line) (c .x) (c .j) (alightOf c)
-    ++ (concatMap (tripsFrom v (c .line) (c .x) (c .first)) (rest v (c .line) b (c .p) (c .points .0))
-    ++ callsFrom v a b u (c .call)))
+    (tripsOf v (c .boarding) (c .j) (reachAt (c .to))
+    ++ (concatMap (tripsOf v (c .boarding) (c .first)) (rest v (c .boarding) (c .to .next))
+    ++ callsFrom v u (c .calls) (c .boarding .rest)))
     []
 
 -- what is known of a cursor: how large its numbers get, and that it stands at a trip
-pub record Good (c : Cursor) : Type 0 where
-  pub call-few : c .call ≤ 65536
-  pub at-few : c .line .at < 65536
-  pub positions-few : c .line .positions < 65536
-  pub trips-few : c .line .trips < 65536
-  pub x-few : c .x < 65536
-  pub p-few : c .p < 65536
+pub record Good (v : List ℕ) (c : Cursor) : Type 0 where
+  pub calls-inside : Inside v (c .calls)
+  pub within : Within v (c .boarding)
+  pub place-few : c .to .place < 65536
+  pub next-few : c .to .next ≤ 65536
   pub j-few : c .j < 65536
-  pub points-few : c .points .0 ≤ 65535 * c .p
   pub first-before : c .first ≤ c .j
-  pub at-trip : c .more ≡ true → c .j < c .line .trips
+  pub at-trip : c .more ≡ true → c .j < c .boarding .line .trips
 
 -- a ride as the code tells it, and how large its numbers get
 pub record Tells (s : RideStruct) (r : Ride) : Type 0 where
@@ -77,11 +74,11 @@ pub record Tells (s : RideStruct) (r : Ride) : Type 0 where
   pub arrive-few : s .arrive < 65536
 
 -- where no ride is left
-pub left-none : (v : List ℕ) (a b u : ℕ) (c : Cursor) → c .more ≡ false → left v a b u c ≡ []
+pub left-none : (v : List ℕ) (u : ℕ) (c : Cursor) → c .more ≡ false → left v u c ≡ []
 unfolding left
-left-none v a b u c e = rw e
+left-none v u c e = rw e
 
--- behind a ride, one less is left
-pub left-falls : (v : List ℕ) (a b u : ℕ) (c d : Cursor) → left v a b u c ≡ rideOf v c ∷ left v a b u d
-    → length (left v a b u d) < length (left v a b u c)
-left-falls v a b u c d e = omega (arith, ap length e)
+-- after a ride, one less is left
+pub left-falls : (v : List ℕ) (u : ℕ) (c d : Cursor) → left v u c ≡ rideOf v c ∷ left v u d
+    → length (left v u d) < length (left v u c)
+left-falls v u c d e = omega (arith, ap length e)

@@ -1,15 +1,18 @@
 // The rides from one station to another that leave at a minute or later, one after the other, from line tables; and
 // what a change between two rides takes and costs.
 ghost use mathlib.Core.Path.{_≡_};
-ghost use mathlib.Core.Bool.{true};
+ghost use mathlib.Core.Bool.{true, false};
 ghost use mathlib.Core.List.{_∷_};
-ghost use Prim.Native.Nat.{_-_, _*_, _≤_, _<_};
+ghost use Prim.Native.Nat.{_-_, _≤_, _<_};
 ghost use lib.ListN.{length};
 ghost use Rattle.timetable.specs.Words.{stationAt};
-ghost use Rattle.lookup.specs.Lookup.{callsPlace};
+ghost use Rattle.lookup.specs.Calls.{Inside, Within};
 ghost use Rattle.direct.specs.Candidates.{allRead};
 ghost use Rattle.riding.specs.Riding.{Good, Tells, left, rideOf, callsFrom, rest, restAt};
+use lookup::Boarding;
+use lookup::Call;
 use lookup::Line;
+use lookup::Piece;
 use results::Cost;
 use results::Minutes;
 use results::Points;
@@ -24,169 +27,165 @@ pub struct Ride {
     pub points: Points,
 }
 
-// A place of a line and the penalty of the ride to it, if one was found.
+// A place to alight at and the penalty of the ride to it, if one was found, and the index of the call after it.
 pub struct Place {
     pub found: bool,
     pub place: usize,
     pub points: Points,
+    pub next: usize,
 }
 
-// Where one stands in the rides: the index of the next call of the station boarded at; the line, the place boarded at
-// and the first trip that leaves it in time; the place alighted at and the penalty of the ride to it; the trip.
+// Where one stands in the rides: the calls that are left to board at; the call boarded at, with those that were left to
+// alight at; the first trip that leaves in time; the place alighted at, and the trip.
 pub struct Cursor {
     pub more: bool,
-    pub call: usize,
-    pub line: Line,
-    pub x: usize,
+    pub calls: Piece,
+    pub boarding: Boarding,
     pub first: usize,
-    pub p: usize,
-    pub points: Points,
+    pub to: Place,
     pub j: usize,
 }
 
-// The next place of the station after place from of a line; points is the penalty of the ride to place from.
-fn seek_place(v: &[u16], l: Line, to: usize, from: usize, points: Points) -> Place
-    requires { ⌜ (l .at < 65536)
-        × (l .positions < 65536)
-        × (l .trips < 65536)
-        × (from < 65536)
-        × (points .0 ≤ 65535 * from) ⌝ }
-    ensures { λ r. ⌜ rest (now (v .entry)) l to from (points .0) ≡ restAt (now (v .entry)) l to r ⌝ }
-    ensures { λ r. ⌜ (r .place < 65536) × (r .points .0 ≤ 65535 * r .place) ⌝ }
+// No place.
+fn nowhere() -> Place
+    ensures { λ r. ⌜ (r .found ≡ false) × (r .place < 65536) × (r .next ≤ 65536) ⌝ }
 {
-    let mut sum = points;
-    let mut p = from;
-    while p + 1 < l.positions {
-        sum = minutes::sum(sum, direct::ride_points(v, l, p));
-        p += 1;
-        if lookup::station_at(v, l, p) == to {
-            return Place {
-                found: true,
-                place: p,
-                points: sum,
-            };
-        }
-    }
     Place {
         found: false,
-        place: p,
-        points: sum,
+        place: 0,
+        points: Points(0),
+        next: 0,
     }
 }
 
-// The first ride from the calls of station from that stand at index call or after it. Few calls lead to the station
-// sought, so a trip is looked for only where there is a place to alight at.
-fn seek_call(v: &[u16], from: usize, to: usize, minute: usize, call: usize) -> Cursor
-    requires { ⌜ (1 ≤ from) × (from ≤ 64) × (callsPlace (now v) from ≤ length (now v)) × (call ≤ 65536) ⌝ }
-    ensures { λ r. ⌜ (left (now (v .entry)) from to minute r ≡ callsFrom (now (v .entry)) from to minute call)
-        × Good r ⌝ }
+// The place of the call at index k, if it is one of the line that is boarded.
+fn seek_place(v: &[u16], g: Boarding, k: usize) -> Place
+    requires { ⌜ Within (now v) g × (k ≤ 65536) ⌝ }
+    ensures { λ r. ⌜ (rest (now (v .entry)) g k ≡ restAt (now (v .entry)) g r)
+        × (r .place < 65536)
+        × (r .next ≤ 65536) ⌝ }
 {
-    let end = lookup::calls_place(v, from);
-    let mut k = call;
+    if g.rest.end <= k + 1 {
+        return nowhere();
+    }
+    let d = lookup::call_at(v, k);
+    if d.line != g.call.line {
+        return nowhere();
+    }
+    Place {
+        found: true,
+        place: d.place,
+        points: direct::ride_points(v, g.line, g.call.place, d.place),
+        next: k + 2,
+    }
+}
+
+// The first ride from some calls to some others. Few calls lead to the station sought, so a trip is looked for only
+// where there is a place to alight at.
+fn seek_call(v: &[u16], minute: usize, calls: Piece, others: Piece) -> Cursor
+    requires { ⌜ Inside (now v) calls × Inside (now v) others ⌝ }
+    ensures { λ r. ⌜ (left (now (v .entry)) minute r ≡ callsFrom (now (v .entry)) minute calls others)
+        × Good (now (v .entry)) r ⌝ }
+{
+    let end = calls.end;
+    let mut k = calls.from;
+    let mut rest = others;
     while k + 1 < end {
-        let l = lookup::call_line(v, k);
-        let x = lookup::call_place(v, k);
+        let g = lookup::boarding_at(v, k, rest);
+        rest = g.rest;
         k += 2;
-        let s = seek_place(v, l, to, x, Points(0));
-        if !s.found {
+        let to = seek_place(v, g, g.rest.from);
+        if !to.found {
             continue;
         }
-        let first = lookup::first_trip(v, l, x, minute);
-        if first < l.trips {
-            let points = s.points;
+        let first = lookup::first_trip(v, g.line, g.call.place, minute);
+        if first < g.line.trips {
             return Cursor {
                 more: true,
-                call: k,
-                line: l,
-                x,
+                calls: Piece { from: k, end },
+                boarding: g,
                 first,
-                p: s.place,
-                points,
+                to,
                 j: first,
             };
         }
     }
     Cursor {
         more: false,
-        call: k,
-        line: Line {
-            at: 0,
-            positions: 0,
-            trips: 0,
+        calls: Piece { from: k, end },
+        boarding: Boarding {
+            call: Call { line: 0, place: 0 },
+            line: Line {
+                at: 0,
+                positions: 0,
+                trips: 0,
+            },
+            rest,
         },
-        x: 0,
         first: 0,
-        p: 0,
-        points: Points(0),
+        to: nowhere(),
         j: 0,
     }
 }
 
-// The first ride.
+// The first ride from one station to another.
 pub fn begin(v: &[u16], from: usize, to: usize, minute: usize) -> Cursor
-    requires { ⌜ (1 ≤ from) × (from ≤ 64) × (callsPlace (now v) from ≤ length (now v)) ⌝ }
-    ensures { λ r. ⌜ (left (now (v .entry)) from to minute r ≡ allRead (now (v .entry)) from minute to) × Good r ⌝ }
+    ensures { λ r. ⌜ (left (now (v .entry)) minute r ≡ allRead (now (v .entry)) from minute to)
+        × Good (now (v .entry)) r ⌝ }
 {
-    seek_call(v, from, to, minute, lookup::calls_place(v, from - 1))
+    seek_call(v, minute, lookup::list_of(v, from), lookup::list_of(v, to))
 }
 
 // The ride after the one at which c stands: on the next trip of the line; else to the next place of the station, with
 // the first trip again; else from the next call.
-pub fn next(v: &[u16], from: usize, to: usize, minute: usize, c: Cursor) -> Cursor
-    requires { ⌜ (1 ≤ from)
-        × (from ≤ 64)
-        × (callsPlace (now v) from ≤ length (now v))
-        × Good c
-        × (c .more ≡ true) ⌝ }
-    ensures { λ r. ⌜ (left (now (v .entry)) from to minute c
-        ≡ rideOf (now (v .entry)) c ∷ left (now (v .entry)) from to minute r)
-        × Good r ⌝ }
+pub fn next(v: &[u16], minute: usize, c: Cursor) -> Cursor
+    requires { ⌜ Good (now v) c × (c .more ≡ true) ⌝ }
+    ensures { λ r. ⌜ (left (now (v .entry)) minute c ≡ rideOf (now (v .entry)) c ∷ left (now (v .entry)) minute r)
+        × Good (now (v .entry)) r ⌝ }
 {
-    let l = c.line;
-    let points = c.points;
-    if c.j + 1 < l.trips {
+    let g = c.boarding;
+    let calls = c.calls;
+    let here = c.to;
+    if c.j + 1 < g.line.trips {
         return Cursor {
             more: true,
-            call: c.call,
-            line: l,
-            x: c.x,
+            calls,
+            boarding: g,
             first: c.first,
-            p: c.p,
-            points,
+            to: here,
             j: c.j + 1,
         };
     }
-    let s = seek_place(v, l, to, c.p, points);
-    if s.found {
-        let further = s.points;
+    let to = seek_place(v, g, here.next);
+    if to.found {
         return Cursor {
             more: true,
-            call: c.call,
-            line: l,
-            x: c.x,
+            calls,
+            boarding: g,
             first: c.first,
-            p: s.place,
-            points: further,
+            to,
             j: c.first,
         };
     }
-    seek_call(v, from, to, minute, c.call)
+    seek_call(v, minute, calls, g.rest)
 }
 
 // The ride at which c stands.
 pub fn tell(v: &[u16], c: Cursor) -> Ride
-    requires { ⌜ Good c ⌝ }
+    requires { ⌜ Good (now v) c ⌝ }
     ensures { λ r. ⌜ Tells r (rideOf (now (v .entry)) c) ⌝ }
 {
-    let l = c.line;
-    let points = c.points;
+    let l = c.boarding.line;
+    let x = c.boarding.call.place;
+    let p = c.to.place;
+    let points = c.to.points;
     let trip = lookup::number_at(v, l, c.j);
-    let depart = lookup::depart_at(v, l, c.x, c.j);
-    let arrive = lookup::arrive_at(v, l, c.p, c.j);
+    let depart = lookup::depart_at(v, l, x, c.j);
+    let arrive = lookup::arrive_at(v, l, p, c.j);
     Ride {
         trip,
-        board: c.x + 1,
-        alight: c.p + 1,
+        board: x + 1,
+        alight: p + 1,
         depart,
         arrive,
         points,

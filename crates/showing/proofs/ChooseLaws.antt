@@ -81,21 +81,21 @@ module _ (lines : List ℕ) (from to ready : ℕ) (first : Bool) (z : List ℕ) 
   abbrev whole : RideStruct
   whole = triedAll first z p (tellsOf noRide) (allRead lines from ready to)
 
-  pub choose-begins : (c : Cursor) → left lines from to ready c ≡ allRead lines from ready to
-      → whole ≡ triedAll first z p (tellsOf noRide) (left lines from to ready c)
+  pub choose-begins : (c : Cursor) → left lines ready c ≡ allRead lines from ready to
+      → whole ≡ triedAll first z p (tellsOf noRide) (left lines ready c)
   choose-begins c e = ap (triedAll first z p (tellsOf noRide)) (sym e)
 
   -- the choice, once the rides left are tried too
   abbrev with : RideStruct → Cursor → RideStruct
-  with best c = triedAll first z p best (left lines from to ready c)
+  with best c = triedAll first z p best (left lines ready c)
 
   module _ (best : RideStruct) (c : Cursor) (so-far : whole ≡ with best c) where
     pub choose-more : (d : Cursor) (s new : RideStruct) → Tells s (rideOf lines c) → new ≡ tried first z p best s
-        → left lines from to ready c ≡ rideOf lines c ∷ left lines from to ready d
-        → whole ≡ triedAll first z p new (left lines from to ready d)
+        → left lines ready c ≡ rideOf lines c ∷ left lines ready d
+        → whole ≡ triedAll first z p new (left lines ready d)
     unfolding triedAll
     choose-more d s new t n e =
-        let rest = left lines from to ready d in
+        let rest = left lines ready d in
         let told = tells-is s (rideOf lines c) t in
         so-far
         ∙ ap (triedAll first z p best) e
@@ -107,4 +107,4 @@ module _ (lines : List ℕ) (from to ready : ℕ) (first : Bool) (z : List ℕ) 
         sym
         (sym (tried-all first z p (allRead lines from ready to))
         ∙ so-far
-        ∙ ap (triedAll first z p best) (left-none lines from to ready c e))
+        ∙ ap (triedAll first z p best) (left-none lines ready c e))

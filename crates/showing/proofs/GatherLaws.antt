@@ -5,7 +5,6 @@ use mathlib.Core.List.{List, _∷_}
 use Prim.Native.Nat.{ℕ, _+_, _-_, _≤_}
 use lib.ListN.{length, getD}
 use Rattle.timetable.specs.Words.{stationAt}
-use Rattle.lookup.specs.Lookup.{callsPlace}
 use Rattle.direct.specs.Candidates.{allRead}
 use Rattle.minutes.specs.Minutes.{noPoints, noteAll, blank}
 use Rattle.riding.specs.declared.Ride.{Ride as RideStruct}
@@ -18,23 +17,23 @@ use Rattle.showing.specs.Turns.{tells-is, gatherBack, stepBack, caughtBy
 module _ (lines : List ℕ) (from to minute cm cp : ℕ) (old first : List ℕ) where
   -- what is noted once the rides left are noted too
   abbrev noted : List ℕ → Cursor → List ℕ
-  noted z c = noteAll z (catches cm cp old (left lines from to minute c))
+  noted z c = noteAll z (catches cm cp old (left lines minute c))
 
   abbrev whole : List ℕ
   whole = noteAll first (catches cm cp old (allRead lines from minute to))
 
-  pub gather-begins : (c : Cursor) → left lines from to minute c ≡ allRead lines from minute to → whole ≡ noted first c
+  pub gather-begins : (c : Cursor) → left lines minute c ≡ allRead lines from minute to → whole ≡ noted first c
   gather-begins c e = ap (λ l. noteAll first (catches cm cp old l)) (sym e)
 
   module _ (z : List ℕ) (c : Cursor) (so-far : whole ≡ noted z c) where
     pub gather-more : (d : Cursor) (s : RideStruct) (new : List ℕ) → Tells s (rideOf lines c)
-        → new ≡ caughtBy cm cp old z s → left lines from to minute c ≡ rideOf lines c ∷ left lines from to minute d
+        → new ≡ caughtBy cm cp old z s → left lines minute c ≡ rideOf lines c ∷ left lines minute d
         → whole ≡ noted new d
     gather-more d s new t n e =
-        let rest = catches cm cp old (left lines from to minute d) in
+        let rest = catches cm cp old (left lines minute d) in
         so-far
         ∙ ap (λ l. noteAll z (catches cm cp old l)) e
-        ∙ catches-more cm cp old z (rideOf lines c) (left lines from to minute d)
+        ∙ catches-more cm cp old z (rideOf lines c) (left lines minute d)
         ∙ ap (λ s. noteAll (caughtBy cm cp old z s) rest) (sym (tells-is s (rideOf lines c) t))
         ∙ ap (λ z. noteAll z rest) (sym n)
 
@@ -42,13 +41,10 @@ module _ (lines : List ℕ) (from to minute cm cp : ℕ) (old first : List ℕ) 
     gather-done e =
         sym
         (so-far
-        ∙ ap (λ l. noteAll z (catches cm cp old l)) (left-none lines from to minute c e)
+        ∙ ap (λ l. noteAll z (catches cm cp old l)) (left-none lines minute c e)
         ∙ catches-none cm cp old z)
 
 -- ---- one station back
-pub calls-same : (lines : List ℕ) (x from : ℕ) → from ≡ x → callsPlace lines x ≤ length lines
-    → callsPlace lines from ≤ length lines
-calls-same lines x from e h = subst (λ k. callsPlace lines k ≤ length lines) (sym e) h
 
 module _ (w lines path : List ℕ) (minute j : ℕ) (old z full : List ℕ) (from to cm cp ready : ℕ) where
   pub gathered : from ≡ getD path (j - 1) 0 → to ≡ getD path j 0 → cm ≡ stationAt w (from - 1) .minutes

@@ -17,9 +17,7 @@ use Rattle.connections.specs.Rides.{Ride}
 use Rattle.connections.specs.RideLaws.{changes-in}
 use Rattle.connections.specs.Connections.{Change, Net, net, noStation, changeAt}
 use Rattle.checking.specs.Question10.{areTables}
-use Rattle.lookup.specs.Lookup.{callsPlace}
 use Rattle.direct.specs.Candidates.{allRead}
-use Rattle.direct.specs.Shown.{calls-inside}
 use Rattle.minutes.specs.Minutes.{blank}
 use Rattle.riding.specs.Ridden.{read-rides, read-bounds}
 use Rattle.showing.specs.Rests.{Rests, RestsAt}
@@ -40,9 +38,6 @@ module _ (w : List ℕ) (accepted : isTimetable w ≡ true) where
 
     pub station-inside : x ≤ length ((timetableOf w) .stations)
     station-inside = omega (arith, length-stations w)
-
-    pub station-calls : (lines : List ℕ) → areTables w lines ≡ true → callsPlace lines x ≤ length lines
-    station-calls lines own = calls-inside w lines x 0 0 accepted own first station-inside
 
     -- the change at it
     pub record ChangeThere : Type 0 where
@@ -77,9 +72,6 @@ module _ (w lines path : List ℕ) (j v : ℕ) (given : Given w lines path (j + 
 
   pub back-few : getD path (j - 1) 0 ≤ 64
   back-few = station-few w (given .accepted) back back-first back-most
-
-  pub back-calls : callsPlace lines (getD path (j - 1) 0) ≤ length lines
-  back-calls = station-calls w (given .accepted) back back-first back-most lines (given .own)
 
   -- nothing is noted outside the window
   pub gathered-spans : (minute : ℕ) (z copy empty full : List ℕ) → minute ≤ v → Spans minute v z

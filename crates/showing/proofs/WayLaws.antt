@@ -17,7 +17,6 @@ use Rattle.connections.specs.Connections.{Change, net, Connection, Boards, read
 use Rattle.lists.specs.Lists.{_∈_}
 use Rattle.connections.specs.Sound.{sound}
 use Rattle.connections.specs.Feasibility.{takes-time}
-use Rattle.lookup.specs.Lookup.{callsPlace}
 use Rattle.direct.specs.Candidates.{allRead}
 use Rattle.reckoning.specs.Greedy.{rideNumbers}
 use Rattle.riding.specs.declared.Ride.{Ride as RideStruct}
@@ -31,7 +30,7 @@ use Rattle.showing.specs.Going.{Left, Going, goes, begins}
 use Rattle.showing.specs.Turns.{tellsOf}
 use Rattle.showing.specs.OnTheWay.{Standing, Taken, Nothing, Headed, Under, Moved}
 use Rattle.showing.specs.OnTheWay.{Stopped, Gone, Rode}
-use Rattle.showing.proofs.PatternLaws.{is-valid, station-few, station-calls, station-inside}
+use Rattle.showing.proofs.PatternLaws.{is-valid, station-few, station-inside}
 use Rattle.showing.proofs.PatternLaws.{ChangeThere, change-there}
 
 true-false : true ≡ false → ⊥
@@ -91,13 +90,6 @@ module _ (w lines path : List ℕ) (r v : ℕ) (given : Given w lines path r v) 
   on i h = slice-cons i r path 0 h (given .long) ∙ ap (λ k. getD path i 0 ∷ slice k r path) (sym (add-one i))
 
   -- ---- the ride to take
-  module _ (minute : ℕ) (at : At) (stands : Standing w minute at) where
-    pub stand-few : at .from ≤ 64
-    stand-few = station-few w accepted (at .from) (stands .least) (stands .most)
-
-    pub stand-calls : callsPlace lines (at .from) ≤ length lines
-    stand-calls = station-calls w accepted (at .from) (stands .least) (stands .most) lines (given .own)
-
   pub head-taken : (minute i to : ℕ) (at : At) (first : Bool) (z : List ℕ) (s : RideStruct) → i < r
       → Standing w minute at
       → RestsAt w path r v minute i z

@@ -5,7 +5,6 @@
 ghost use mathlib.Core.Path.{_≡_};
 ghost use Prim.Native.Nat.{_+_, _-_, _≤_, _<_};
 ghost use lib.ListN.{length, getD};
-ghost use Rattle.lookup.specs.Lookup.{callsPlace};
 ghost use Rattle.direct.specs.Candidates.{allRead};
 ghost use Rattle.minutes.specs.Minutes.{noPoints, noteAll, blank, lowered};
 ghost use Rattle.showing.specs.Showing.{Given};
@@ -82,7 +81,6 @@ fn gather(
     old: &[u32],
     z: &mut [u32],
 )
-    requires { ⌜ (1 ≤ from) × (from ≤ 64) × (callsPlace (now lines) from ≤ length (now lines)) ⌝ }
     ensures { λ _. ⌜ now (z .exit)
         ≡ noteAll (now (z .entry))
         (catches (change .minutes .0) (change .points .0) (now (old .entry))
@@ -93,7 +91,7 @@ fn gather(
     while c.more {
         let ride = riding::tell(lines, c);
         catch_ride(z, old, ride, change);
-        c = riding::next(lines, from, to, minute, c);
+        c = riding::next(lines, minute, c);
     }
 }
 
@@ -159,8 +157,7 @@ fn gather_back(
         × (1 ≤ j)
         × (j < length (now path))
         × (1 ≤ getD (now path) (j - 1) 0)
-        × (getD (now path) (j - 1) 0 ≤ 64)
-        × (callsPlace (now lines) (getD (now path) (j - 1) 0) ≤ length (now lines)) ⌝ }
+        × (getD (now path) (j - 1) 0 ≤ 64) ⌝ }
     ensures { λ _. ⌜ now (z .exit)
         ≡ gatherBack (now (words .entry)) (now (lines .entry)) minute (now (path .entry)) j (now (old .entry))
         (now (z .entry)) ⌝ }

@@ -5,7 +5,6 @@ ghost use mathlib.Core.List.{[], _∷_};
 ghost use Prim.Native.Nat.{_+_, _-_, _*_, _≤_, _<_};
 ghost use lib.ListN.{length, getD};
 ghost use Rattle.words.specs.Put.{put};
-ghost use Rattle.lookup.specs.Lookup.{callsPlace};
 ghost use Rattle.direct.specs.Candidates.{allRead};
 ghost use Rattle.showing.specs.Showing.{Given};
 ghost use Rattle.showing.specs.Spans.{Spans};
@@ -111,7 +110,6 @@ fn choose(
     left: Points,
     z: &[u32],
 ) -> Ride
-    requires { ⌜ (1 ≤ from) × (from ≤ 64) × (callsPlace (now lines) from ≤ length (now lines)) ⌝ }
     ensures { λ r. ⌜ (r
         ≡ tellsOf (headOf first (now (z .entry)) (left .0) (allRead (now (lines .entry)) from ready to)))
         × Sized r ⌝ }
@@ -128,7 +126,7 @@ fn choose(
     while c.more {
         let ride = riding::tell(lines, c);
         best = try_ride(first, z, left, best, ride);
-        c = riding::next(lines, from, to, ready, c);
+        c = riding::next(lines, ready, c);
     }
     best
 }

@@ -119,7 +119,7 @@ pub numbers-long : (line : List ℕ) → length (numbersAt line) ≡ length line
 unfolding numbersAt
 numbers-long line = length-map line suc
 
-pub course-long : (w : List ℕ) (z k n : ℕ) → length (courseAt w z k n) ≡ 2 * n
+pub course-long : (w : List ℕ) (z k n : ℕ) → length (courseAt w z k n) ≡ 3 * n
 unfolding courseAt
 course-long w z k zero = refl
 course-long w z k (suc n) = omega (arith, course-long w z (suc k) n)
@@ -152,7 +152,7 @@ first-stops w [] h = absurd (omega arith)
 first-stops w (z ∷ line) h = omega arith
 
 block-most : (w line : List ℕ) → LineOf w line
-    → length (blockAt w line) ≤ 2 + length line + 4 * sumOf (callsOf w) line
+    → length (blockAt w line) ≤ 2 + length line + 5 * sumOf (callsOf w) line
 unfolding blockAt
 block-most w line is =
     let z = headOf line in
@@ -184,7 +184,7 @@ lines-most w (l ∷ ls) all =
 
 blocks-most : (w : List ℕ) (i : ℕ) (ls : List (List ℕ)) → AllLines w ls
     → length (sections (λ j l. blockAt w l) i ls)
-    ≤ 2 * length ls + length (onLines ls) + 4 * sumOf (callsOf w) (onLines ls)
+    ≤ 2 * length ls + length (onLines ls) + 5 * sumOf (callsOf w) (onLines ls)
 unfolding sections
 blocks-most w i [] all = omega arith
 blocks-most w i (l ∷ ls) all =
@@ -287,8 +287,8 @@ module _ (w : List ℕ) (yes : isTimetable w ≡ true) where
   lines-few =
       omega (arith, lines-most w (linesAt w) (all-lines w yes), trips-once w yes, trips-few w yes)
 
-  -- four words, three more for each line, one for each trip and four for each stop stand before the lists of stations
-  pub index-few : indexAt w ≤ 9220
+  -- four words, three more for each line, one for each trip and five for each stop stand before the lists of stations
+  pub index-few : indexAt w ≤ 11268
   index-few =
       omega (
         arith,
@@ -310,7 +310,7 @@ module _ (w : List ℕ) (yes : isTimetable w ≡ true) where
         stops-few w yes,
       )
 
-  pub table-most : length (tableAt w) ≤ 13381
+  pub table-most : length (tableAt w) ≤ 15429
   table-most = omega (arith, table-long w, index-few, pairs-few, stations-few w yes)
 
   -- what code needs before it writes blocks, the lists of stations, and all

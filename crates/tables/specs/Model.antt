@@ -12,6 +12,7 @@ use Rattle.timetable.specs.Words.{stationCount, tripCount, stopAt, startAt, tim
 use Rattle.lines.specs.Lines.{lines, headOf}
 use Rattle.lines.specs.Once.{onLines}
 use Rattle.grouping.specs.Grouped.{endsFrom}
+use Rattle.tables.specs.Tables.{positionWords}
 
 -- the stop at place p of trip z
 abbrev pub callAt : List ℕ → (z p : ℕ) → Stop
@@ -32,9 +33,14 @@ rowAt w departs p line = map (λ z. timeOf departs (callAt w z p)) line
 unfoldable pub timesAt : List ℕ → (line : List ℕ) (k n : ℕ) → List ℕ
 timesAt w line k n = concatMap (λ p. rowAt w false p line ++ rowAt w true p line) (range k n)
 
--- station and ride penalty of trip z, for n places from k on
+-- what the rides of trip z cost up to place p
+unfoldable pub totalAt : List ℕ → (z p : ℕ) → ℕ
+totalAt w z zero = 0
+totalAt w z (suc p) = totalAt w z p + (callAt w z p) .points
+
+-- station and total of trip z, for n places from k on
 unfoldable pub courseAt : List ℕ → (z k n : ℕ) → List ℕ
-courseAt w z k n = concatMap (λ p. (callAt w z p) .station ∷ (callAt w z p) .points ∷ []) (range k n)
+courseAt w z k n = concatMap (λ p. positionWords ((callAt w z p) .station) (totalAt w z p)) (range k n)
 
 unfoldable pub numbersAt : List ℕ → List ℕ
 numbersAt line = map suc line

@@ -3,11 +3,11 @@
 -- line is listed twice."; "The trips of one line are handed out as the piece of the line tables that holds them".
 use mathlib.Core.Bool.{Bool, true, false, cond}
 use mathlib.Core.List.{List, [], _∷_, _++_, map}
-use Prim.Native.Nat.{ℕ, zero, suc, _+_}
+use Prim.Native.Nat.{ℕ, zero, suc, _+_, _%_, _/_}
 use lib.ListN.{length, getD}
 use Rattle.lists.specs.Lists.{concatMap, range}
 use Rattle.timetable.specs.Timetable.{Stop, Trip}
-use Rattle.connections.specs.Rides.{noStop}
+use Rattle.connections.specs.Rides.{noStop, ridePoints}
 use Rattle.lines.specs.Lines.{lines, course, calls}
 
 -- the stop at place p of the trip at place z
@@ -23,10 +23,18 @@ unfoldable pub lineTimes : List Trip → (line : List ℕ) → List ℕ
 lineTimes t line =
     concatMap (λ p. timeRow t false p line ++ timeRow t true p line) (range 0 (length (course t line)))
 
--- station and ride penalty at each position
+-- Document 02, Three: "keep totals from the line's first stop, two words each since one can reach 204,700, and take a
+-- ride's penalty as the difference of two." The total at place p is the penalty of the ride from the first stop there.
+abbrev pub totalOn : Trip → (p : ℕ) → ℕ
+totalOn c p = ridePoints c 0 p
+
+-- the words of a position: its station, and the total there, low word first
+abbrev pub positionWords : (station total : ℕ) → List ℕ
+positionWords station total = station ∷ total % 65536 ∷ total / 65536 ∷ []
+
 unfoldable pub courseWords : Trip → List ℕ
-courseWords [] = []
-courseWords (s ∷ l) = s .station ∷ s .points ∷ courseWords l
+courseWords c =
+    concatMap (λ p. positionWords ((getD c p noStop) .station) (totalOn c p)) (range 0 (length c))
 
 -- all words of one line: positions, trips, the trips' numbers, the course, the times
 unfoldable pub lineWords : List Trip → (line : List ℕ) → List ℕ

@@ -15,8 +15,11 @@ use Rattle.timetable.specs.Timetable.{
   Station,
   Stop,
   Trip,
+  lastMinute,
   listed,
   leaves,
+  ends,
+  follows,
   validTrip,
   validTrips,
   validStations,
@@ -82,12 +85,61 @@ two-stops n [] e = absurd (no-truth e)
 two-stops n (s ∷ []) e = absurd (no-truth (and-right (listed n s && eqb (s .arrive) 0 && leaves s) false e))
 two-stops n (s ∷ u ∷ l) e = omega arith
 
-trip-valid : (n : ℕ) (l : List Trip) (k : ℕ) (d : Trip) → validTrips n l ≡ true → k < length l
+pub trip-valid : (n : ℕ) (l : List Trip) (k : ℕ) (d : Trip) → validTrips n l ≡ true → k < length l
     → validTrip n (getD l k d) ≡ true
 unfolding validTrips
 trip-valid n [] k d e h = absurd (omega arith)
 trip-valid n (t ∷ l) zero d e h = and-left (validTrip n t) (validTrips n l) e
 trip-valid n (t ∷ l) (suc k) d e h = trip-valid n l k d (and-right (validTrip n t) (validTrips n l) e) (omega arith)
+
+-- ---- ride penalties of a valid timetable: none is above 100, and at a trip's last stop there is none
+leaves-cheap : (s : Stop) → leaves s ≡ true → s .points ≤ 100
+unfolding leaves
+leaves-cheap s e = leb-true (s .points) 100 (and-right (leb (s .depart) lastMinute) (leb (s .points) 100) e)
+
+ends-free : (s : Stop) → ends s ≡ true → s .points ≡ 0
+unfolding ends
+ends-free s e = eqb-true (s .points) 0 (and-right (eqb (s .depart) 0) (eqb (s .points) 0) e)
+
+module _ (n : ℕ) (d : Stop) where
+  run-cheap : (b : Stop) (l : List Stop) → runs n b l ≡ true → (p : ℕ) → p < length l → (getD l p d) .points ≤ 100
+  unfolding runs
+  run-cheap b [] e p h = absurd (omega arith)
+  run-cheap b (s ∷ []) e zero h = omega (arith, ends-free s (and-right (follows n b s) (ends s) e))
+  run-cheap b (s ∷ []) e (suc p) h = absurd (omega arith)
+  run-cheap b (s ∷ u ∷ l) e zero h =
+      let came = follows n b s && leb (s .arrive) (s .depart) in
+      leaves-cheap s (and-right came (leaves s) (and-left (came && leaves s) (runs n s (u ∷ l)) e))
+  run-cheap b (s ∷ u ∷ l) e (suc p) h =
+      let came = follows n b s && leb (s .arrive) (s .depart) in
+      run-cheap s (u ∷ l) (and-right (came && leaves s) (runs n s (u ∷ l)) e) p (omega arith)
+
+  run-free : (b : Stop) (l : List Stop) → runs n b l ≡ true → (p : ℕ) → p + 1 ≡ length l → (getD l p d) .points ≡ 0
+  unfolding runs
+  run-free b [] e p h = absurd (omega arith)
+  run-free b (s ∷ []) e zero h = ends-free s (and-right (follows n b s) (ends s) e)
+  run-free b (s ∷ []) e (suc p) h = absurd (omega arith)
+  run-free b (s ∷ u ∷ l) e zero h = absurd (omega arith)
+  run-free b (s ∷ u ∷ l) e (suc p) h =
+      let came = follows n b s && leb (s .arrive) (s .depart) in
+      run-free s (u ∷ l) (and-right (came && leaves s) (runs n s (u ∷ l)) e) p (omega arith)
+
+  pub trip-cheap : (t : Trip) → validTrip n t ≡ true → (p : ℕ) → p < length t → (getD t p d) .points ≤ 100
+  unfolding validTrip
+  trip-cheap [] e p h = absurd (omega arith)
+  trip-cheap (s ∷ l) e zero h =
+      let here = listed n s && eqb (s .arrive) 0 in
+      leaves-cheap s (and-right here (leaves s) (and-left (here && leaves s) (runs n s l) e))
+  trip-cheap (s ∷ l) e (suc p) h =
+      run-cheap s l (and-right (listed n s && eqb (s .arrive) 0 && leaves s) (runs n s l) e) p (omega arith)
+
+  pub trip-free : (t : Trip) → validTrip n t ≡ true → (p : ℕ) → p + 1 ≡ length t → (getD t p d) .points ≡ 0
+  unfolding validTrip
+  trip-free [] e p h = absurd (omega arith)
+  trip-free (s ∷ []) e zero h = absurd (omega (arith, two-stops n (s ∷ []) e))
+  trip-free (s ∷ u ∷ l) e zero h = absurd (omega arith)
+  trip-free (s ∷ l) e (suc p) h =
+      run-free s l (and-right (listed n s && eqb (s .arrive) 0 && leaves s) (runs n s l) e) p (omega arith)
 
 -- starts that rise to n are at most n, and the last of them is n
 rise-at : (w : List ℕ) (k m n i : ℕ) → rise (startAt w k) (map (startAt w) (range (suc k) m)) n ≡ true → i ≤ m
@@ -182,14 +234,31 @@ module _ (w : List ℕ) (yes : isTimetable w ≡ true) where
         stops = leb-true (stopCount w) 2048 (and-right (s && m && t) n is-headed);
       }
 
-  pub trip-stops : (k : ℕ) → k < tripCount w → startAt w k + 2 ≤ startAt w (k + 1)
+  one-valid : (k : ℕ) → k < tripCount w
+      → validTrip (length ((timetableOf w) .stations)) (getD ((timetableOf w) .trips) k []) ≡ true
   unfolding valid
-  trip-stops k h =
+  one-valid k h =
       let t = timetableOf w in
       let all = and-right (counted t && validStations (t .stations)) _ spelled-valid in
-      let one = trip-valid (length (t .stations)) (t .trips) k [] all (omega (arith, length-trips w)) in
-      let two = two-stops (length (t .stations)) (getD (t .trips) k []) one in
+      trip-valid (length (t .stations)) (t .trips) k [] all (omega (arith, length-trips w))
+
+  pub trip-stops : (k : ℕ) → k < tripCount w → startAt w k + 2 ≤ startAt w (k + 1)
+  trip-stops k h =
+      let t = timetableOf w in
+      let two = two-stops (length (t .stations)) (getD (t .trips) k []) (one-valid k h) in
       omega (arith, two, ap length (trip-is w k [] h), trip-long w k)
+
+  pub stop-cheap : (k p : ℕ) → k < tripCount w → startAt w k + p < startAt w (k + 1)
+      → (stopAt w (startAt w k + p)) .points ≤ 100
+  stop-cheap k p h g =
+      let t = timetableOf w in
+      let here = trip-is w k [] h in
+      let inside : p < startAt w (k + 1) - startAt w k = omega arith in
+      let cheap =
+      trip-cheap (length (t .stations)) (stopAt w 0) (getD (t .trips) k []) (one-valid k h) p
+      (omega (arith, ap length here, trip-long w k)) in
+      let is = ap (λ l. getD l p (stopAt w 0)) here ∙ stop-is w k p (stopAt w 0) inside in
+      omega (arith, cheap, ap (λ s. s .points) is)
 
   pub stations-few : stationCount w ≤ 64
   stations-few = counts .stations

@@ -89,13 +89,14 @@ lines-M = sym (length-map (lines (M .trips)) (map suc)) ∙ ap length case-e
 words-long : length (words M) ≡ 41
 words-long = ap length M-words
 
-tables-long : length (tablesOf M) ≡ 51
+tables-long : length (tablesOf M) ≡ 56
 unfolding
     tableWords
     linePlaces
     allLineWords
     lineWords
     courseWords
+    ridePoints
     lineTimes
     timeRow
     callPlaces
@@ -180,7 +181,7 @@ module _ (s : Slices) where
   words-m : timetableAfter s textM ≡ words M ++ drop 41 (s .timetable)
   words-m = read-writes s textM M 10 2 known-M ∙ ap (λ k. words M ++ drop k (s .timetable)) words-long
 
-  words-e : tablesAfter s textM ≡ tablesOf M ++ drop 51 (s .tables)
+  words-e : tablesAfter s textM ≡ tablesOf M ++ drop 56 (s .tables)
   words-e = build-writes s textM M 10 2 known-M ∙ ap (λ k. tablesOf M ++ drop k (s .tables)) tables-long
 
   reply-k : read s [] ≡ returned 7 1

@@ -66,7 +66,7 @@ pub record Cases (s : Slices) : Type 0 where
   pub d-words : storeSlice s textM 3 ≡ (0 ∷ 0 ∷ []) ++ drop 2 (s .store)
   -- "(e) Lines of M: trip 1; then trips 3, 2."
   pub e : built s textM ≡ returned 0 2
-  pub e-words : tablesAfter s textM ≡ tablesOf M ++ drop 51 (s .tables)
+  pub e-words : tablesAfter s textM ≡ tablesOf M ++ drop 56 (s .tables)
   pub e-first : tripsOf s textM 1 ≡ 1 ∷ []
   pub e-second : tripsOf s textM 2 ≡ 3 ∷ 2 ∷ []
   -- "(f) With trip 2 arriving at 514: three lines."

@@ -59,14 +59,14 @@ nightWords =
 -- line; where the lists stand; the lists, of which that of station 4 has line 2 twice
 abbrev pub nightTables : List ℕ
 nightTables =
-    (5 ∷ 5 ∷ 6 ∷ 85 ∷ [])
-    ++ (9 ∷ 24 ∷ 43 ∷ 58 ∷ 69 ∷ [])
-    ++ (3 ∷ 1 ∷ 3 ∷ 2 ∷ 21 ∷ 4 ∷ 10 ∷ 1 ∷ 0 ∷ 0 ∷ 44 ∷ 47 ∷ 48 ∷ 54 ∷ 0 ∷ [])
-    ++ (4 ∷ 1 ∷ 1 ∷ 4 ∷ 12 ∷ 1 ∷ 14 ∷ 4 ∷ 19 ∷ 5 ∷ 0 ∷ 0 ∷ 50 ∷ 52 ∷ 55 ∷ 58 ∷ 60 ∷ 64 ∷ 0 ∷ [])
-    ++ (3 ∷ 1 ∷ 2 ∷ 1 ∷ 8 ∷ 5 ∷ 23 ∷ 3 ∷ 0 ∷ 0 ∷ 53 ∷ 57 ∷ 66 ∷ 70 ∷ 0 ∷ [])
-    ++ (2 ∷ 1 ∷ 4 ∷ 1 ∷ 31 ∷ 3 ∷ 0 ∷ 0 ∷ 53 ∷ 70 ∷ 0 ∷ [])
-    ++ (2 ∷ 2 ∷ 5 ∷ 6 ∷ 5 ∷ 17 ∷ 3 ∷ 0 ∷ 0 ∷ 0 ∷ 59 ∷ 65 ∷ 70 ∷ 70 ∷ 0 ∷ 0 ∷ [])
-    ++ (91 ∷ 99 ∷ 101 ∷ 107 ∷ 113 ∷ 119 ∷ [])
+    (5 ∷ 5 ∷ 6 ∷ 99 ∷ [])
+    ++ (9 ∷ 27 ∷ 50 ∷ 68 ∷ 81 ∷ [])
+    ++ (3 ∷ 1 ∷ 3 ∷ 2 ∷ 0 ∷ 0 ∷ 4 ∷ 21 ∷ 0 ∷ 1 ∷ 31 ∷ 0 ∷ 0 ∷ 44 ∷ 47 ∷ 48 ∷ 54 ∷ 0 ∷ [])
+    ++ (4 ∷ 1 ∷ 1 ∷ 4 ∷ 0 ∷ 0 ∷ 1 ∷ 12 ∷ 0 ∷ 4 ∷ 26 ∷ 0 ∷ 5 ∷ 45 ∷ 0 ∷ 0 ∷ 50 ∷ 52 ∷ 55 ∷ 58 ∷ 60 ∷ 64 ∷ 0 ∷ [])
+    ++ (3 ∷ 1 ∷ 2 ∷ 1 ∷ 0 ∷ 0 ∷ 5 ∷ 8 ∷ 0 ∷ 3 ∷ 31 ∷ 0 ∷ 0 ∷ 53 ∷ 57 ∷ 66 ∷ 70 ∷ 0 ∷ [])
+    ++ (2 ∷ 1 ∷ 4 ∷ 1 ∷ 0 ∷ 0 ∷ 3 ∷ 31 ∷ 0 ∷ 0 ∷ 53 ∷ 70 ∷ 0 ∷ [])
+    ++ (2 ∷ 2 ∷ 5 ∷ 6 ∷ 5 ∷ 0 ∷ 0 ∷ 3 ∷ 17 ∷ 0 ∷ 0 ∷ 0 ∷ 59 ∷ 65 ∷ 70 ∷ 70 ∷ 0 ∷ 0 ∷ [])
+    ++ (105 ∷ 113 ∷ 115 ∷ 121 ∷ 127 ∷ 133 ∷ [])
     ++ (1 ∷ 3 ∷ 2 ∷ 2 ∷ 3 ∷ 1 ∷ 4 ∷ 1 ∷ [])
     ++ (1 ∷ 1 ∷ [])
     ++ (3 ∷ 3 ∷ 4 ∷ 2 ∷ 5 ∷ 2 ∷ [])
@@ -82,7 +82,7 @@ pub record NightCases (s : Slices) : Type 0 where
   pub text : read s textNight ≡ returned 0 21
   pub text-words : timetableAfter s textNight ≡ nightWords ++ drop 84 (s .timetable)
   pub tables : built s textNight ≡ returned 0 5
-  pub tables-words : tablesAfter s textNight ≡ nightTables ++ drop 119 (s .tables)
+  pub tables-words : tablesAfter s textNight ≡ nightTables ++ drop 133 (s .tables)
   pub line-1 : tripsOf s textNight 1 ≡ 3 ∷ []
   pub line-2 : tripsOf s textNight 2 ≡ 1 ∷ []
   pub line-3 : tripsOf s textNight 3 ≡ 2 ∷ []

@@ -59,6 +59,7 @@ unfolding
     allLineWords
     lineWords
     courseWords
+    ridePoints
     lineTimes
     timeRow
     callPlaces

@@ -1,7 +1,9 @@
-//! Times the calls on the largest timetable, beside the reference, in one run: `cargo run --release --bin bench`.
+//! Times the calls on the largest timetable, beside the reference, in one run: `cargo run --release --bin bench`. With
+//! words after it, `-- direct 2,044`, it runs the cases that have all of them in their names.
 //!
 //! It is a program and no test: a time says nothing on a machine that is busy with something else.
 
+use std::env;
 use std::hint::black_box;
 use std::time::{Duration, Instant};
 
@@ -11,7 +13,7 @@ use dairyepoch_tests::ffi::{
     self, build_lines, check_lines, check_lines_alone, check_timetable, make_store, read, Reply, Tables,
 };
 use dairyepoch_tests::generate::{
-    largest, long_lines, most_rows, overtaking, rural, with_trips, Diamonds, DIRECT_ROWS_MOST,
+    largest, long_lines, most_rows, one_way, overtaking, rural, with_trips, Diamonds, DIRECT_ROWS_MOST,
 };
 use dairyepoch_tests::lines::{self, LINE_WORDS, WORK_WORDS};
 use dairyepoch_tests::random::Random;
@@ -19,7 +21,7 @@ use dairyepoch_tests::reference;
 use dairyepoch_tests::search::{self, Network};
 use dairyepoch_tests::store::{Store, STORE_WORDS_MOST};
 use dairyepoch_tests::tables;
-use dairyepoch_tests::timetable::Timetable;
+use dairyepoch_tests::timetable::{Timetable, RIDE_PENALTY_MOST};
 use dairyepoch_tests::words::{text_of, to_words, TIMETABLE_WORDS};
 
 const ROUNDS_MOST: usize = 1_001;
@@ -28,6 +30,56 @@ const ROUNDS_LEAST: usize = 5;
 const ENOUGH: Duration = Duration::from_secs(5);
 
 fn main() {
+    reading();
+    let dear = one_way(2_044, RIDE_PENALTY_MOST, &[0, 500, 1_000, 1_500, 2_043]);
+    building("line tables of one line", &long_lines(), 1);
+    building("line tables of 256 lines", &overtaking(), 256);
+    building("line tables of one trip of 2,044 stops", &dear, 1);
+    asking("question 10 on one line", &long_lines());
+    asking("question 10 on 256 lines", &overtaking());
+    asking("question 10 on one trip of 2,044 stops", &dear);
+    querying("direct rides on one line of 256 trips", &long_lines(), Query { from: 60, to: 61, minute: 0 }, 1);
+    querying("direct rides on 256 lines of one trip", &overtaking(), Query { from: 1, to: 64, minute: 0 }, 1);
+    let query = Query { from: 1, to: 2, minute: 0 };
+    querying("direct rides in 507 rows on one trip of 2,044 stops", &most_rows(), query, DIRECT_ROWS_MOST);
+    querying("direct rides along one trip of 2,044 stops", &dear, Query { to: 5, ..query }, 1);
+    querying("direct rides to and fro on one trip of 2,044 stops", &dear, Query { from: 6, to: 7, minute: 0 }, 1);
+    for seed in 1..=3 {
+        storing(&format!("stores of rural timetable {seed}"), &rural(&mut Random::new(seed), 8));
+    }
+    for rounds in [1, 2, 4] {
+        storing(&format!("stores of a rural timetable of {} trips", 32 * rounds), &rural(&mut Random::new(1), rounds));
+    }
+    let mut random = Random::new(4);
+    storing("stores of random trips", &largest(&mut random));
+    storing("stores of one line of 256 trips", &long_lines());
+    storing("stores of 256 lines of one trip", &overtaking());
+    storing("stores of one trip of 2,044 stops", &most_rows());
+    storing("stores of one trip of 2,048 stops at 2 stations", &with_trips(&mut random, 2, &[2_048]));
+    storing("stores of 12 diamonds", &Diamonds { count: 12, late: false, beyond: false, chain: 3 }.timetable());
+    storing("stores of 12 late diamonds", &Diamonds { count: 12, late: true, beyond: true, chain: 4 }.timetable());
+    storing("stores of 20 diamonds", &Diamonds { count: 20, ..Diamonds::default() }.timetable());
+    for rounds in [1, 2, 4, 8] {
+        let what = format!("queries of a rural timetable of {} trips", 32 * rounds);
+        asking_stores(&what, &rural(&mut Random::new(1), rounds));
+    }
+    asking_stores("queries of random trips", &largest(&mut Random::new(4)));
+    asking_stores("queries of 256 lines of one trip", &overtaking());
+    asking_stores("queries in up to 507 rows of one trip of 2,044 stops", &most_rows());
+    asking_stores("queries along one trip of 2,044 stops", &dear);
+    asking_stores("queries of 12 diamonds", &Diamonds { count: 12, late: false, beyond: false, chain: 3 }.timetable());
+}
+
+/// Whether the case of this name is to be run.
+fn wanted(what: &str) -> bool {
+    env::args().skip(1).all(|word| what.contains(&word))
+}
+
+/// Times reading the largest text, and question 9.
+fn reading() {
+    if !wanted("reading a text, question 9") {
+        return;
+    }
     let text = long_lines().to_text();
     let mut words = vec![0; TIMETABLE_WORDS];
     let lines = 64 + 2_048;
@@ -52,37 +104,6 @@ fn main() {
     ]);
     report("reading a text into words", reading, reference);
     report("question 9 on its words", question, reference_question);
-    building("line tables of one line", &long_lines(), 1);
-    building("line tables of 256 lines", &overtaking(), 256);
-    asking("question 10 on one line", &long_lines());
-    asking("question 10 on 256 lines", &overtaking());
-    querying("direct rides on one line of 256 trips", &long_lines(), Query { from: 60, to: 61, minute: 0 }, 1);
-    querying("direct rides on 256 lines of one trip", &overtaking(), Query { from: 1, to: 64, minute: 0 }, 1);
-    querying("direct rides in 507 rows", &most_rows(), Query { from: 1, to: 2, minute: 0 }, DIRECT_ROWS_MOST);
-    for seed in 1..=3 {
-        storing(&format!("stores of rural timetable {seed}"), &rural(&mut Random::new(seed), 8));
-    }
-    for rounds in [1, 2, 4] {
-        storing(&format!("stores of a rural timetable of {} trips", 32 * rounds), &rural(&mut Random::new(1), rounds));
-    }
-    let mut random = Random::new(4);
-    storing("stores of random trips", &largest(&mut random));
-    storing("stores of one line of 256 trips", &long_lines());
-    storing("stores of 256 lines of one trip", &overtaking());
-    storing("stores of one trip of 2,044 stops", &most_rows());
-    storing("stores of one trip of 2,048 stops at 2 stations", &with_trips(&mut random, 2, &[2_048]));
-    storing("stores of 12 diamonds", &Diamonds { count: 12, late: false, beyond: false, chain: 3 }.timetable());
-    storing("stores of 12 late diamonds", &Diamonds { count: 12, late: true, beyond: true, chain: 4 }.timetable());
-    storing("stores of 20 diamonds", &Diamonds { count: 20, ..Diamonds::default() }.timetable());
-    for rounds in [1, 2, 4, 8] {
-        let what = format!("queries of a rural timetable of {} trips", 32 * rounds);
-        asking_stores(&what, &rural(&mut Random::new(1), rounds), &mut random);
-    }
-    asking_stores("queries of random trips", &largest(&mut Random::new(4)), &mut random);
-    asking_stores("queries of 256 lines of one trip", &overtaking(), &mut random);
-    asking_stores("queries of one trip of 2,044 stops", &most_rows(), &mut random);
-    let diamonds = Diamonds { count: 12, late: false, beyond: false, chain: 3 }.timetable();
-    asking_stores("queries of 12 diamonds", &diamonds, &mut random);
 }
 
 /// A query with its store, and with the same store without the arcs to the query's target.
@@ -94,9 +115,13 @@ struct Asked {
 
 /// Times queries from made stores, against a search of the whole timetable for each. A query that has no arc to its
 /// target is answered after question 13: what it takes is not the part of following patterns.
-fn asking_stores(what: &str, timetable: &Timetable, random: &mut Random) {
+fn asking_stores(what: &str, timetable: &Timetable) {
+    if !wanted(what) {
+        return;
+    }
     let [table, lines] = lent(timetable);
     let network = Network::new(timetable);
+    let mut random = Random::new(5);
     let mut queries = Vec::new();
     for _ in 0..1_000 {
         let [from, to] = [0, 1].map(|_| random.within(1..=timetable.stations.len()) as u32);
@@ -163,6 +188,9 @@ fn asking_stores(what: &str, timetable: &Timetable, random: &mut Random) {
 
 /// Times the stores of all sources, each against the search of the reference, which asks no question.
 fn storing(what: &str, timetable: &Timetable) {
+    if !wanted(what) {
+        return;
+    }
     let [table, lines] = lent(timetable);
     let network = Network::new(timetable);
     let (mut store, mut work) = (vec![0; STORE_WORDS_MOST], vec![0; WORK_WORDS]);
@@ -202,6 +230,9 @@ fn storing(what: &str, timetable: &Timetable) {
 
 /// Times building, with question 9 on both sides and then without it on the reference's.
 fn building(what: &str, timetable: &Timetable, lines: u32) {
+    if !wanted(what) {
+        return;
+    }
     let mut table = to_words(timetable);
     table.resize(TIMETABLE_WORDS, 0);
     let (mut words, mut work) = (vec![0; LINE_WORDS], vec![0; WORK_WORDS]);
@@ -234,6 +265,9 @@ fn lent(timetable: &Timetable) -> [Vec<u16>; 2] {
 
 /// Times question 10 to tables that have a yes, lent with timetable words and alone.
 fn asking(what: &str, timetable: &Timetable) {
+    if !wanted(what) {
+        return;
+    }
     let [table, lines] = lent(timetable);
     let (mut work, mut work_alone) = (vec![0; WORK_WORDS], vec![0; WORK_WORDS]);
     let yes = Reply { number: 0, beside: 0 };
@@ -261,6 +295,9 @@ fn asking(what: &str, timetable: &Timetable) {
 
 /// Times a direct query beside a scan of all trips that asks nothing, and tells how much of it the questions take.
 fn querying(what: &str, timetable: &Timetable, query: Query, rows: u32) {
+    if !wanted(what) {
+        return;
+    }
     let [table, lines] = lent(timetable);
     let (mut work, mut work_asked) = (vec![0; WORK_WORDS], vec![0; WORK_WORDS]);
     let mut answer = vec![0; ROW_WORDS * rows as usize];

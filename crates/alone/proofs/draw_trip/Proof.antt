@@ -40,8 +40,8 @@ loop-again c =
       search needs,
       stop-more (a .v .now) (a .home) (turn .loop .p) (a .at) (a .body .now) (turn .loop .body) (turn .loop .inv .2)
           (test .if1 .taken) (entry .pre .4) (station .station-at .result) (arrive .arrive-at .result)
-          (depart .depart-at .result) (points .points-at .result) (station .station-at .ensures .0)
-          (arrive .arrive-at .ensures .0) (depart .depart-at .ensures .0) (points .points-at .ensures .0)
+          (depart .depart-at .result) (points .next-points .result) (station .station-at .ensures .0)
+          (arrive .arrive-at .ensures .0) (depart .depart-at .ensures .0) (points .next-points .ensures .0)
           (four .put-four .last .0) (four .put-four .ensures .0),
     )
 
@@ -55,7 +55,6 @@ draw-trip-spec =
     Inv-loop
     μ-loop
     loop-holds
-    (λ c. search needs)
     (λ c. search needs)
     (λ c. search needs)
     (λ c. search needs)

@@ -1,6 +1,5 @@
 -- The rides are kept at the beginning of working space, which the questions asked to be long enough.
-use Rattle.direct.specs.Shown.{asked-reply, asked-words, source-first, source-few, lists-inside}
-use Rattle.direct.specs.Shown.{found-reply, found-words}
+use Rattle.direct.specs.Shown.{asked-reply, asked-words, found-reply, found-words}
 use Rattle.direct.proofs.ShownLaws.{kept-room, kept-part}
 use borrow.Author.Needs.{needs}
 use Rattle.direct.proofs.direct_asked.Statement.{statement}
@@ -13,7 +12,7 @@ part-kept-end : tie.Need-part-kept-end
 part-kept-end c = search kept-room
 
 show-requires : tie.Need-show-requires
-show-requires c κs = (search source-first, search source-few, search lists-inside, search kept-part)
+show-requires c κs = search kept-part
 
 returns-2 : tie.Need-returns-2
 returns-2 c = (search found-reply, search found-words)

@@ -5,10 +5,10 @@ use Rattle.layers.proofs.finish_turned.Statement.{statement}
 use Rattle.layers.proofs.finish_turned.Tie as tie
 
 finish-requires : tie.Need-finish-requires
-finish-requires c κs = (search needs, (search needs, search needs, search fitting-second))
+finish-requires c κs = (search needs, search needs, search fitting-second)
 
 finish-requires-2 : tie.Need-finish-requires-2
-finish-requires-2 c κs = (search needs, (search needs, search needs, search fitting-first))
+finish-requires-2 c κs = (search needs, search needs, search fitting-first)
 
 returns : tie.Need-returns
 returns c = (search end-second, (search needs, search needs))

@@ -10,7 +10,7 @@ use Rattle.layers.specs.Spans.{within-from}
 use Rattle.layers.specs.Turning.{held}
 use Rattle.layers.specs.Readies.{Ready}
 use Rattle.layers.specs.Patterns.{changesTo}
-use Rattle.layers.specs.Onward.{Listed, source-few, calls-within, fitting}
+use Rattle.layers.specs.Onward.{Listed, fitting}
 use Rattle.layers.proofs.RideLaws.{span-none}
 use Rattle.layers.proofs.PatternLaws.{listed-here, ready-first, ready-next, ended, stopped}
 use Rattle.layers.proofs.note_pattern.Statement.{statement}
@@ -36,12 +36,12 @@ loop-holds c =
 
 finish-turned-requires : tie.Need-finish-turned-requires Inv-loop μ-loop
 finish-turned-requires c κs =
-    ((search needs, search source-few, search calls-within), (search needs, search needs, search needs, search fitting))
+    (search needs, search needs, search needs, search fitting)
 
 step-turned-requires : tie.Need-step-turned-requires Inv-loop μ-loop
 step-turned-requires c κs = (
   (search needs, search needs, search listed-here),
-  ((search needs, search source-few, search calls-within), (search needs, search needs, search fitting)),
+  (search needs, search needs, search fitting),
 )
 
 loop-again : tie.Need-loop-again Inv-loop μ-loop

@@ -4,7 +4,6 @@ use mathlib.Core.Path.{_≡_}
 use Prim.Native.Nat.{_≤_}
 use lib.ListN.{length}
 use borrow.Author.Needs.{needs}
-use Rattle.lookup.specs.Lookup.{callsPlace}
 use Rattle.direct.specs.Candidates.{allRead}
 use Rattle.riding.specs.Riding.{Good, left, left-falls}
 use Rattle.layers.specs.Spans.{Within}
@@ -18,26 +17,20 @@ use Rattle.layers.proofs.note_rides.Tie as tie
 
 abbrev Inv-loop : tie.InvT-loop
 Inv-loop lines from to earliest p change best₀ noted₀ c₀ best noted c =
-    (1 ≤ from)
-    × (from ≤ 64)
-    × (callsPlace lines from ≤ length lines)
-    × Good c
-    × Fitting p (left lines from to earliest c)
+    Good lines c
+    × Fitting p (left lines earliest c)
     × (length best₀ ≡ 2880)
     × (length best ≡ length best₀)
     × Within noted best₀ best
     × (noted .from ≤ 2880)
     × (takenAll p (change .minutes .0) (change .points .0) best₀ (allRead lines from earliest to)
-    ≡ takenAll p (change .minutes .0) (change .points .0) best (left lines from to earliest c))
+    ≡ takenAll p (change .minutes .0) (change .points .0) best (left lines earliest c))
 
 abbrev μ-loop : tie.MeasureT-loop
-μ-loop lines from to earliest p change best₀ noted₀ c₀ best noted c = length (left lines from to earliest c)
+μ-loop lines from to earliest p change best₀ noted₀ c₀ best noted c = length (left lines earliest c)
 
 loop-holds : tie.Need-loop-holds Inv-loop μ-loop
 loop-holds c = (
-  search needs,
-  search needs,
-  search needs,
   search needs,
   search fitting-first,
   search needs,
@@ -55,9 +48,6 @@ loop-less c = search left-falls
 
 loop-again : tie.Need-loop-again Inv-loop μ-loop
 loop-again c = (
-  search needs,
-  search needs,
-  search needs,
   search needs,
   search fitting-next,
   search needs,

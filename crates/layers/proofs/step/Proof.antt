@@ -11,7 +11,7 @@ change-at-requires c κs = (search needs, search needs, search place-few)
 
 note-rides-requires : tie.Need-note-rides-requires
 note-rides-requires c κs =
-    (search needs, (search needs, search needs, search needs, search change-minutes, search change-points))
+    (search needs, search needs, search needs, search change-minutes, search change-points)
 
 lowest-so-far-requires : tie.Need-lowest-so-far-requires
 lowest-so-far-requires c κs = (search needs, search needs, search within-from)

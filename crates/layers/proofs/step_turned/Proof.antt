@@ -6,13 +6,13 @@ use Rattle.layers.proofs.step_turned.Statement.{statement}
 use Rattle.layers.proofs.step_turned.Tie as tie
 
 step-requires : tie.Need-step-requires
-step-requires c κs = (search needs, (search needs, (search needs, search needs, search fitting-second)))
+step-requires c κs = (search needs, (search needs, search needs, search fitting-second))
 
 returns : tie.Need-returns
 returns c = (search turned-second, (search needs, (search value-second, search needs)))
 
 step-requires-2 : tie.Need-step-requires-2
-step-requires-2 c κs = (search needs, (search needs, (search needs, search needs, search fitting-first)))
+step-requires-2 c κs = (search needs, (search needs, search needs, search fitting-first))
 
 returns-2 : tie.Need-returns-2
 returns-2 c = (search turned-first, (search needs, (search value-first, search needs)))

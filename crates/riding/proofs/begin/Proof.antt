@@ -1,4 +1,4 @@
--- The calls from the first on are those of the station.
+-- The calls of both stations from the first on.
 use Rattle.riding.proofs.CursorLaws.{calls-first}
 use borrow.Author.Needs.{needs}
 use Rattle.riding.proofs.begin.Statement.{statement}

@@ -12,13 +12,13 @@ use Rattle.showing.proofs.rests.gather.Tie as tie
 
 abbrev Inv-loop : tie.InvT-loop
 Inv-loop lines from to minute change old z₀ c₀ z c =
-    Good c
+    Good lines c
     × (length z ≡ length z₀)
     × (noteAll z₀ (catches (change .minutes .0) (change .points .0) old (allRead lines from minute to))
-    ≡ noteAll z (catches (change .minutes .0) (change .points .0) old (left lines from to minute c)))
+    ≡ noteAll z (catches (change .minutes .0) (change .points .0) old (left lines minute c)))
 
 abbrev μ-loop : tie.MeasureT-loop
-μ-loop lines from to minute change old z₀ c₀ z c = length (left lines from to minute c)
+μ-loop lines from to minute change old z₀ c₀ z c = length (left lines minute c)
 
 loop-holds : tie.Need-loop-holds Inv-loop μ-loop
 loop-holds c = (search needs, search needs, search gather-begins)

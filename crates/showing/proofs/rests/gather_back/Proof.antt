@@ -1,11 +1,8 @@
 -- The promises of the callees, one put into the other.
 use borrow.Author.Needs.{needs}
-use Rattle.showing.proofs.GatherLaws.{calls-same, gathered}
+use Rattle.showing.proofs.GatherLaws.{gathered}
 use Rattle.showing.proofs.rests.gather_back.Statement.{statement}
 use Rattle.showing.proofs.rests.gather_back.Tie as tie
-
-gather-requires : tie.Need-gather-requires
-gather-requires c κs = (search needs, search needs, search calls-same)
 
 returns : tie.Need-returns
 returns c = (search gathered, search needs)
@@ -19,6 +16,6 @@ gather-back-spec =
     (λ c. search needs)
     (λ c. search needs)
     (λ c. search needs)
-    gather-requires
+    (λ c. search needs)
     (λ c. search needs)
     returns)

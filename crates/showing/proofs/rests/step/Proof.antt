@@ -1,13 +1,13 @@
 -- The promises of the callees, one put into the other. The rides that are noted leave the window as it is.
 use borrow.Author.Needs.{needs}
-use Rattle.showing.proofs.PatternLaws.{back-first, back-few, back-calls, gathered-spans, kept-spans}
+use Rattle.showing.proofs.PatternLaws.{back-first, back-few, gathered-spans, kept-spans}
 use Rattle.showing.proofs.GatherLaws.{step-done}
 use Rattle.showing.proofs.rests.step.Statement.{statement}
 use Rattle.showing.proofs.rests.step.Tie as tie
 
 gather-back-requires : tie.Need-gather-back-requires
 gather-back-requires c κs =
-    (search needs, search needs, search needs, search needs, search back-first, search back-few, search back-calls)
+    (search needs, search needs, search needs, search needs, search back-first, search back-few)
 
 settle-requires : tie.Need-settle-requires
 settle-requires c κs = (search needs, search needs, search gathered-spans)

@@ -12,13 +12,13 @@ use Rattle.showing.proofs.rides.choose.Tie as tie
 
 abbrev Inv-loop : tie.InvT-loop
 Inv-loop lines from to ready first left z best₀ c₀ best c =
-    Good c
+    Good lines c
     × Sized best
     × (triedAll first z (left .0) (tellsOf noRide) (allRead lines from ready to)
-    ≡ triedAll first z (left .0) best (rides-left lines from to ready c))
+    ≡ triedAll first z (left .0) best (rides-left lines ready c))
 
 abbrev μ-loop : tie.MeasureT-loop
-μ-loop lines from to ready first left z best₀ c₀ best c = length (rides-left lines from to ready c)
+μ-loop lines from to ready first left z best₀ c₀ best c = length (rides-left lines ready c)
 
 loop-holds : tie.Need-loop-holds Inv-loop μ-loop
 loop-holds c = (search needs, search needs, search choose-begins)

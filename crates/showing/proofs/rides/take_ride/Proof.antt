@@ -1,11 +1,8 @@
 -- With what is left at hand, the ride that is chosen is the one to take.
 use borrow.Author.Needs.{needs}
-use Rattle.showing.proofs.WayLaws.{stand-few, stand-calls, head-taken}
+use Rattle.showing.proofs.WayLaws.{head-taken}
 use Rattle.showing.proofs.rides.take_ride.Statement.{statement}
 use Rattle.showing.proofs.rides.take_ride.Tie as tie
-
-choose-requires : tie.Need-choose-requires
-choose-requires c κs = (search needs, search stand-few, search stand-calls)
 
 returns : tie.Need-returns
 returns c = ((search head-taken, search needs, search needs, search needs), search needs)
@@ -13,4 +10,10 @@ returns c = ((search head-taken, search needs, search needs, search needs), sear
 pub take-ride-spec : {M : Type 1} → statement M
 take-ride-spec =
     tie.close
-    (tie.spec (λ c. search needs) (λ c. search needs) choose-requires (λ c. search needs) (λ c. search needs) returns)
+    (tie.spec
+    (λ c. search needs)
+    (λ c. search needs)
+    (λ c. search needs)
+    (λ c. search needs)
+    (λ c. search needs)
+    returns)
