@@ -11,7 +11,6 @@ use Rattle.text.specs.Time.{pairValue, isTime, minuteOf, timeValue}
 use Rattle.text.specs.Piece.{pieces}
 use Rattle.text.specs.Range.{inRange}
 use Rattle.text.specs.Shape.{stationOf, stationShape, arriveFits, departFits, filled, stopOf, stopShape, shapeBy}
-use Rattle.timetable.specs.Timetable.{Station, Stop, Timetable}
 use Rattle.timetable.specs.Worked.{station, stop, variant, M}
 use Rattle.timetable.specs.Words.{stationWords, stopWords, startWords, words}
 use Rattle.reading.specs.Draft.{stationNumber, comesAfter, stopFits, stopNumber}

@@ -1,20 +1,19 @@
 -- The ways out of the questions to a query: those about the tables first, then the stations, then the minute.
-use mathlib.Core.Path.{_≡_, refl, sym, ap, _∙_}
+use mathlib.Core.Path.{_≡_, refl, sym, _∙_}
 use mathlib.Core.Bool.{Bool, true, false, not, _&&_}
 use mathlib.Core.List.{List, [], _∷_, _++_}
 use Prim.Native.Nat.{ℕ, zero, suc, _≤_, _<_}
-use native.Mathlib.Omega.{arith}
-use borrow.Author.Tests.{le-leb, lt-leb, leb-true, eq-eqb, ne-eqb, not-true, not-false}
+use borrow.Author.Tests.{le-leb, lt-leb, leb-true, not-true, not-false}
 use lib.Dec.{leb, eqb}
 use lib.ListN.{length, getD}
-use Rattle.questions.specs.Question.{Question, ask, firstNo, yes-here, yes-later, and-left, and-right}
+use Rattle.questions.specs.Question.{Question, ask, firstNo, yes-here, and-left}
 use Rattle.replies.specs.Later.{asked-on, asked-out}
 use Rattle.timetable.specs.Timetable.{lastMinute}
 use Rattle.timetable.specs.Words.{timetableOf, isTimetable}
 use Rattle.timetable.specs.Check.{length-stations}
 use Rattle.tables.specs.Building.{slicesLeast}
 use Rattle.checking.specs.Question10.{areTables, tablesQuestions, tablesNumber}
-use Rattle.checking.specs.Asked.{listed, named, queryQuestions, queryNumber}
+use Rattle.checking.specs.Asked.{listed, named, queryNumber}
 use Rattle.checking.specs.Yes.{tables-asked}
 
 -- ---- stations

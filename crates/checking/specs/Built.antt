@@ -1,7 +1,7 @@
 -- Question 10 has its yes for what building wrote, with number 0, beside the timetable that it was built from: "That 9,
 -- 10 and 13 have their yes for what reading, building and a store call wrote for this timetable, with number 0, is part
 -- of the claim and no premise".
-use mathlib.Core.Path.{_≡_, refl, sym, ap, subst, _∙_}
+use mathlib.Core.Path.{_≡_, sym, ap, subst, _∙_}
 use mathlib.Core.Bool.{Bool, true, _&&_}
 use mathlib.Core.Logic.{_↔_}
 use mathlib.Core.List.{List, [], _∷_}

@@ -1,12 +1,12 @@
 -- What a call knows once its questions about the slices, the timetable, the tables and the query all have their yes.
-use mathlib.Core.Path.{_≡_, sym, _∙_}
+use mathlib.Core.Path.{_≡_}
 use mathlib.Core.Bool.{Bool, true, not, _&&_}
 use mathlib.Core.List.{List, [], _∷_}
 use Prim.Native.Nat.{ℕ, _≤_}
 use borrow.Author.Tests.{leb-true}
 use lib.Dec.{leb, eqb}
 use lib.ListN.{length}
-use Rattle.questions.specs.Question.{Question, ask, firstNo, yes-here, yes-later, and-left, and-right}
+use Rattle.questions.specs.Question.{Question, ask, yes-here, yes-later, and-left, and-right}
 use Rattle.replies.specs.Later.{Asked, asked-none, asked-more}
 use Rattle.timetable.specs.Timetable.{Timetable, lastMinute}
 use Rattle.timetable.specs.Words.{timetableOf, isTimetable}

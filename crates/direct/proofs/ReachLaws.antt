@@ -1,5 +1,5 @@
 -- From call to call in front of a list: those of the line are noted, until one is of another.
-use mathlib.Core.Path.{_≡_, refl, sym, ap, _∙_}
+use mathlib.Core.Path.{_≡_, sym, ap, _∙_}
 use mathlib.Core.List.{List, [], _∷_, map}
 use Prim.Native.Nat.{ℕ, _+_, _-_, _≤_, _<_}
 use lib.ListN.{length}
@@ -7,7 +7,7 @@ use native.Mathlib.Omega.{arith}
 use borrow.Author.Tests.{eq-eqb, ne-eqb}
 use Rattle.results.specs.declared.Points.{Points}
 use Rattle.lookup.specs.Lookup.{Line, totalAt, pointsBetween, arriveAt}
-use Rattle.lookup.specs.Calls.{Call, Piece, callAt, callsIn, Inside}
+use Rattle.lookup.specs.Calls.{Call, Piece, callAt, callsIn}
 use Rattle.lookup.proofs.LookupLaws.{pairs-more, pairs-none}
 use Rattle.direct.specs.Candidates.{Reach, reachOf, rideOn}
 use Rattle.minutes.specs.Minutes.{noteAll, lowered}

@@ -3,7 +3,7 @@ use mathlib.Core.Path.{_≡_, refl, sym, ap, _∙_}
 use mathlib.Core.Bool.{true}
 use mathlib.Core.Logic.{_↔_}
 use mathlib.Core.List.{List, [], _∷_}
-use Prim.Native.Nat.{ℕ, zero, suc, _+_, _-_, _*_, _≤_, _<_}
+use Prim.Native.Nat.{ℕ, zero, suc, _*_, _≤_}
 use native.Mathlib.Omega.{arith}
 use borrow.Author.Tests.{le-leb, leb-true}
 use lib.Dec.{leb}
@@ -17,7 +17,6 @@ use Rattle.timetable.specs.Timetable.{Timetable}
 use Rattle.timetable.specs.Words.{timetableOf, isTimetable}
 use Rattle.timetable.specs.Access.{spelled-valid}
 use Rattle.results.specs.Results.{Cost}
-use Rattle.connections.specs.Connections.{net}
 use Rattle.lookup.specs.Told.{Told}
 use Rattle.lookup.specs.Holding.{holding}
 use Rattle.lines.specs.DirectRides.{directRows}

@@ -11,7 +11,7 @@ use Rattle.lists.specs.Members.{cons-cases, concatMap-out}
 use Rattle.lists.specs.Order.{before-cases}
 use Rattle.stores.specs.Words.{keyed, nodes, arcs, encode}
 use Rattle.stores.specs.RoundTrip.{encode-length}
-use Rattle.growing.specs.Tree.{arcsOf, children, rooted, Made, Grown, TooMany}
+use Rattle.growing.specs.Tree.{arcsOf, children, rooted, Made, Grown}
 use Rattle.growing.specs.Numbering.{child-out, rooted-rising}
 use Rattle.growing.specs.Numbering.{root-first}
 use Rattle.growing.specs.ArcOrder.{arcs-counted}

@@ -3,7 +3,7 @@
 use mathlib.Core.Path.{_≡_, refl, sym, ap, subst, _∙_}
 use mathlib.Core.Bool.{cond}
 use mathlib.Core.Logic.{_≢_, inl, inr}
-use mathlib.Core.List.{List, [], _∷_, _++_, map, List·Memᴰ·head as here}
+use mathlib.Core.List.{List, [], _∷_, _++_, map}
 use Prim.Native.Nat.{ℕ, zero, suc, _+_, _-_, _*_, _≤_, _<_}
 use native.Mathlib.Numerals.{add-one}
 use native.Mathlib.Decide.{ℕ-discrete}
@@ -16,8 +16,8 @@ use lib.ListN.{List·getD-append}
 use lib.Seq.{getD-append-add, getD-set-same, getD-set-other}
 use Rattle.timetable.specs.Timetable.{stationsMost}
 use Rattle.words.specs.Put.{put, length-put}
-use Rattle.lists.specs.Lists.{concatMap, before}
-use Rattle.stores.specs.Words.{front, final, nodes, place, arcs, entriesMost}
+use Rattle.lists.specs.Lists.{concatMap}
+use Rattle.stores.specs.Words.{front, final, place, entriesMost}
 use Rattle.growing.specs.Tree.{arcsOf, kidsOf, children, rooted, nodeAt, Made, nodeWord, wordOf, Grown, TooMany}
 use Rattle.growing.specs.Numbering.{final-join, front-join, place-at, rooted-rising}
 use Rattle.growing.specs.Numbering.{root-first, rooted-is}

@@ -7,7 +7,7 @@ use native.Mathlib.Omega.{arith}
 use borrow.Author.Tests.{lt-ltb, le-ltb}
 use lib.Dec.{ltb}
 use lib.ListN.{length, getD}
-use Rattle.stores.specs.Words.{front, final, place, arcs}
+use Rattle.stores.specs.Words.{front, final, place}
 use Rattle.growing.specs.Tree.{arcsOf, rooted, nodeAt, Made, wordOf, Grown}
 use Rattle.growing.specs.Tree.{stationIn, parentIn, arcsIn}
 use Rattle.growing.specs.NodeWords.{word-station, word-parent, word-arcs, word-low}

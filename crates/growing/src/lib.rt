@@ -2,7 +2,7 @@
 ghost use mathlib.Core.Path.{_≡_};
 ghost use mathlib.Core.List.{List};
 ghost use Prim.Native.Nat.{ℕ, suc, _+_, _*_, _≤_, _<_};
-ghost use lib.ListN.{length, getD};
+ghost use lib.ListN.{length};
 ghost use Rattle.words.specs.Put.{put};
 ghost use Rattle.stores.specs.Words.{encode};
 ghost use Rattle.growing.specs.Tree.{Made, Grown, nodeWord, stationIn, parentIn, arcsIn};

@@ -3,7 +3,7 @@
 ghost use mathlib.Core.Path.{_≡_};
 ghost use Prim.Native.Nat.{_+_, _-_, _*_, _≤_, _<_, _^_, min, max};
 ghost use lib.ListN.{length, getD, set};
-ghost use Rattle.stopwise.specs.Stopwise.{unreached, changePoints};
+ghost use Rattle.stopwise.specs.Stopwise.{changePoints};
 ghost use Rattle.points.specs.Lowered.{lowered};
 use results::Points;
 use timetable::Stop;

@@ -1,11 +1,11 @@
 -- A number of one digit, and one more digit behind those of a number.
 use mathlib.Core.Path.{_≡_, refl, sym, ap, _∙_}
-use mathlib.Core.List.{List, [], _∷_, _++_}
+use mathlib.Core.List.{List}
 use Prim.Native.Nat.{ℕ, _+_, _/_, _%_, _≤_, _<_}
 use native.Mathlib.Omega.{arith}
 use lib.ListN.{length, set, length-set, length-append}
 use Rattle.words.specs.Put.{put, put-one, put-more}
-use Rattle.printing.specs.Lines.{spelled, spelled-one, spelled-more, digits-few}
+use Rattle.printing.specs.Lines.{spelled, spelled-one, spelled-more}
 
 module _ (old : List ℕ) (at n : ℕ) (room : at + length (spelled n) ≤ length old) where
   module _ (small : n < 10) where

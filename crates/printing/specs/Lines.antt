@@ -1,8 +1,8 @@
 -- The lines that the listing program prints, as bytes. Document 01: "Q: from, to, minute, rows. C: duration, penalty,
 -- rides. R: trip, boarding stop, alighting stop. N: the query and its number."
-use mathlib.Core.Path.{_≡_, refl, sym, ap, _∙_}
+use mathlib.Core.Path.{_≡_, refl, ap, _∙_}
 use mathlib.Core.Bool.{Bool, true, false, cond}
-use mathlib.Core.List.{List, [], _∷_, _++_, append-assoc}
+use mathlib.Core.List.{List, [], _∷_, _++_}
 use Prim.Native.Nat.{ℕ, zero, suc, _+_, _-_, _/_, _%_, _*_, _≤_, _<_}
 use native.Mathlib.Nat.{add-assoc, add-sub-cancel-left}
 use native.Mathlib.Numerals.{add-one}

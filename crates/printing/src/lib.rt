@@ -4,7 +4,7 @@ ghost use mathlib.Core.List.{[], _∷_};
 ghost use Prim.Native.Nat.{_+_, _*_, _≤_, _<_};
 ghost use lib.ListN.{length};
 ghost use Rattle.words.specs.Put.{put};
-ghost use Rattle.printing.specs.Lines.{spelled, fields, lineOf, linesFrom};
+ghost use Rattle.printing.specs.Lines.{spelled, lineOf, linesFrom};
 
 const ZERO: u8 = 48;
 

@@ -1,9 +1,9 @@
 -- What the code knows of a draft: counts, and the station and departure of the stop before. The questions of Draft can
 -- be answered from that alone, as `same-number` shows; no reader of the promise needs this file.
-use mathlib.Core.Path.{_≡_, refl, sym, ap, _∙_}
-use mathlib.Core.Bool.{Bool, true, false, not, cond, _&&_, _||_}
-use mathlib.Core.List.{List, [], _∷_, _++_}
-use Prim.Native.Nat.{ℕ, suc, _+_}
+use mathlib.Core.Path.{_≡_, refl, ap}
+use mathlib.Core.Bool.{Bool, not, _&&_, _||_}
+use mathlib.Core.List.{[], _∷_}
+use Prim.Native.Nat.{ℕ, _+_}
 use lib.Dec.{leb, ltb, eqb, eqb·suc-zero}
 use lib.ListN.{length}
 use Rattle.questions.specs.Question.{ask, firstNo}
@@ -11,7 +11,7 @@ use Rattle.text.specs.declared.Line.{Line}
 use Rattle.text.specs.declared.Line.the-variants.{Station as StationIn, Stop as StopIn, Shapeless}
 use Rattle.text.specs.declared.StationLine.{StationLine}
 use Rattle.text.specs.declared.StopLine.{StopLine}
-use Rattle.timetable.specs.Timetable.{Stop, Trip, stationsMost, tripsMost, stopsMost}
+use Rattle.timetable.specs.Timetable.{Trip, stationsMost, tripsMost, stopsMost}
 use Rattle.reading.specs.Draft.{
   Draft,
   final,

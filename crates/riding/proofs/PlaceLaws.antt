@@ -7,7 +7,6 @@ use lib.ListN.{length}
 use Rattle.results.specs.declared.Points.{Points}
 use Rattle.lookup.specs.Lookup.{pointsBetween}
 use Rattle.lookup.specs.Calls.{Call, Boarding, callAt}
-use Rattle.direct.specs.Candidates.{reachOf}
 use Rattle.direct.proofs.ReachLaws.{reach-none, reach-other, reach-next}
 use Rattle.riding.specs.declared.Place.{Place}
 use Rattle.riding.specs.Riding.{rest, restAt}

@@ -1,9 +1,9 @@
 -- All rides of a cursor noted one after the other, and a step from one station to the one before it.
-use mathlib.Core.Path.{_≡_, sym, ap, subst, _∙_}
+use mathlib.Core.Path.{_≡_, sym, ap, _∙_}
 use mathlib.Core.Bool.{false}
 use mathlib.Core.List.{List, _∷_}
-use Prim.Native.Nat.{ℕ, _+_, _-_, _≤_}
-use lib.ListN.{length, getD}
+use Prim.Native.Nat.{ℕ, _+_, _-_}
+use lib.ListN.{getD}
 use Rattle.timetable.specs.Words.{stationAt}
 use Rattle.direct.specs.Candidates.{allRead}
 use Rattle.minutes.specs.Minutes.{noPoints, noteAll, blank}

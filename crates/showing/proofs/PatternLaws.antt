@@ -16,7 +16,6 @@ use Rattle.lists.specs.Lists.{_∈_}
 use Rattle.connections.specs.Rides.{Ride}
 use Rattle.connections.specs.RideLaws.{changes-in}
 use Rattle.connections.specs.Connections.{Change, Net, net, noStation, changeAt}
-use Rattle.checking.specs.Question10.{areTables}
 use Rattle.direct.specs.Candidates.{allRead}
 use Rattle.minutes.specs.Minutes.{blank}
 use Rattle.riding.specs.Ridden.{read-rides, read-bounds}

@@ -7,7 +7,7 @@ use native.Mathlib.Omega.{arith}
 use borrow.Author.Tests.{le-leb, lt-leb}
 use lib.Dec.{ltb}
 use lib.ListN.{length, getD, set, take, drop, take-append-drop, List·getD-eq-default}
-use lib.Seq.{set-out, set-getD, drop-cons, take-suc, append-snoc, set-at, getD-at, getD-drop, length-take-le}
+use lib.Seq.{drop-cons, take-suc, append-snoc, set-at, getD-at, getD-drop, length-take-le}
 use Rattle.minutes.specs.Minutes.{noPoints, blank, lowered}
 use Rattle.minutes.specs.Noted.{getD-any, getD-blank}
 use Rattle.riding.specs.declared.Ride.{Ride as RideStruct}

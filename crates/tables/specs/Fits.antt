@@ -1,33 +1,22 @@
 -- Line tables of a timetable within the limits fit 16,384 words. Each trip stands on one line, once, and has as many
 -- stops as its line has positions: so the times of all lines are two words for each stop, and there are no more
 -- positions than stops. Each position is listed for one station at most.
-use mathlib.Core.Path.{_≡_, refl, ap, _∙_}
+use mathlib.Core.Path.{_≡_, refl, ap}
 use mathlib.Core.Bool.{Bool, true, false}
-use mathlib.Core.List.{List, [], _∷_, _++_, List·Memᴰ·head as here, List·Memᴰ·tail as there}
+use mathlib.Core.List.{List, [], _∷_, _++_}
 use Prim.Native.Nat.{ℕ, zero, suc, _+_, _*_, _≤_, _<_}
 use native.Mathlib.Numerals.{add-one}
 use native.Mathlib.Decide.{ℕ-discrete}
 use native.Mathlib.Omega.{arith}
 use borrow.Author.Tests.{eq-eqb, ne-eqb}
-use lib.ListN.{length, getD, length-append, length-map}
-use Rattle.lists.specs.Lists.{_∈_, range}
-use Rattle.lists.specs.Members.{none, concatMap-in}
+use lib.ListN.{length, length-append, length-map}
+use Rattle.lists.specs.Lists.{range}
 use Rattle.timetable.specs.Timetable.{Trip}
 use Rattle.timetable.specs.Words.{stationCount, tripCount, stopCount, startAt, timetableOf, isTimetable}
 use Rattle.timetable.specs.Check.{length-trips}
-use Rattle.timetable.specs.Access.{
-  trip-is,
-  trip-long,
-  trip-stops,
-  start-first,
-  start-last,
-  stations-few,
-  trips-few,
-  stops-few,
-}
+use Rattle.timetable.specs.Access.{trip-stops, start-first, start-last, stations-few, trips-few, stops-few}
 use Rattle.lines.specs.Lines.{lines, headOf}
 use Rattle.lines.specs.Once.{onLines, on-lines, lines-distinct}
-use Rattle.lines.specs.Ordered.{lines-good, line-length}
 use Rattle.tables.specs.Spelled.{all-lines}
 use Rattle.tables.specs.Sums.{
   sumOf,

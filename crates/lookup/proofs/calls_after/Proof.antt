@@ -2,7 +2,7 @@
 use mathlib.Core.Path.{_≡_, refl}
 use Prim.Native.Nat.{_≤_, _-_}
 use borrow.Author.Needs.{needs}
-use Rattle.lookup.specs.Calls.{callsIn, Inside, after}
+use Rattle.lookup.specs.Calls.{callsIn, after}
 use Rattle.lookup.proofs.LookupLaws.{none-after, found-after, passed-over}
 use Rattle.lookup.proofs.calls_after.Statement.{statement}
 use Rattle.lookup.proofs.calls_after.Tie as tie

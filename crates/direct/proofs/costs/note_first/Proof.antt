@@ -4,7 +4,7 @@ use mathlib.Core.Path.{_≡_}
 use Prim.Native.Nat.{_≤_, _<_, _-_}
 use lib.ListN.{length}
 use borrow.Author.Needs.{needs}
-use Rattle.lookup.specs.Calls.{callsIn, Inside, Within}
+use Rattle.lookup.specs.Calls.{callsIn, Inside}
 use Rattle.minutes.specs.Minutes.{noteAll}
 use Rattle.direct.specs.Candidates.{firstRead}
 use Rattle.direct.specs.Turns.{firstCalls}
