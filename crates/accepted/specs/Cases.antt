@@ -1,5 +1,5 @@
 -- Case k and timetable M of document 01, its "run only" cases of reading, and the edges of times, by computation. "M
--- and the cases are rewritten in it, with 47:59 and 48:00 for 2,879 and 2,880."
+-- and the cases are rewritten in it, with 47:59 and 48:00 for 2,879 and 2,880." For a reader.
 use mathlib.Core.Path.{_≡_, refl}
 use mathlib.Core.List.{List, [], _∷_, _++_}
 use Prim.Native.Nat.{ℕ, zero, suc, _+_}

@@ -65,10 +65,6 @@ module _ (n : ℕ) (h : n ≤ 9999) where
   unfolding wellWritten
   digits-above = let w = well-written in search (and-left, and-right)
 
-  pub some-byte : 1 ≤ length (digits n)
-  unfolding wellWritten
-  some-byte = let w = well-written in search (and-left, and-right, leb-true)
-
   pub four-bytes : length (digits n) ≤ 4
   unfolding wellWritten
   four-bytes = let w = well-written in search (and-left, and-right, leb-true)

@@ -2,7 +2,7 @@
 use mathlib.Core.Path.{_≡_, refl, sym, ap, subst, _∙_}
 use mathlib.Core.Bool.{Bool, true, false, _&&_, _||_}
 use mathlib.Core.List.{List, [], _∷_, _++_}
-use Prim.Native.Nat.{ℕ, zero, suc, _+_, _<_}
+use Prim.Native.Nat.{ℕ, _+_, _<_}
 use lib.Dec.{T}
 use lib.ListN.{length, getD, drop, length-append}
 use lib.Seq.{getD-drop, drop-drop, drop-at}
@@ -48,11 +48,6 @@ module _ (w : List ℕ) (i : ℕ) where
 abbrev pub Below : ℕ → List ℕ → Type 0
 Below m [] = Unit {0}
 Below m (x ∷ l) = (x < m) × Below m l
-
-pub below-at : (m : ℕ) (l : List ℕ) → 0 < m → Below m l → (i : ℕ) → getD l i 0 < m
-below-at m [] h b i = h
-below-at m (x ∷ l) h b zero = b .0
-below-at m (x ∷ l) h b (suc i) = below-at m l h (b .1) i
 
 pub below-append : (m : ℕ) (a b : List ℕ) → Below m a → Below m b → Below m (a ++ b)
 below-append m [] b x y = y

@@ -5,7 +5,7 @@ use mathlib.Core.Bool.{true}
 use mathlib.Core.List.{List, [], _∷_, _++_, map, map-append}
 use Prim.Native.Nat.{ℕ, zero, suc, _+_, _-_, _*_, _≤_, _<_}
 use lib.Dec.{leb, eqb}
-use lib.ListN.{length, getD, take, drop, length-map, take-append-drop}
+use lib.ListN.{length, getD, take, drop, length-map}
 use lib.Seq.{drop-cons, take-add, length-take-le}
 use native.Mathlib.Nat.{zero-add, add-zero, suc-add}
 use native.Mathlib.Numerals.{add-one}
@@ -233,8 +233,3 @@ module _ (w : List ℕ) (y : isTimetable w ≡ true) where
       let long : length (words (timetableOf w)) ≡ count =
       ap length own ∙ length-take-le count w (omega (arith, yes-fits)) in
       rw long (sym own)
-
-  pub yes-whole : wordsMost ≤ length w → w ≡ words (timetableOf w) ++ drop (length (words (timetableOf w))) w
-  yes-whole h =
-      sym (take-append-drop (length (words (timetableOf w))) w)
-      ∙ ap (λ r. r ++ drop (length (words (timetableOf w))) w) (yes-begins h)

@@ -1,5 +1,6 @@
 -- Question 9: "Could the timetable words come from an accepted text?" The test isTimetable has a yes exactly for the
--- words that do, and what reading wrote, with number 0, always has its yes.
+-- words that do, and what reading wrote, with number 0, always has its yes. This is for a reader, as `question9`,
+-- `read-comes`, `read-again` and `zero-has-yes` say it.
 use mathlib.Core.Path.{_≡_, refl, sym, ap, subst, _∙_}
 use mathlib.Core.Bool.{Bool, true, false, cond, _&&_}
 use mathlib.Core.Logic.{_↔_}
@@ -25,7 +26,6 @@ use Rattle.reading.specs.Reading.{Outcome, Accepted, Refused, ended, readBy, re
 use Rattle.reading.specs.Reading.{reading}
 use Rattle.reading.specs.Reading.{slicesLeast, replyTo, readReply, readWords, numberOf}
 use Rattle.accepted.specs.Lists.{both, Below}
-use Rattle.accepted.specs.Valid.{Valid, is-valid}
 use Rattle.accepted.specs.Passes.{read-more}
 use Rattle.accepted.specs.WrittenOut.{linesOf, textOf}
 use Rattle.accepted.specs.TextReadBack.{text-bytes, text-short}
@@ -79,10 +79,6 @@ comes-yes w c =
 -- ---- the theorem
 pub question9 : (w : List ℕ) → slicesLeast ≤ length w → isTimetable w ≡ true ↔ ComesFromText w
 question9 w h = (yes-comes w h, comes-yes w)
-
--- what callers go by: words with a yes spell a timetable within its bounds
-pub yes-bounds : (w : List ℕ) → isTimetable w ≡ true → Valid (timetableOf w)
-yes-bounds w y = is-valid (timetableOf w) (yes-valid w y)
 
 -- ---- what reading wrote, with number 0
 module _ (text : List ℕ) (t : Timetable) (n : ℕ) (e : reading text ≡ Accepted t n) where

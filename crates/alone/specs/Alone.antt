@@ -1,5 +1,6 @@
 -- Question 10 for line tables lent without a timetable: "could they come from an accepted timetable?" The test areSome
--- has a yes exactly for the words that do, and what building wrote, with number 0, always has its yes.
+-- has a yes exactly for the words that do, and what building wrote, with number 0, always has its yes. This is for a
+-- reader, as `question10-alone`, `building-has-yes-alone` and `building-asked-alone` say it.
 use mathlib.Core.Path.{_≡_, refl, sym, ap, subst, _∙_}
 use mathlib.Core.Bool.{Bool, true, _&&_}
 use mathlib.Core.Logic.{_↔_}

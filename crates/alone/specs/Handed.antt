@@ -159,11 +159,3 @@ module _ (v : List ℕ) (n line : ℕ) (granted : pieceNumber v n line ≡ 0) wh
       rw (eq-eqb (pieceNumber v n line) 0 granted)
       (numbers-are v k t (line - 1) h (omega (arith, line-least, line-most)))
       ∙ sym (List·getD-map (map suc) (lines t) (line - 1) [])
-
-  -- the same for the timetable that the tables tell
-  pub handed-out : piece v n line ≡ map suc (getD (lines ((drawn v) .trips)) (line - 1) [])
-  unfolding piece pieceStart pieceLength
-  handed-out =
-      rw (eq-eqb (pieceNumber v n line) 0 granted)
-      (numbers-are v (length ((drawn v) .stations)) ((drawn v) .trips) (line - 1) held
-      (omega (arith, line-least, line-most)))

@@ -60,6 +60,7 @@ module _ (w v : List ℕ) where
       go false [] some e f = absurd (omega (arith, ap length (some .2)))
       go false (p ∷ l) some e f = f ∙ ap (λ k. piecesPrinted w v (k ∷ l)) (append-snoc kept b p)
 
+  -- for a reader: byte by byte, the input prints what its lines print
   pub all-printed : (input : List ℕ) → printedFrom [] input ≡ allPrinted w v input
   unfolding allPrinted
   all-printed input = from-pieces input [] ∙ ap (piecesPrinted w v) (ahead-none (pieces 10 input))

@@ -48,7 +48,7 @@ textTables text w old space = readTables (readReply text 16384) w old space
 unfoldable pub printedNumber : (asked made answers : ℕ) → ℕ
 printedNumber asked made answers = cond (eqb asked 0) (cond (eqb made 0) answers made) asked
 
--- this order: a query's own 11 or 12 is printed whatever the other two calls return;
+-- For a reader, this order: a query's own 11 or 12 is printed whatever the other two calls return;
 pub own-first : (asked made answers : ℕ) → (asked ≡ 0 → ⊥) → printedNumber asked made answers ≡ asked
 unfolding printedNumber
 own-first asked made answers some = rw (ne-eqb asked 0 some)

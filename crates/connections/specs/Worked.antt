@@ -1,4 +1,5 @@
--- Timetable M of document 01 and its queries, and the places where planners slip, each as rows that are computed.
+-- Timetable M of document 01 and its queries, and the places where planners slip, each as rows that are computed. For a
+-- reader.
 use mathlib.Core.Path.{_≡_, refl}
 use mathlib.Core.List.{List, [], _∷_}
 use Prim.Native.Nat.{ℕ}

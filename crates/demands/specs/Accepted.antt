@@ -34,7 +34,7 @@ loaded text t n e =
       spelled = read-spells text t n e;
     }
 
--- the same for a caller, who has the reply and the words: all of it holds of the timetable that the words spell
+-- for a reader: a caller has the reply and the words, and all of it holds of the timetable that the words spell
 pub read-loaded : (text old : List ℕ) → numberOf (readReply text (length old)) ≡ 0
     → Loaded text (timetableOf (readWords text old))
 read-loaded text old e =

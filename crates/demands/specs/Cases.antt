@@ -1,5 +1,5 @@
 -- Document 01: "Cases a to k stand together under one theorem about the definitions." Here they are, on timetable M, a
--- part for each; M is the timetable that its text is read to.
+-- part for each; M is the timetable that its text is read to. For a reader.
 use mathlib.Core.Path.{_≡_, _∙_}
 use mathlib.Core.Bool.{true}
 use mathlib.Core.List.{List, [], _∷_, _++_}

@@ -130,9 +130,6 @@ module _
         Memᴰ·cast (sym same) (Memᴰ·map direct
         (first-read-in v n t told a u b some inside (listed .0) (listed .1) i x y (first i x) by refl))
 
-    pub first-read : (c : Connection) → c ∈ map direct (firstRead v a u b) ↔ c ∈ firstRides (timetable .trips) a u b
-    first-read c = (first-to c, first-back c)
-
     -- ---- all rides read are the direct rides
     all-to : (c : Connection) → c ∈ map direct (allRead v a u b) → c ∈ directs (net timetable) a u b
     all-to c m =

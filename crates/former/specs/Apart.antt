@@ -1,5 +1,5 @@
 -- What is different: no stop line has a shape in both forms. At stop 1 the departure, at every other stop the arrival
--- is a time, and no field is a time in both forms. So a plain minute gives 2 now, as `hh:mm` did then.
+-- is a time, and no field is a time in both forms. So a plain minute gives 2 now, as `hh:mm` did then. For a reader.
 use mathlib.Core.Path.{_≡_, refl}
 use mathlib.Core.Bool.{Bool, true, false, cond, _&&_, false≢true}
 use mathlib.Core.List.{List}

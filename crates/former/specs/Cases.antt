@@ -1,4 +1,5 @@
 -- The old equivalent of M is the text that document 01 has, and it was read to the same timetable; by computation.
+-- For a reader.
 use mathlib.Core.Path.{_≡_, refl, sym, _∙_}
 use mathlib.Core.List.{List, _++_}
 use Prim.Native.Nat.{ℕ}

@@ -1,4 +1,4 @@
--- The lines of timetable M in the arrays: line 1 has trip 1, line 2 has trips 3 and 2.
+-- The lines of timetable M in the arrays: line 1 has trip 1, line 2 has trips 3 and 2. For a reader.
 use mathlib.Core.Path.{_≡_, refl}
 use mathlib.Core.List.{[], _∷_}
 use Rattle.timetable.specs.Worked.{variant, M}

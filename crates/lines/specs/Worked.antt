@@ -1,4 +1,4 @@
--- The lines of timetable M: trips 3 and 2 share one, and part where one would overtake the other.
+-- The lines of timetable M: trips 3 and 2 share one, and part where one would overtake the other. For a reader.
 use mathlib.Core.Path.{_≡_, refl}
 use mathlib.Core.List.{[], _∷_}
 use lib.ListN.{length}

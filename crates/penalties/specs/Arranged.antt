@@ -1,10 +1,9 @@
 -- What the pass goes by: the departures in their order, and for each arrival the departure that it catches.
-use mathlib.Core.Path.{_≡_, ap}
+use mathlib.Core.Path.{_≡_}
 use mathlib.Core.Bool.{true}
 use mathlib.Core.List.{List}
-use Prim.Native.Nat.{ℕ, suc, _≤_}
-use native.Mathlib.Omega.{arith}
-use lib.ListN.{length, getD, take, length-take}
+use Prim.Native.Nat.{ℕ, suc}
+use lib.ListN.{length, getD, take}
 use Rattle.timetable.specs.Words.{isTimetable}
 use Rattle.stopwise.specs.Stopwise.{Goes}
 use Rattle.stopwise.specs.Settled.{Timely}
@@ -21,7 +20,3 @@ pub record Arranged (w listed caught : List ℕ) : Type 0 where
   pub ordered : InOrder w
   pub departs : take (length (departures w)) listed ≡ departures w
   pub catches : (i : ℕ) → Goes w i → getD caught (suc i) 0 ≡ catch w (suc i)
-
--- where the departures are the first n
-pub counted : (w listed : List ℕ) (n : ℕ) → n ≤ length listed → take n listed ≡ departures w → n ≡ length (departures w)
-counted w listed n h e = omega (arith, ap length e, length-take n listed)

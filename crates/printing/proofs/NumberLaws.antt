@@ -28,9 +28,6 @@ module _ (old : List ℕ) (at n : ℕ) (room : at + length (spelled n) ≤ lengt
     pub more-room : at + length (spelled (n / 10)) ≤ length old
     more-room = omega (arith, more-long)
 
-    pub falls : n / 10 < n
-    falls = omega arith
-
     module _ (end : ℕ) (mid : List ℕ) (to : end ≡ at + length (spelled (n / 10)))
         (words : mid ≡ put at (spelled (n / 10)) old) (kept : length mid ≡ length old)
       where

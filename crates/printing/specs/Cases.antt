@@ -1,4 +1,5 @@
--- A worked case: the seven lines that document 01, "A whole listing", shows for timetable M, byte by byte.
+-- A worked case: the seven lines that document 01, "A whole listing", shows for timetable M, byte by byte. For a
+-- reader.
 use mathlib.Core.Path.{_≡_, refl, ap}
 use mathlib.Core.List.{List, [], _∷_, _++_}
 use Prim.Native.Nat.{ℕ}

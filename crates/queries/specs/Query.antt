@@ -2,7 +2,7 @@
 -- line of the input is misshapen". Lines are taken here without their line ends.
 use mathlib.Core.Path.{_≡_}
 use mathlib.Core.Bool.{false, cond, _&&_}
-use mathlib.Core.List.{List, [], _∷_}
+use mathlib.Core.List.{List, _∷_}
 use Prim.Native.Nat.{ℕ}
 use native.Mathlib.Omega.{arith}
 use borrow.Author.Tests.{ne-eqb}
@@ -17,10 +17,6 @@ use Rattle.queries.specs.declared.Input.the-variants.{Asked, Misshapen}
 abbrev pub inputNumber : Input → ℕ
 inputNumber (Asked query) = 0
 inputNumber Misshapen = 2
-
-abbrev pub inputValues : Input → List ℕ
-inputValues (Asked query) = query .from ∷ query .to ∷ query .minute ∷ []
-inputValues Misshapen = []
 
 -- from the values of the three fields behind the Q
 unfoldable pub askedOf : (from to minute : ℕ) → Input

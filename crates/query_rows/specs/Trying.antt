@@ -61,9 +61,6 @@ module _ (f : Winner) (tried : List ℕ) (x : Winner) (shown : List ℕ) where
   wins-none h = rw (not-true (f .found) h)
 
   module _ (some : not (f .found) ≡ false) where
-    pub is-found : f .found ≡ true
-    is-found = not-false (f .found) some
-
     pub wins-first : not (x .found) ≡ true → true ≡ winsTest f tried x shown
     unfolding winsTest
     wins-first h = rw (not-false (f .found) some, not-true (x .found) h)

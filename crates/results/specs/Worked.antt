@@ -1,5 +1,5 @@
 -- Domination on a few costs: a cost that is equal in one part and smaller in the other dominates; one that is larger in
--- a part does not, nor does an equal one.
+-- a part does not, nor does an equal one. For a reader.
 use mathlib.Core.Path.{_≡_, refl}
 use mathlib.Core.Bool.{true, false}
 use Prim.Native.Nat.{ℕ}

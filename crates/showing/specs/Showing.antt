@@ -1,7 +1,7 @@
 -- The connection of one stored pattern that is shown for a row. Of the connections of the pattern that arrive by the
 -- row's minute and cost its points at the most, "the one shown departs latest. Then it has fewest rides. Then its rides
 -- (trip, boarding stop, alighting stop) come first, compared number by number."
-use mathlib.Core.Path.{_≡_, subst}
+use mathlib.Core.Path.{_≡_}
 use mathlib.Core.Bool.{Bool, true, false}
 use mathlib.Core.List.{List}
 use Prim.Native.Nat.{ℕ, _-_, _*_, _≤_, _<_}
@@ -54,20 +54,3 @@ module _ (timetable : Timetable) (b v : ℕ) where
 unfoldable pub FoundAt : (w path : List ℕ) (r v a t p : ℕ) (f : First) (rides : List ℕ) → Type 0
 FoundAt w path r v a t p f rides =
     Found (timetableOf w) (getD path (r - 1) 0) v (f .found) (take r path) a t p (take (3 * r) rides) (f .depart)
-
-module _ (w path : List ℕ) (r v a t p : ℕ) (f : First) (rides : List ℕ) (found : FoundAt w path r v a t p f rides) where
-  abbrev b : ℕ
-  b = getD path (r - 1) 0
-
-  abbrev Is : Bool → Type 0
-  Is y = Found (timetableOf w) b v y (take r path) a t p (take (3 * r) rides) (f .depart)
-
-  pub found-shown : f .found ≡ true
-      → Shown (timetableOf w) (getD path (r - 1) 0) v (take r path) a t p (take (3 * r) rides) (f .depart)
-  unfolding FoundAt
-  found-shown e = subst Is e found
-
-  pub found-none : f .found ≡ false
-      → (e : Connection) → ¬ Fitting (timetableOf w) (getD path (r - 1) 0) v (take r path) a t p e
-  unfolding FoundAt
-  found-none e = subst Is e found

@@ -13,7 +13,6 @@ use Rattle.lists.specs.Lists.{_∈_, Distinct}
 use Rattle.timetable.specs.Words.{stationCount, isTimetable}
 use Rattle.timetable.specs.Access.{stations-few}
 use Rattle.stopwise.specs.Stopwise.{station}
-use Rattle.stopwise.specs.Settled.{Timely}
 use Rattle.stopwise.specs.TimelyLaws.{timely}
 use Rattle.chains.specs.Order.{beginOf, order, chain, arrivals, stationKeys, byKey}
 use Rattle.chains.specs.Keys.{Begins}
@@ -56,9 +55,6 @@ module _ (w listed : List ℕ) (n : ℕ) (caught : List ℕ) (r : Routes w liste
 
   pub accepted : isTimetable w ≡ true
   accepted = r .accepted
-
-  pub in-time : Timely w
-  in-time = r .timely
 
   pub counted-order : n ≡ length (order w)
   counted-order = omega (arith, r .within, ap length (r .departing), length-take n listed)

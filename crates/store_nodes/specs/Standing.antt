@@ -128,9 +128,6 @@ module _ (w : List ℕ) (yes : isTimetable w ≡ true) (a : ℕ) (some : 1 ≤ a
       v
       (s .on)
 
-  pub node-inside : v < length work
-  node-inside = node-rooted .inside
-
   way : pathTo work v ≡ node
   way =
       path-is (sequences w a) (stationCount w) (made w yes a some inside) a work (s .targets) (s .n) (s .m) (s .lo)

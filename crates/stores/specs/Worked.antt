@@ -1,5 +1,5 @@
 -- The stores of timetable M, computed from all 2,880 minutes, and a query from a store with a sequence struck. A store
--- with ties, and what question 13 says of a few words.
+-- with ties, and what question 13 says of a few words. For a reader.
 use mathlib.Core.Path.{_≡_, refl}
 use mathlib.Core.Bool.{true, false}
 use mathlib.Core.List.{List, [], _∷_, _++_}

@@ -54,15 +54,6 @@ module _
         omega arith
 
 -- ---- the first piece and the rest
-pub piece-within : (mark : ℕ) (s : List ℕ) → pieceLength mark s ≤ length s
-unfolding pieceLength
-piece-within mark [] = omega arith
-piece-within mark (b ∷ s) = by-test (eqb b mark) (piece-within mark s)
-  where
-    by-test : (t : Bool) → pieceLength mark s ≤ length s → cond t 0 (suc (pieceLength mark s)) ≤ suc (length s)
-    by-test true h = omega arith
-    by-test false h = omega arith
-
 pub last-piece : (mark : ℕ) (s : List ℕ) → pieceLength mark s ≡ length s → pieces mark s ≡ s ∷ []
 unfolding pieces pieceLength
 last-piece mark [] e = refl

@@ -1,7 +1,7 @@
 -- Document 01: "Cases a to k stand together under one theorem about the definitions." Here they are as replies and
 -- words of the calls: from the bytes of a text to the words of an answer, in slices of any length that suffices, with
 -- any words in them before. The theorem is `cases` in CaseProofs.antt. demands/specs/Cases.antt has the same cases as
--- lists, rows and stores. Night.antt has a timetable whose values are unlike each other.
+-- lists, rows and stores. Night.antt has a timetable whose values are unlike each other. Both are for a reader.
 use mathlib.Core.Path.{_≡_}
 use mathlib.Core.Bool.{true}
 use mathlib.Core.List.{List, [], _∷_, _++_}
