@@ -8,10 +8,10 @@ use lib.Dec.{eqb}
 use lib.ListN.{length}
 use native.Mathlib.Omega.{arith}
 use borrow.Author.Tests.{eqb-true}
+use Rattle.lists.specs.Tests.{and-left, and-right}
 use Rattle.text.specs.Number.{decimal, digitValue}
 use Rattle.text.specs.Time.{pairValue, isTime, minuteOf, timeValue}
 use Rattle.timetable.specs.Timetable.{lastMinute}
-use Rattle.accepted.specs.Lists.{and-left, and-right}
 use Rattle.accepted.specs.Marks.{above}
 use Rattle.accepted.specs.Digits.{allBelow, allBelow-at}
 

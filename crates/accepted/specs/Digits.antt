@@ -8,8 +8,8 @@ use lib.Dec.{leb, ltb, eqb}
 use lib.ListN.{length}
 use native.Mathlib.Omega.{arith}
 use borrow.Author.Tests.{leb-true, lt-ltb, eqb-true, eqb-false}
+use Rattle.lists.specs.Tests.{and-left, and-right}
 use Rattle.text.specs.Number.{fieldValue, decimal, digitValue}
-use Rattle.accepted.specs.Lists.{and-left, and-right}
 use Rattle.accepted.specs.Marks.{above}
 
 -- the digits of n, as many as fuel allows, in front of the bytes s

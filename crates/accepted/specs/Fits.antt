@@ -7,8 +7,8 @@ use native.Mathlib.Omega.{arith}
 use Rattle.timetable.specs.Timetable.{stationsMost, tripsMost, stopsMost, Timetable}
 use Rattle.timetable.specs.Timetable.{stopsOf, valid}
 use Rattle.timetable.specs.Words.{words}
+use Rattle.timetable.specs.WordLaws.{length-stationWords, length-stopWords, length-startWords}
 use Rattle.accepted.specs.Valid.{is-valid}
-use Rattle.accepted.specs.Spelled.{length-stationWords, length-stopWords, length-startWords}
 
 -- the words of so many stations, trips and stops
 abbrev pub wordsCount : (stations trips stops : ℕ) → ℕ

@@ -7,8 +7,9 @@ use Prim.Native.Nat.{ℕ, _≤_, _<_}
 use lib.Dec.{ltb}
 use native.Mathlib.Omega.{arith}
 use borrow.Author.Tests.{ltb-true, lt-ltb, ne-eqb, eq-eqb}
+use Rattle.words.specs.Below.{Below, below-append}
+use Rattle.lists.specs.Tests.{and-left, and-right, and-both}
 use Rattle.text.specs.Piece.{pieces, joined}
-use Rattle.accepted.specs.Lists.{both, and-left, and-right, Below, below-append}
 
 -- each is a byte, and above the mark
 unfoldable pub above : ℕ → List ℕ → Bool
@@ -52,7 +53,7 @@ module _ (mark b : ℕ) (s : List ℕ) (e : above mark (b ∷ s) ≡ true) where
 
 above-more : (mark b : ℕ) (s : List ℕ) → mark < b → b < 256 → above mark s ≡ true → above mark (b ∷ s) ≡ true
 unfolding above
-above-more mark b s h g e = search (both, lt-ltb)
+above-more mark b s h g e = search (and-both, lt-ltb)
 
 pub above-append : (mark : ℕ) (s t : List ℕ) → above mark s ≡ true → above mark t ≡ true → above mark (s ++ t) ≡ true
 above-append mark [] t e f = f
@@ -68,6 +69,7 @@ above-lower low high (b ∷ s) h e =
     (above-lower low high s h (above-rest high b s e))
 
 above-bytes : (mark : ℕ) (s : List ℕ) → above mark s ≡ true → Below 256 s
+unfolding Below
 above-bytes mark [] e = tt
 above-bytes mark (b ∷ s) e = (byte-first mark b s e, above-bytes mark s (above-rest mark b s e))
 
@@ -76,7 +78,7 @@ pub allAbove-append : (mark : ℕ) (l m : List (List ℕ)) → allAbove mark l �
 unfolding allAbove
 allAbove-append mark [] m e f = f
 allAbove-append mark (s ∷ l) m e f =
-    both (above mark s) (allAbove mark (l ++ m)) (and-left (above mark s) (allAbove mark l) e)
+    and-both (above mark s) (allAbove mark (l ++ m)) (and-left (above mark s) (allAbove mark l) e)
     (allAbove-append mark l m (and-right (above mark s) (allAbove mark l) e) f)
 
 -- commas stand above 10, and so does a line whose fields do
@@ -123,7 +125,7 @@ piece-before mark [] t free = rw (eq-eqb mark mark refl)
 piece-before mark (b ∷ s) t free = rw (ne-eqb b mark (free .0)) (ap (joined b) (piece-before mark s t (free .1)))
 
 pub bytes-lined : (l : List (List ℕ)) → allAbove 10 l ≡ true → Below 256 (lined l)
-unfolding allAbove lined
+unfolding allAbove lined Below
 bytes-lined [] e = tt
 bytes-lined (s ∷ l) e =
     below-append 256 s (10 ∷ lined l) (above-bytes 10 s (and-left (above 10 s) (allAbove 10 l) e))

@@ -12,19 +12,18 @@ use native.Mathlib.Numerals.{add-one}
 use native.Mathlib.Omega.{arith}
 use borrow.Author.Tests.{leb-true, eqb-true}
 use Rattle.lists.specs.Lists.{range}
-use Rattle.timetable.specs.Timetable.{stopsOf, valid}
+use Rattle.lists.specs.Ranges.{length-range}
+use Rattle.lists.specs.Tests.{and-left, and-right}
+use Rattle.timetable.specs.Timetable.{stopsOf}
 use Rattle.timetable.specs.Words.{stationWords, stopWords, startWords, words, stationCount, tripCount}
 use Rattle.timetable.specs.Words.{stopCount, stationAt, stopPlace, stopAt, startAt, tripAt, timetableOf, rise, chained}
 use Rattle.timetable.specs.Words.{isTimetable}
-use Rattle.accepted.specs.Lists.{and-left, and-right}
+use Rattle.timetable.specs.Check.{rise-most}
+use Rattle.timetable.specs.Access.{spelled-valid, is-chained}
 use Rattle.accepted.specs.Valid.{is-valid}
 use Rattle.accepted.specs.Fits.{wordsCount, wordsMost}
 
 -- ---- runs of numbers
-length-range : (k n : ℕ) → length (range k n) ≡ n
-length-range k zero = refl
-length-range k (suc n) = ap suc (length-range (suc k) n)
-
 pub range-append : (k m n : ℕ) → range k m ++ range (k + m) n ≡ range k (m + n)
 range-append k zero n = rw (add-zero k, zero-add n)
 range-append k (suc m) n =
@@ -51,10 +50,6 @@ module _ (a b : ℕ) (l : List ℕ) (n : ℕ) (e : rise a (b ∷ l) n ≡ true) 
   rise-on : rise b l n ≡ true
   unfolding rise
   rise-on = and-right (leb a b) (rise b l n) e
-
-rise-within : (a : ℕ) (l : List ℕ) (n : ℕ) → rise a l n ≡ true → a ≤ n
-rise-within a [] n e = omega (arith, rise-none a n e)
-rise-within a (b ∷ l) n e = omega (arith, rise-up a b l n e, rise-within b l n (rise-on a b l n e))
 
 -- ---- the words from i on begin with word i
 take-one : (w : List ℕ) (i n : ℕ) → i < length w → take (suc n) (drop i w) ≡ getD w i 0 ∷ take n (drop (i + 1) w)
@@ -112,7 +107,7 @@ module _ (w : List ℕ) where
       let b = startAt w (suc j) in
       let on = rise-on a b (map (startAt w) (range (suc (suc j)) n)) (stopCount w) e in
       let up = rise-up a b (map (startAt w) (range (suc (suc j)) n)) (stopCount w) e in
-      let within = rise-within b (map (startAt w) (range (suc (suc j)) n)) (stopCount w) on in
+      let within = rise-most b (map (startAt w) (range (suc (suc j)) n)) (stopCount w) on in
       rw (
         trip-between j,
         stops-chained (suc j) n on,
@@ -213,23 +208,15 @@ module _ (w : List ℕ) (c : chained w ≡ true) where
 
 -- words that have their yes, and are enough, begin with those of the timetable that they spell
 module _ (w : List ℕ) (y : isTimetable w ≡ true) where
-  pub yes-valid : valid (timetableOf w) ≡ true
-  unfolding isTimetable
-  yes-valid = and-right (chained w) (valid (timetableOf w)) y
-
-  yes-chained : chained w ≡ true
-  unfolding isTimetable
-  yes-chained = and-left (chained w) (valid (timetableOf w)) y
-
   yes-fits : wordsCount (stationCount w) (tripCount w) (stopCount w) ≤ wordsMost
   yes-fits =
-      let v = is-valid (timetableOf w) yes-valid in
-      omega (arith, station-count w yes-chained, trip-count w yes-chained, stop-count w yes-chained)
+      let v = is-valid (timetableOf w) (spelled-valid w y) in
+      omega (arith, station-count w (is-chained w y), trip-count w (is-chained w y), stop-count w (is-chained w y))
 
   pub yes-begins : wordsMost ≤ length w → take (length (words (timetableOf w))) w ≡ words (timetableOf w)
   yes-begins h =
       let count : ℕ = wordsCount (stationCount w) (tripCount w) (stopCount w) in
-      let own : words (timetableOf w) ≡ take count w = own-words w yes-chained (omega (arith, yes-fits)) in
+      let own : words (timetableOf w) ≡ take count w = own-words w (is-chained w y) (omega (arith, yes-fits)) in
       let long : length (words (timetableOf w)) ≡ count =
       ap length own ∙ length-take-le count w (omega (arith, yes-fits)) in
       rw long (sym own)

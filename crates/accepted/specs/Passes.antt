@@ -6,6 +6,7 @@ use Prim.Native.Nat.{ℕ, suc, _+_, _≤_, _<_}
 use lib.Dec.{leb, ltb, eqb, leb·zero}
 use native.Mathlib.Omega.{arith}
 use borrow.Author.Tests.{not-true, leb-true, ltb-true, eqb-true, le-leb, lt-ltb, eq-eqb, ne-eqb}
+use Rattle.lists.specs.Tests.{and-left, and-right, or-right, or-other}
 use Rattle.text.specs.Range.{inRange}
 use Rattle.text.specs.Shape.{shapeBy}
 use Rattle.text.specs.declared.StationLine.{StationLine}
@@ -15,7 +16,6 @@ use Rattle.reading.specs.Draft.{Draft, withLine}
 use Rattle.reading.specs.Progress.{progress, stationNumberAt, stopFitsAt, stopNumberAt, lineNumberAt, same-number}
 use Rattle.reading.specs.Reading.{Refused, readBy}
 use Rattle.reading.specs.declared.Progress.{Progress}
-use Rattle.accepted.specs.Lists.{or-right, or-other, and-left, and-right}
 
 -- "In range? 3. In place: .. ? 4. Within the three counts? 5"
 pub record StationPasses (p : Progress) (l : StationLine) : Type 0 where

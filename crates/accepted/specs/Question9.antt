@@ -13,11 +13,14 @@ use native.Mathlib.Nat.{zero-add}
 use native.Mathlib.Omega.{arith}
 use borrow.Author.Tests.{leb-true, le-leb}
 use Rattle.words.specs.Put.{put}
+use Rattle.words.specs.Below.{Below}
+use Rattle.lists.specs.Tests.{and-both}
 use Rattle.text.specs.Piece.{pieces}
 use Rattle.text.specs.Time.{timeValue}
 use Rattle.text.specs.Shape.{shapeOf}
 use Rattle.timetable.specs.Timetable.{Timetable, valid}
 use Rattle.timetable.specs.Words.{words, timetableOf, isTimetable}
+use Rattle.timetable.specs.Access.{spelled-valid}
 use Rattle.reading.specs.declared.Reply.{Reply}
 use Rattle.reading.specs.declared.Reply.the-variants.{Refused as ReplyRefused}
 use Rattle.reading.specs.Draft.{Draft, blank, withLine}
@@ -25,14 +28,13 @@ use Rattle.reading.specs.Progress.{progress, lineNumberAt}
 use Rattle.reading.specs.Reading.{Outcome, Accepted, Refused, ended, readBy, readFrom, textMost, readLines}
 use Rattle.reading.specs.Reading.{reading}
 use Rattle.reading.specs.Reading.{slicesLeast, replyTo, readReply, readWords, numberOf}
-use Rattle.accepted.specs.Lists.{both, Below}
 use Rattle.accepted.specs.Passes.{read-more}
 use Rattle.accepted.specs.WrittenOut.{linesOf, textOf}
 use Rattle.accepted.specs.TextReadBack.{text-bytes, text-short}
 use Rattle.accepted.specs.Taken.{valid-accepted}
 use Rattle.accepted.specs.Sound.{accepted-valid, accepted-short}
 use Rattle.accepted.specs.Spelled.{words-spell, words-chained}
-use Rattle.accepted.specs.OwnWords.{yes-valid, yes-begins}
+use Rattle.accepted.specs.OwnWords.{yes-begins}
 
 -- Some text of at most 65,536 bytes is accepted by reading, and the words w begin with those of its timetable: "no
 -- question judges the words past a table".
@@ -48,7 +50,7 @@ pub record ComesFromText (w : List ℕ) : Type 0 where
 -- ---- from the test to a text: the text written out from the timetable that the words spell
 yes-comes : (w : List ℕ) → slicesLeast ≤ length w → isTimetable w ≡ true → ComesFromText w
 yes-comes w h y =
-    let v = yes-valid w y in
+    let v = spelled-valid w y in
     record {
       text = textOf (timetableOf w);
       bytes = text-bytes (timetableOf w) v;
@@ -62,7 +64,7 @@ yes-comes w h y =
 -- ---- from a text to the test
 pub valid-yes : (t : Timetable) (rest : List ℕ) → valid t ≡ true → isTimetable (words t ++ rest) ≡ true
 unfolding isTimetable
-valid-yes t rest v = both _ _ (words-chained t rest) (rw (words-spell t rest) v)
+valid-yes t rest v = and-both _ _ (words-chained t rest) (rw (words-spell t rest) v)
 
 behind : (w : List ℕ) → ComesFromText w → List ℕ
 behind w c = drop (length (words (c .timetable))) w

@@ -7,10 +7,10 @@ use Prim.Native.Nat.{ℕ, _<_}
 use lib.Dec.{leb, eqb}
 use lib.ListN.{length}
 use native.Mathlib.Omega.{arith}
+use Rattle.lists.specs.Tests.{and-left, and-right, and-both}
 use Rattle.timetable.specs.Timetable.{Station, Stop, Trip, validStation, listed, leaves, ends, follows, runs, validTrip}
 use Rattle.timetable.specs.Timetable.{validStations, validTrips}
 use Rattle.reading.specs.Draft.{final}
-use Rattle.accepted.specs.Lists.{both, and-left, and-right}
 use Rattle.accepted.specs.Valid.{runs-one, runs-more}
 
 -- the stops after stop b, of a trip that has not ended
@@ -27,18 +27,18 @@ validSoFar n (b ∷ l) = listed n b && eqb (b .arrive) 0 && leaves b && runsSoFa
 pub stations-more : (l : List Station) (s : Station) → validStations l ≡ true → validStation s ≡ true
     → validStations (l ++ (s ∷ [])) ≡ true
 unfolding validStations
-stations-more [] s v w = both (validStation s) true w refl
+stations-more [] s v w = and-both (validStation s) true w refl
 stations-more (x ∷ l) s v w =
     let rest = stations-more l s (search (and-right)) w in
-    search (both, and-left)
+    search (and-both, and-left)
 
 pub trips-more : (n : ℕ) (l : List Trip) (t : Trip) → validTrips n l ≡ true → validTrip n t ≡ true
     → validTrips n (l ++ (t ∷ [])) ≡ true
 unfolding validTrips
-trips-more n [] t v w = both (validTrip n t) true w refl
+trips-more n [] t v w = and-both (validTrip n t) true w refl
 trips-more n (x ∷ l) t v w =
     let rest = trips-more n l t (search (and-right)) w in
-    search (both, and-left)
+    search (and-both, and-left)
 
 module _ (n : ℕ) (s : Stop) where
   runs-so-far : (b : Stop) (l : List Stop) → runsSoFar n b l ≡ true → follows n (final (b ∷ l)) s ≡ true
@@ -47,18 +47,18 @@ module _ (n : ℕ) (s : Stop) where
   runs-so-far b [] v f w g = simp (f, w, g)
   runs-so-far b (u ∷ l) v f w g =
       let rest : runsSoFar n u (l ++ (s ∷ [])) ≡ true = runs-so-far u l (search (and-right)) f w g in
-      search (both, and-left)
+      search (and-both, and-left)
 
   runs-to-end : (b : Stop) (l : List Stop) → runsSoFar n b l ≡ true → follows n (final (b ∷ l)) s ≡ true
       → ends s ≡ true → runs n b (l ++ (s ∷ [])) ≡ true
   unfolding runsSoFar
-  runs-to-end b [] v f e = rw (runs-one n b s) (search both)
+  runs-to-end b [] v f e = rw (runs-one n b s) (search and-both)
   runs-to-end b (u ∷ []) v f e =
       let rest = runs-to-end u [] refl f e in
-      rw (runs-more n b u s []) (search (both, and-left))
+      rw (runs-more n b u s []) (search (and-both, and-left))
   runs-to-end b (u ∷ x ∷ l) v f e =
       let rest = runs-to-end u (x ∷ l) (search (and-right)) f e in
-      rw (runs-more n b u x (l ++ (s ∷ []))) (search (both, and-left))
+      rw (runs-more n b u x (l ++ (s ∷ []))) (search (and-both, and-left))
 
   -- a trip that has begun goes on, or ends, with stop s
   pub trip-so-far : (t : Trip) → 0 < length t → validSoFar n t ≡ true → follows n (final t) s ≡ true
@@ -67,7 +67,7 @@ module _ (n : ℕ) (s : Stop) where
   trip-so-far [] h v f w g = absurd (omega arith)
   trip-so-far (b ∷ l) h v f w g =
       let rest = runs-so-far b l (search (and-right)) f w g in
-      search (both, and-left)
+      search (and-both, and-left)
 
   pub first-so-far : (t : Trip) → length t ≡ 0 → listed n s ≡ true → eqb (s .arrive) 0 ≡ true → leaves s ≡ true
       → validSoFar n (t ++ (s ∷ [])) ≡ true
@@ -81,4 +81,4 @@ module _ (n : ℕ) (s : Stop) where
   trip-to-end [] h v f e = absurd (omega arith)
   trip-to-end (b ∷ l) h v f e =
       let rest = runs-to-end b l (search (and-right)) f e in
-      search (both, and-left)
+      search (and-both, and-left)

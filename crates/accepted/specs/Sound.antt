@@ -10,6 +10,7 @@ use lib.ListN.{length, length-append}
 use native.Mathlib.Nat.{eq-zero-or-pos}
 use native.Mathlib.Omega.{arith}
 use borrow.Author.Tests.{leb-true, eqb-true, le-leb, lt-ltb, eq-eqb}
+use Rattle.lists.specs.Tests.{and-left, or-other}
 use Rattle.text.specs.Piece.{pieces}
 use Rattle.text.specs.Time.{timeValue}
 use Rattle.text.specs.Shape.{shapeBy}
@@ -20,13 +21,14 @@ use Rattle.text.specs.declared.StopLine.{StopLine}
 use Rattle.timetable.specs.Timetable.{stationsMost, tripsMost, stopsMost, lastMinute, Trip, Timetable, stopsOf}
 use Rattle.timetable.specs.Timetable.{validStation, listed, leaves, ends, follows, validTrip, validStations, validTrips}
 use Rattle.timetable.specs.Timetable.{counted, valid}
+use Rattle.timetable.specs.WordLaws.{stopsOf-append}
 use Rattle.reading.specs.Draft.{Draft, blank, final, stationOfLine, stopOfLine, withStop}
 use Rattle.reading.specs.Progress.{progress, lineNumberAt}
 use Rattle.reading.specs.Draft.{withLine}
 use Rattle.reading.specs.Reading.{textMost, Outcome, Accepted, Refused, ended, readBy, readFrom}
 use Rattle.reading.specs.Reading.{readLines, reading}
-use Rattle.accepted.specs.Lists.{snoc-length, and-left, or-other}
-use Rattle.accepted.specs.Valid.{trip-not-empty, stopsOf-append}
+use Rattle.accepted.specs.Lists.{snoc-length}
+use Rattle.accepted.specs.Valid.{trip-not-empty}
 use Rattle.accepted.specs.Passes.{StopPasses, station-passed, stop-passed, fits-least, fits-most, fits-after}
 use Rattle.accepted.specs.Passes.{read-more}
 use Rattle.accepted.specs.SoFar.{validSoFar, stations-more, trips-more, trip-so-far, first-so-far, trip-to-end}

@@ -11,32 +11,14 @@ use native.Mathlib.Numerals.{add-one}
 use native.Mathlib.Omega.{arith}
 use borrow.Author.Tests.{le-leb, eq-eqb}
 use Rattle.lists.specs.Lists.{range}
+use Rattle.lists.specs.Tests.{and-both}
 use Rattle.timetable.specs.Timetable.{Station, Stop, Trip, Timetable, stopsOf}
 use Rattle.timetable.specs.Words.{stationWords, stopWords, startWords, words, stopCount, stationAt}
 use Rattle.timetable.specs.Words.{stopPlace, stopAt, startAt, tripAt, timetableOf, rise, chained}
-use Rattle.accepted.specs.Lists.{both, head-at, past-at}
+use Rattle.timetable.specs.WordLaws.{length-stationWords, length-stopWords, stopWords-append}
+use Rattle.accepted.specs.Lists.{head-at, past-at}
 
 -- ---- how many words
-pub length-stationWords : (l : List Station) → length (stationWords l) ≡ 2 * length l
-unfolding stationWords
-length-stationWords [] = refl
-length-stationWords (s ∷ l) = omega (arith, length-stationWords l)
-
-pub length-stopWords : (l : List Stop) → length (stopWords l) ≡ 4 * length l
-unfolding stopWords
-length-stopWords [] = refl
-length-stopWords (s ∷ l) = omega (arith, length-stopWords l)
-
-pub length-startWords : (k : ℕ) (l : List Trip) → length (startWords k l) ≡ length l + 1
-unfolding startWords
-length-startWords k [] = refl
-length-startWords k (t ∷ l) = omega (arith, length-startWords (k + length t) l)
-
-pub stopWords-append : (a b : List Stop) → stopWords (a ++ b) ≡ stopWords a ++ stopWords b
-unfolding stopWords
-stopWords-append [] b = refl
-stopWords-append (s ∷ a) b = ap (λ r. s .station ∷ s .arrive ∷ s .depart ∷ s .points ∷ r) (stopWords-append a b)
-
 -- where the trips end
 laterStarts : ℕ → List Trip → List ℕ
 laterStarts k [] = []
@@ -175,7 +157,7 @@ rises k [] = eq-eqb k (k + 0) (omega arith)
 rises k (t ∷ l) =
     let all : k + length (t ++ stopsOf l) ≡ k + length t + length (stopsOf l) =
     omega (arith, length-append t (stopsOf l)) in
-    rw all (both _ _ (le-leb k (k + length t) (omega arith)) (rises (k + length t) l))
+    rw all (and-both _ _ (le-leb k (k + length t) (omega arith)) (rises (k + length t) l))
 
 module _ (t : Timetable) (rest : List ℕ) where
   from-later : drop (startsPlace (words t ++ rest) + 1) (words t ++ rest) ≡ laterStarts 0 (t .trips) ++ rest
@@ -197,6 +179,6 @@ module _ (t : Timetable) (rest : List ℕ) where
   pub words-chained : chained (words t ++ rest) ≡ true
   unfolding chained words
   words-chained =
-      both (eqb (startAt (words t ++ rest) 0) 0) _
+      and-both (eqb (startAt (words t ++ rest) 0) 0) _
       (eq-eqb (startAt (words t ++ rest) 0) 0 (first-start (words t ++ rest) 0 0 (t .trips) rest (from-starts t rest)))
       later-rises

@@ -10,18 +10,21 @@ use lib.Seq.{append-snoc}
 use native.Mathlib.Nat.{add-zero}
 use native.Mathlib.Omega.{arith}
 use borrow.Author.Tests.{le-leb}
+use Rattle.lists.specs.Tests.{and-left, and-right}
 use Rattle.text.specs.Time.{timeValue}
 use Rattle.text.specs.Shape.{shapeOf}
 use Rattle.text.specs.declared.Line.{Line}
 use Rattle.timetable.specs.Timetable.{stationsMost, tripsMost, stopsMost, lastMinute, Station, Stop, Trip, Timetable}
 use Rattle.timetable.specs.Timetable.{stopsOf, validStation, leaves, follows, runs, validTrip, validStations}
 use Rattle.timetable.specs.Timetable.{validTrips, valid}
+use Rattle.timetable.specs.WordLaws.{stopsOf-append}
 use Rattle.reading.specs.Draft.{Draft, blank, final, withLine}
 use Rattle.reading.specs.Progress.{progress, lineNumberAt}
 use Rattle.reading.specs.Reading.{textMost, Accepted, ended, readBy, readFrom, readLines, reading}
-use Rattle.accepted.specs.Lists.{snoc-length, and-left, and-right}
+use Rattle.reading.proofs.DraftLaws.{final-append}
+use Rattle.accepted.specs.Lists.{snoc-length}
 use Rattle.accepted.specs.Valid.{valid-station, is-listed, it-leaves, it-ends, it-follows, is-valid, runs-none}
-use Rattle.accepted.specs.Valid.{runs-last, runs-on, begins, trip-not-empty, stopsOf-append}
+use Rattle.accepted.specs.Valid.{runs-last, runs-on, begins, trip-not-empty}
 use Rattle.accepted.specs.Passes.{station-passes, stop-passes, first-fits, later-fits, read-more}
 use Rattle.accepted.specs.WrittenOut.{linesOf, textOf}
 use Rattle.accepted.specs.LineReadBack.{stopRead}
@@ -82,11 +85,6 @@ stations-taken n done (s ∷ l) e v h =
     )
 
 -- ---- the stops of a trip
-final-snoc : (l : Trip) (s : Stop) → final (l ++ (s ∷ [])) ≡ s
-final-snoc [] s = refl
-final-snoc (b ∷ []) s = refl
-final-snoc (b ∷ u ∷ l) s = final-snoc (u ∷ l) s
-
 module _ (stations : List Station) (trips : List Trip) (trip : ℕ) (this : trip ≡ length trips + 1)
     (few : length trips < tripsMost) where
   -- stop s, which comes after those begun
@@ -127,7 +125,7 @@ module _ (stations : List Station) (trips : List Trip) (trip : ℕ) (this : trip
             (le-leb (s .arrive) (s .depart) (r .waits)),
         rw (← append-snoc begun s (u ∷ l))
             (later-taken (begun ++ (s ∷ [])) (k + 1) (u ∷ l) (omega arith) (omega arith) (omega arith)
-            (rw (final-snoc begun s) (r .on))),
+            (rw (final-append begun s) (r .on))),
       )
 
   trip-taken : (t : Trip) → length (stopsOf trips) + length t ≤ stopsMost → validTrip (length stations) t ≡ true

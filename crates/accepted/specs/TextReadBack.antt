@@ -1,11 +1,13 @@
 -- The text written out from a valid timetable falls into its lines again, and each reads back to what was written. It
 -- has at most 64 * 14 + 2,048 * 30 = 62,336 bytes.
 use mathlib.Core.Path.{_≡_, refl, _∙_}
-use mathlib.Core.Bool.{true, false}
+use mathlib.Core.Bool.{true, false, false≢true}
 use mathlib.Core.List.{List, [], _∷_, _++_, map, map-append}
 use Prim.Native.Nat.{ℕ, suc, _+_, _*_, _≤_, _<_}
 use lib.ListN.{length, length-append}
 use native.Mathlib.Omega.{arith}
+use Rattle.words.specs.Below.{Below}
+use Rattle.lists.specs.Tests.{and-left, and-right, and-both}
 use Rattle.text.specs.Piece.{pieces}
 use Rattle.text.specs.Shape.{shapeOf}
 use Rattle.text.specs.declared.Line.{Line}
@@ -15,7 +17,6 @@ use Rattle.timetable.specs.Timetable.{valid}
 use Rattle.reading.specs.Reading.{textMost}
 use Rattle.accepted.specs.Valid.{Begins, first-ranges, inner-ranges, last-ranges, it-ends, is-valid, runs-none}
 use Rattle.accepted.specs.Valid.{runs-last, runs-on, begins, trip-not-empty}
-use Rattle.accepted.specs.Lists.{Below, never, both, and-left, and-right}
 use Rattle.accepted.specs.Marks.{bytes-lined, pieces-lined, above, allAbove, lined, lined-append, allAbove-append}
 use Rattle.accepted.specs.WrittenOut.{stationLines, noneAfter, stopLines, tripLines, linesOf, textOf}
 use Rattle.accepted.specs.LineReadBack.{stationRead, stopRead, station-shape, station-above, station-short}
@@ -38,7 +39,7 @@ unfolding allAbove lined
 written-more s r lines read k most all e a h rest g =
     record {
       shapes = λ i. e i ∷ rest .shapes i;
-      plain = both (above 10 s) (allAbove 10 lines) a (rest .plain);
+      plain = and-both (above 10 s) (allAbove 10 lines) a (rest .plain);
       short = simp length-append (omega arith);
     }
 
@@ -110,8 +111,8 @@ module _ (n trip : ℕ) (few : n ≤ stationsMost) (in-trips : trip ≤ tripsMos
         stops = g;
         ranges = omega (arith, inner-ranges n b s f e);
         first = λ one. absurd (omega arith);
-        final = λ z. absurd (never z);
-        inner = λ z one. never z;
+        final = λ z. absurd (false≢true z);
+        inner = λ z one. false≢true z;
       }
 
   first-writable : (b : Stop) (l : List Stop) → Begins n b l → Writable trip 1 b false
@@ -121,8 +122,8 @@ module _ (n trip : ℕ) (few : n ≤ stationsMost) (in-trips : trip ≤ tripsMos
         stops = omega arith;
         ranges = omega (arith, first-ranges n b l v);
         first = λ _. v .arrive;
-        final = λ z. absurd (never z);
-        inner = λ z one. never z;
+        final = λ z. absurd (false≢true z);
+        inner = λ z one. false≢true z;
       }
 
   later-written : (k : ℕ) (b : Stop) (l : List Stop) → runs n b l ≡ true → 1 < k → k + length l ≤ stopsMost + 1

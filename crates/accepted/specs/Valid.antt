@@ -1,17 +1,17 @@
 -- What the tests of a valid timetable say, as facts: the ranges and counts that document 01 sets, and how the stops of
 -- a trip follow one another.
-use mathlib.Core.Path.{_≡_, refl, sym, ap, _∙_}
-use mathlib.Core.Bool.{true, false, _&&_}
-use mathlib.Core.List.{List, [], _∷_, _++_, append-assoc}
+use mathlib.Core.Path.{_≡_, refl, sym, _∙_}
+use mathlib.Core.Bool.{true, false, _&&_, false≢true}
+use mathlib.Core.List.{List, [], _∷_}
 use Prim.Native.Nat.{ℕ, _≤_, _<_}
 use lib.Dec.{leb, eqb}
 use lib.ListN.{length}
 use native.Mathlib.Omega.{arith}
 use borrow.Author.Tests.{leb-true, ltb-true, eqb-true, not-true}
-use Rattle.timetable.specs.Timetable.{Station, Stop, Trip, Timetable, stopsOf, stationsMost, tripsMost, stopsMost}
+use Rattle.lists.specs.Tests.{and-left, and-right}
+use Rattle.timetable.specs.Timetable.{Station, Stop, Timetable, stopsOf, stationsMost, tripsMost, stopsMost}
 use Rattle.timetable.specs.Timetable.{lastMinute, validStation, listed, leaves, ends, follows, runs, validTrip}
 use Rattle.timetable.specs.Timetable.{validStations, validTrips, counted, valid}
-use Rattle.accepted.specs.Lists.{never, and-left, and-right}
 
 -- ---- the facts
 pub record ValidStation (s : Station) : Type 0 where
@@ -92,7 +92,7 @@ is-valid t v = search (and-left, and-right, leb-true)
 -- ---- a trip, stop by stop
 pub runs-none : (n : ℕ) (b : Stop) → runs n b [] ≡ true → ⊥
 unfolding runs
-runs-none n b v = never v
+runs-none n b v = false≢true v
 
 pub runs-one : (n : ℕ) (b s : Stop) → runs n b (s ∷ []) ≡ (follows n b s && ends s)
 unfolding runs
@@ -118,7 +118,7 @@ begins n b l v = search (and-left, and-right, eqb-true)
 
 pub trip-not-empty : (n : ℕ) → validTrip n [] ≡ true → ⊥
 unfolding validTrip
-trip-not-empty n v = never v
+trip-not-empty n v = false≢true v
 
 -- ---- what every stop keeps to, wherever it stands in its trip
 pub record StopRanges (n : ℕ) (s : Stop) : Type 0 where
@@ -140,8 +140,3 @@ module _ (n : ℕ) (b s : Stop) (f : follows n b s ≡ true) where
   last-ranges e =
       let came = it-follows n b s f in
       omega (arith, is-listed n s (came .station), it-ends s e)
-
--- ---- the stops of all trips
-pub stopsOf-append : (a b : List Trip) → stopsOf (a ++ b) ≡ stopsOf a ++ stopsOf b
-stopsOf-append [] b = refl
-stopsOf-append (t ∷ a) b = ap (λ l. t ++ l) (stopsOf-append a b) ∙ sym (append-assoc t (stopsOf a) (stopsOf b))

@@ -8,9 +8,8 @@ use borrow.Author.Tests.{le-leb, lt-leb}
 use lib.Dec.{leb}
 use lib.ListN.{length, getD, length-append, length-map}
 use Rattle.lists.specs.Lists.{range}
+use Rattle.lists.specs.Ranges.{length-range, range-more, range-none}
 use Rattle.timetable.specs.Timetable.{stopsOf}
-use Rattle.timetable.specs.Check.{length-range}
-use Rattle.tables.proofs.TimesLaws.{range-more, range-none}
 use Rattle.lookup.specs.Lookup.{Line, lineAt}
 use Rattle.alone.specs.Drawn.{Home, homeOf, stopOn, tripOn, drawnTrip, drawnTrips, tripsFrom, countsFit}
 

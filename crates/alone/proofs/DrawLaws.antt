@@ -16,8 +16,8 @@ use lib.ListN.{
 }
 use Rattle.words.specs.Put.{put, put-append, put-one, put-next, put-over}
 use Rattle.lists.specs.Lists.{range}
+use Rattle.lists.specs.Ranges.{length-range}
 use Rattle.timetable.specs.Timetable.{Trip, stopsOf}
-use Rattle.timetable.specs.Check.{length-range}
 use Rattle.timetable.specs.Words.{stationWords, stopWords, startWords}
 use Rattle.timetable.specs.WordLaws.{
   length-stationWords,

@@ -8,11 +8,11 @@ use native.Mathlib.Omega.{arith}
 use borrow.Author.Tests.{le-leb, lt-leb, not-true, not-false}
 use lib.Dec.{leb}
 use lib.ListN.{length, getD, drop, replicate, length-map, length-replicate}
-use Rattle.questions.specs.Question.{and-false}
 use Rattle.words.specs.Put.{put, put-append}
 use Rattle.lists.specs.Lists.{range}
+use Rattle.lists.specs.Ranges.{length-range}
+use Rattle.lists.specs.Tests.{and-false}
 use Rattle.timetable.specs.Timetable.{Timetable, stopsOf, counted, valid}
-use Rattle.timetable.specs.Check.{length-range}
 use Rattle.timetable.specs.Words.{stationWords, stopWords, startWords, words, joined}
 use Rattle.timetable.specs.Words.{timetableOf, chained, isTimetable}
 use Rattle.timetable.specs.WordLaws.{length-stationWords, joined-words}

@@ -9,12 +9,12 @@ use Prim.Native.Nat.{ℕ, zero, suc, _+_, _≤_, _<_}
 use native.Mathlib.Omega.{arith}
 use borrow.Author.Tests.{le-leb}
 use lib.ListN.{length, getD, replicate, length-append, length-replicate}
-use Rattle.questions.specs.Question.{and-left, and-right}
+use Rattle.words.specs.Below.{Below}
+use Rattle.lists.specs.Tests.{and-left, and-right}
 use Rattle.timetable.specs.Timetable.{Timetable, Trip, validStation, validStations, validTrips, counted, valid}
 use Rattle.timetable.specs.Words.{timetableOf}
 use Rattle.timetable.specs.Access.{spelled-valid}
 use Rattle.reading.specs.Reading.{Accepted, reading, textMost}
-use Rattle.accepted.specs.Lists.{Below}
 use Rattle.accepted.specs.Valid.{is-valid}
 use Rattle.accepted.specs.WrittenOut.{linesOf, textOf}
 use Rattle.accepted.specs.TextReadBack.{text-bytes, text-short}

@@ -9,7 +9,8 @@ use borrow.Author.Tests.{leb-true, eq-eqb}
 use lib.Dec.{leb}
 use lib.ListN.{length, getD, take, drop, length-map, length-append, List·getD-map}
 use lib.Seq.{take-at, drop-at, take-all, getD-take}
-use Rattle.questions.specs.Question.{ask, firstNo, and-left, and-right}
+use Rattle.questions.specs.Question.{ask, firstNo}
+use Rattle.lists.specs.Tests.{and-left, and-right}
 use Rattle.timetable.specs.Timetable.{Trip}
 use Rattle.timetable.specs.Words.{words}
 use Rattle.lines.specs.Lines.{lines, lineNumbers, course}

@@ -6,7 +6,8 @@ use Prim.Native.Nat.{ℕ, zero, suc, _≤_, _<_}
 use borrow.Author.Tests.{le-leb, lt-leb, leb-true, not-true, not-false}
 use lib.Dec.{leb, eqb}
 use lib.ListN.{length, getD}
-use Rattle.questions.specs.Question.{Question, ask, firstNo, yes-here, and-left}
+use Rattle.questions.specs.Question.{Question, ask, firstNo, yes-here}
+use Rattle.lists.specs.Tests.{and-left}
 use Rattle.replies.specs.Later.{asked-on, asked-out}
 use Rattle.timetable.specs.Timetable.{lastMinute}
 use Rattle.timetable.specs.Words.{timetableOf, isTimetable}

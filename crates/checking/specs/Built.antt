@@ -10,10 +10,10 @@ use native.Mathlib.Omega.{arith}
 use borrow.Author.Tests.{leb-true}
 use lib.Dec.{T, leb}
 use lib.ListN.{length, take}
-use Rattle.lists.specs.Tests.{T-true}
+use Rattle.lists.specs.Tests.{T-true, and-left, and-right}
 use Rattle.lists.specs.Members.{same-eq, same-refl}
 use Rattle.lists.specs.Lists.{same}
-use Rattle.questions.specs.Question.{ask, firstNo, yes-here, yes-later, and-left, and-right}
+use Rattle.questions.specs.Question.{ask, firstNo, yes-here, yes-later}
 use Rattle.words.specs.Put.{put, length-put, take-put}
 use Rattle.timetable.specs.Timetable.{Timetable}
 use Rattle.timetable.specs.Words.{timetableOf, isTimetable}

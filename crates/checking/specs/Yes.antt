@@ -6,7 +6,8 @@ use Prim.Native.Nat.{ℕ, _≤_}
 use borrow.Author.Tests.{leb-true}
 use lib.Dec.{leb, eqb}
 use lib.ListN.{length}
-use Rattle.questions.specs.Question.{Question, ask, yes-here, yes-later, and-left, and-right}
+use Rattle.questions.specs.Question.{Question, ask, yes-here, yes-later}
+use Rattle.lists.specs.Tests.{and-left, and-right}
 use Rattle.replies.specs.Later.{Asked, asked-none, asked-more}
 use Rattle.timetable.specs.Timetable.{Timetable, lastMinute}
 use Rattle.timetable.specs.Words.{timetableOf, isTimetable}

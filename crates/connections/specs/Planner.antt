@@ -1,14 +1,26 @@
 -- The planner's list and its result. Document 01: "The list holds every feasible connection for A at t to B, worked out
 -- from the timetable alone: no line table and no row enters into it."
+use mathlib.Core.Path.{_≡_, refl}
 use mathlib.Core.Bool.{Bool, _&&_}
 use mathlib.Core.List.{List, [], _∷_, map}
 use Prim.Native.Nat.{ℕ, zero, suc, _-_}
 use lib.Dec.{leb, eqb}
 use Rattle.timetable.specs.Timetable.{lastMinute}
 use Rattle.lists.specs.Lists.{keep, filter, concatMap, tail}
-use Rattle.results.specs.Results.{Measure, result}
+use Rattle.results.specs.Results.{Measure, row, result}
 use Rattle.connections.specs.Rides.{Ride}
-use Rattle.connections.specs.Connections.{Change, Net, Connection, direct, onward, ready, departure, cost}
+use Rattle.connections.specs.Connections.{
+  Change,
+  Net,
+  Connection,
+  direct,
+  onward,
+  ready,
+  departure,
+  duration,
+  penalty,
+  cost,
+}
 
 abbrev pub boardable : (a t : ℕ) → Ride → Bool
 boardable a t r = eqb (r .from) a && leb t (r .depart)
@@ -58,6 +70,10 @@ tieKey c = (lastMinute - departure c) ∷ rideCount c ∷ numbers c
 -- "rows in rising duration: duration, penalty, number of rides, then trip, boarding stop, alighting stop per ride"
 abbrev pub measure : ℕ → Measure Connection
 measure t = record { cost = cost t; key = tieKey; tells = λ x k. x .minutes ∷ x .points ∷ tail k }
+
+pub row-says : (t : ℕ) (c : Connection) → row (measure t) c ≡ duration t c ∷ penalty c ∷ rideCount c ∷ numbers c
+unfolding tieKey
+row-says t c = refl
 
 -- the rows of a list of connections, for a query at minute t
 unfoldable pub rowsOf : ℕ → List Connection → List (List ℕ)

@@ -9,7 +9,7 @@ use lib.ListN.{length, getD}
 use Rattle.timetable.specs.Timetable.{Station, Stop, Trip, Timetable, lastMinute, stationsMost, validStation, listed}
 use Rattle.timetable.specs.Timetable.{leaves, follows, runs, validTrip, validStations, validTrips, counted, valid}
 use Rattle.lists.specs.Lists.{_∈_}
-use Rattle.lists.specs.Tests.{and-l, and-r, reads}
+use Rattle.lists.specs.Tests.{T-left, T-right, reads}
 use Rattle.connections.specs.Rides.{Ride, noStop, ridePoints}
 use Rattle.connections.specs.Connections.{Change, Net, net, noStation, changeAt}
 use Rattle.connections.specs.RideLaws.{rides-out, changes-out, points-none, points-first, points-next}
@@ -59,15 +59,15 @@ passed : (n : ℕ) (b s u : Stop) (l : List Stop) → T (runs n b (s ∷ u ∷ l
 unfolding runs leaves
 passed n b s u l t =
     record {
-      follows-b = follows-out n b s (search and-l);
+      follows-b = follows-out n b s (search T-left);
       waits = search reads;
       cheap = search reads;
-      rest = search and-r;
+      rest = search T-right;
     }
 
 ended : (n : ℕ) (b s : Stop) → T (runs n b (s ∷ [])) → Follows n b s
 unfolding runs
-ended n b s t = follows-out n b s (search and-l)
+ended n b s t = follows-out n b s (search T-left)
 
 -- from stop b, which l runs behind, to the stop at place y of l
 reach : (n : ℕ) (b : Stop) (l : List Stop) → b .points ≤ 100 → T (runs n b l) → (y : ℕ) → y < length l
@@ -109,20 +109,20 @@ reach-trip : (n : ℕ) (l : Trip) → T (validTrip n l) → (x y : ℕ) → x < 
     → Reached n (getD l x noStop) (getD l y noStop) (ridePoints l x y)
 unfolding validTrip leaves
 reach-trip n [] t x y h g = absurd t
-reach-trip n (b ∷ l) t x y h g = reach-at n b l (search reads) (search and-r) x y h g
+reach-trip n (b ∷ l) t x y h g = reach-at n b l (search reads) (search T-right) x y h g
 
 pub valid-trip : (n : ℕ) (l : List Trip) → T (validTrips n l) → (z : ℕ) → z < length l → T (validTrip n (getD l z []))
 unfolding validTrips
 valid-trip n [] t z h = absurd (omega arith)
-valid-trip n (k ∷ l) t zero h = search and-l
-valid-trip n (k ∷ l) t (suc z) h = valid-trip n l (search and-r) z (omega arith)
+valid-trip n (k ∷ l) t zero h = search T-left
+valid-trip n (k ∷ l) t (suc z) h = valid-trip n l (search T-right) z (omega arith)
 
 pub valid-station : (l : List Station) → T (validStations l) → (z : ℕ) → z < length l
     → T (validStation (getD l z noStation))
 unfolding validStations
 valid-station [] t z h = absurd (omega arith)
-valid-station (s ∷ l) t zero h = search and-l
-valid-station (s ∷ l) t (suc z) h = valid-station l (search and-r) z (omega arith)
+valid-station (s ∷ l) t zero h = search T-left
+valid-station (s ∷ l) t (suc z) h = valid-station l (search T-right) z (omega arith)
 
 -- what a station's change takes and costs
 pub record Priced (w : Change) : Type 0 where
@@ -137,13 +137,13 @@ priced l z t =
     record { minutes-most = search reads; points-least = search reads; points-most = search reads; stays = refl }
 
 module _ (t : Timetable) (v : T (valid t)) where
-  trips-valid : T (validTrips (length (t .stations)) (t .trips))
+  pub trips-valid : T (validTrips (length (t .stations)) (t .trips))
   unfolding valid
-  trips-valid = search and-r
+  trips-valid = search T-right
 
-  stations-valid : T (validStations (t .stations))
+  pub stations-valid : T (validStations (t .stations))
   unfolding valid
-  stations-valid = search (and-l, and-r)
+  stations-valid = search (T-left, T-right)
 
   pub stations-few : length (t .stations) ≤ stationsMost
   unfolding valid counted

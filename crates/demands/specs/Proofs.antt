@@ -2,16 +2,16 @@
 -- optimal connection on the list, and a list that keeps those has the result of the whole.
 use mathlib.Core.Path.{_≡_, refl, sym, ap, subst}
 use mathlib.Core.Logic.{_↔_}
-use mathlib.Core.List.{List, [], _∷_, _++_}
+use mathlib.Core.List.{List, [], _++_}
 use Prim.Native.Nat.{ℕ}
 use lib.Dec.{T}
 use Rattle.timetable.specs.Timetable.{Timetable, valid}
 use Rattle.lists.specs.Lists.{_∈_, filter}
-use Rattle.results.specs.Results.{row, Undominated, Picked, Answers}
+use Rattle.results.specs.Results.{Undominated, Picked, Answers}
 use Rattle.results.specs.Answered.{result-answers}
 use Rattle.results.specs.Kept.{result-kept, empty-kept}
-use Rattle.connections.specs.Connections.{Feasible, Net, net, Connection, duration, penalty, stations}
-use Rattle.connections.specs.Planner.{plannerList, measure, rideCount, numbers, tieKey, rowsOf}
+use Rattle.connections.specs.Connections.{Feasible, Net, net, Connection, stations}
+use Rattle.connections.specs.Planner.{plannerList, measure, rowsOf, row-says}
 use Rattle.connections.specs.Sound.{Sound, sound}
 use Rattle.connections.specs.Listed.{listed, optimal-out}
 use Rattle.stores.specs.Stored.{Sequence}
@@ -92,10 +92,6 @@ module _ (n : Net) (ok : Sound n) where
 
     made-answers : Answers (measure m) (plannerList n a m b) (answer n made a m b)
     made-answers = subst (Answers (measure m) (plannerList n a m b)) (sym same-rows) rows-answer
-
-row-says : (m : ℕ) (c : Connection) → row (measure m) c ≡ duration m c ∷ penalty c ∷ rideCount c ∷ numbers c
-unfolding tieKey
-row-says m c = refl
 
 direct-answers : (n : Net) (a m b : ℕ) → Answers (measure m) (directs n a m b) (directRows n a m b)
 unfolding directRows rowsOf

@@ -1,24 +1,14 @@
 -- Which of two rides is shown, number by number: where all numbers before are the same, the next one decides.
-use mathlib.Core.Path.{_≡_, refl, sym, _∙_}
+use mathlib.Core.Path.{_≡_, sym, _∙_}
 use mathlib.Core.List.{[], _∷_}
-use mathlib.Core.Bool.{Bool, true, false, _&&_, _||_}
-use Prim.Native.Nat.{ℕ, _≤_, _<_}
+use mathlib.Core.Bool.{Bool, true, false}
+use Prim.Native.Nat.{_≤_, _<_}
 use native.Mathlib.Omega.{arith}
 use borrow.Author.Tests.{lt-ltb, le-ltb, eq-eqb, ne-eqb}
-use lib.Dec.{ltb, eqb}
+use lib.Dec.{ltb}
 use Rattle.lists.specs.Lists.{before}
+use Rattle.lists.specs.Order.{first-less, first-more, first-same, last-number}
 use Rattle.direct.specs.Choosing.{Found, goesBefore}
-
--- a comparison by one number, and by more where it is the same
-module _ (a b : ℕ) (more : Bool) where
-  first-less : a < b → (ltb a b || (eqb a b && more)) ≡ true
-  first-less h = simp (lt-ltb a b h)
-
-  first-more : b < a → (ltb a b || (eqb a b && more)) ≡ false
-  first-more h = simp (le-ltb a b (omega arith), ne-eqb a b (omega arith))
-
-  first-same : b ≤ a → a ≤ b → (ltb a b || (eqb a b && more)) ≡ more
-  first-same h g = simp (le-ltb a b h, eq-eqb a b (omega arith))
 
 -- what decides behind the departure, and behind the trip
 abbrev byNumbers : (g f : Found) → Bool
@@ -26,14 +16,6 @@ byNumbers g f = before (g .trip ∷ g .board ∷ g .alight ∷ []) (f .trip ∷ 
 
 abbrev byPlaces : (g f : Found) → Bool
 byPlaces g f = before (g .board ∷ g .alight ∷ []) (f .board ∷ f .alight ∷ [])
-
-last-number : (a b : ℕ) → before (a ∷ []) (b ∷ []) ≡ ltb a b
-last-number a b = either (ltb a b) (eqb a b)
-  where
-    either : (x y : Bool) → (x || (y && false)) ≡ x
-    either true y = refl
-    either false true = refl
-    either false false = refl
 
 module _ (g f : Found) where
   pub departs-later : f .depart < g .depart → true ≡ goesBefore g f

@@ -11,9 +11,9 @@ use lib.Dec.{eqb}
 use lib.ListN.{length, getD}
 use Rattle.words.specs.Put.{put, put-append}
 use Rattle.lists.specs.Lists.{concatMap}
+use Rattle.lists.specs.Ranges.{range-more, range-none}
 use Rattle.results.specs.declared.Points.{Points}
 use Rattle.connections.specs.Rides.{Ride}
-use Rattle.tables.proofs.TimesLaws.{range-more, range-none}
 use Rattle.lookup.specs.Lookup.{Line, numberAt, pointsBetween, arriveAt, departAt}
 use Rattle.lookup.specs.Calls.{Call, Piece, Boarding, callAt, callsOf, callsIn, BoardsAt}
 use Rattle.lookup.specs.First.{firstTrip}

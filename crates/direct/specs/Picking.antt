@@ -5,26 +5,18 @@ use mathlib.Core.Logic.{_⊎_, inl, inr}
 use mathlib.Core.List.{List, [], _∷_, List·Memᴰ·head as here, List·Memᴰ·tail as there}
 use Prim.Native.Nat.{ℕ, _-_, _≤_}
 use native.Mathlib.Omega.{arith}
-use lib.Dec.{T, ltb, eqb, ltb→lt, lt→ltb, nltb→le, T-not, not-T}
+use lib.Dec.{T, ltb, eqb, ltb→lt, lt→ltb, nltb→le, T-not}
 use Rattle.timetable.specs.Timetable.{lastMinute}
 use Rattle.lists.specs.Lists.{_∈_, before, filter}
-use Rattle.lists.specs.Tests.{either, both, or-l, or-r, or-cases, reads, writes, eq→eqb, T-true, T-false}
+use Rattle.lists.specs.Tests.{either, T-both, T-or-left, T-or-right, T-or-cases, reads, writes, eq→eqb, T-true, T-false}
 use Rattle.lists.specs.Members.{none, cons-cases, filter-in, filter-out}
-use Rattle.lists.specs.Order.{before-head, before-tail, before-cases, before-irrefl, before-trans, before-total}
+use Rattle.lists.specs.Order.{before-head, before-tail, before-cases, before-irrefl, before-trans, not-before-trans}
 use Rattle.results.specs.Results.{Cost}
 use Rattle.connections.specs.Rides.{Ride}
 use Rattle.connections.specs.Connections.{direct}
 use Rattle.connections.specs.Planner.{tieKey}
 use Rattle.direct.specs.Bounds.{Bounds}
 use Rattle.direct.specs.Choosing.{foundOf, goesBefore, pickFrom, ofCost, pickFor}
-
--- if x does not come before y, nor y before z, then x does not come before z
-not-before-trans : (x y z : List ℕ) → ¬ T (before x y) → ¬ T (before y z) → ¬ T (before x z)
-not-before-trans x y z p q t =
-    either
-    (before z y)
-    (λ s. p (before-trans x z y t s))
-    (λ s. p (rw (before-total z y s (not-T (before y z) q)) at t))
 
 -- ---- one ride against another
 abbrev pub key : Ride → List ℕ
@@ -52,7 +44,7 @@ module _ (g f : Ride) (h : g .depart ≤ lastMinute) (k : f .depart ≤ lastMinu
   goes-by-key : T (goes g f) → T (before (key g) (key f))
   unfolding goesBefore tieKey
   goes-by-key t =
-      elim (or-cases later tied t) [
+      elim (T-or-cases later tied t) [
         | inl s ↦ before-head (late g) (late f) (1 ∷ told g) (1 ∷ told f) (omega (arith, ltb→lt))
         | inr s ↦
             let e : g .depart ≡ f .depart = search reads in
@@ -64,15 +56,15 @@ module _ (g f : Ride) (h : g .depart ≤ lastMinute) (k : f .depart ≤ lastMinu
   unfolding goesBefore tieKey
   key-goes t =
       elim (before-cases (late g) (late f) (1 ∷ told g) (1 ∷ told f) t) [
-        | inl s ↦ or-l later tied (lt→ltb (f .depart) (g .depart) (omega arith))
-        | inr s ↦ or-r later tied (together (omega (arith, s .0)) (s .1))
+        | inl s ↦ T-or-left later tied (lt→ltb (f .depart) (g .depart) (omega arith))
+        | inr s ↦ T-or-right later tied (together (omega (arith, s .0)) (s .1))
       ]
     where
       together : g .depart ≡ f .depart → T (before (1 ∷ told g) (1 ∷ told f)) → T tied
       together e b =
           elim (before-cases 1 1 (told g) (told f) b) [
             | inl s ↦ absurd (omega arith)
-            | inr s ↦ search (both, eq→eqb, s .1)
+            | inr s ↦ search (T-both, eq→eqb, s .1)
           ]
 
 -- of two rides the one that goes before the other

@@ -8,7 +8,9 @@ use native.Mathlib.Omega.{arith}
 use borrow.Author.Tests.{le-leb, leb-true}
 use lib.Dec.{leb}
 use lib.ListN.{length}
-use Rattle.questions.specs.Question.{ask, firstNo, same-tests}
+use Rattle.questions.specs.Question.{ask, firstNo}
+use Rattle.lists.specs.Places.{no-length}
+use Rattle.lists.specs.Tests.{same-tests}
 use Rattle.replies.specs.declared.Reply.{Reply}
 use Rattle.replies.specs.declared.Reply.the-variants.{Refused}
 use Rattle.replies.specs.Replies.{replyOf, wordsAfter, reply-refused, words-kept}
@@ -35,10 +37,6 @@ use Rattle.direct.specs.Gathered.{all-read, read-costs, all-bounds, firs
 -- the least penalties that are noted, from the first trips of the lines
 abbrev pub bestOf : (v : List ℕ) (a b u : ℕ) → List ℕ
 bestOf v a b u = noteAll blank (firstRead v a u b)
-
-no-length : {A : Type 0} (l : List A) → length l ≡ 0 → l ≡ []
-no-length [] e = refl
-no-length (x ∷ l) e = absurd (omega arith)
 
 module _
     (w v : List ℕ)

@@ -6,7 +6,7 @@ use mathlib.Core.List.{List}
 use Prim.Native.Nat.{ℕ}
 use lib.Dec.{eqb}
 use lib.ListN.{length}
-use Rattle.questions.specs.Question.{and-left, and-right}
+use Rattle.lists.specs.Tests.{and-left, and-right}
 use Rattle.text.specs.Number.{emptyField, isNumber, fieldValue}
 use Rattle.text.specs.Time.{timeValue}
 use Rattle.text.specs.Shape.{arriveFits, departFits, stopOf, field, stopShape}

@@ -9,7 +9,7 @@ use native.Mathlib.Omega.{arith}
 use borrow.Author.Tests.{leb-true, eqb-true, eqb-false, ne-eqb, le-leb}
 use lib.Dec.{leb, eqb}
 use lib.ListN.{length, getD}
-use Rattle.questions.specs.Question.{and-left, and-right}
+use Rattle.lists.specs.Tests.{and-left, and-right}
 use Rattle.text.specs.Piece.{markedLength}
 use Rattle.text.specs.Number.{emptyField, noNumber, isNumber, digitValue, decimal, fieldValue, value-long}
 use Rattle.text.specs.Time.{pairValue, isTime, minuteOf, timeValue}

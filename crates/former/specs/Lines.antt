@@ -8,7 +8,7 @@ use native.Mathlib.Omega.{arith}
 use borrow.Author.Tests.{eqb-true, eqb-false}
 use lib.Dec.{eqb}
 use lib.ListN.{length, getD, drop, length-append, length-drop}
-use Rattle.questions.specs.Question.{and-right}
+use Rattle.lists.specs.Tests.{and-right}
 use Rattle.text.specs.Piece.{pieces, joined, markedLength, pieces-length, pieces-some}
 use Rattle.text.specs.Number.{fieldValue}
 use Rattle.text.specs.Time.{timeValue}

@@ -11,6 +11,7 @@ use lib.Seq.{getD-take, drop-cons, take-set-lt, take-suc-set}
 use Rattle.words.specs.Put.{put, put-none}
 use Rattle.lists.specs.Lists.{_∈_}
 use Rattle.lists.specs.Members.{none}
+use Rattle.lists.specs.Places.{getD-in}
 use Rattle.timetable.specs.Timetable.{Trip}
 use Rattle.timetable.specs.Words.{tripCount, timetableOf}
 use Rattle.timetable.specs.Check.{length-trips}
@@ -22,7 +23,7 @@ use Rattle.grouping.specs.Steps.{Below, firstPlace, runsBefore, same-pla
 use Rattle.grouping.specs.Order.{all-in-order, in-order-out, length-order}
 use Rattle.grouping.specs.Joined.{joinAt, Holds, Joined, joinable, add-joins, ends-below, length-ends}
 use Rattle.grouping.specs.Joined.{lasts-join, lasts-found, lasts-below}
-use Rattle.grouping.proofs.ArrayLaws.{at-in, held}
+use Rattle.grouping.proofs.ArrayLaws.{held}
 
 abbrev pub tripsOf : List ℕ → List Trip
 tripsOf w = (timetableOf w) .trips
@@ -96,7 +97,7 @@ module _ (w : List ℕ) (order : List ℕ) (trips : ℕ) (is-order : take trips 
 
   pub next-listed : getD order k 0 < tripCount w
   next-listed =
-      let inside = at-in (inOrder (tripsOf w)) k (omega (arith, order-long w)) in
+      let inside = getD-in (inOrder (tripsOf w)) k 0 (omega (arith, order-long w)) in
       let number : ℕ = getD (inOrder (tripsOf w)) k 0 in
       let among =
       in-order-out (tripsOf w) 0 (length (tripsOf w)) number

@@ -7,18 +7,9 @@ use native.Mathlib.Omega.{arith}
 use borrow.Author.Tests.{eq-eqb, ne-eqb}
 use lib.ListN.{length, getD}
 use Rattle.lists.specs.Lists.{concatMap, range}
+use Rattle.lists.specs.Ranges.{range-more, range-none}
 use Rattle.growing.specs.Tree.{arcsIn}
 use Rattle.growing.specs.Laid.{entryAt, entriesTo, arcWords, hitsTo, nodeHits, total, hitsOf}
-
-range-more : (i end : ℕ) → i < end → range i (end - i) ≡ i ∷ range (i + 1) (end - (i + 1))
-range-more i end h =
-    let more : end - i ≡ suc (end - (i + 1)) = omega arith in
-    ap (range i) more ∙ ap (λ j. i ∷ range j (end - (i + 1))) (sym (add-one i))
-
-range-none : (i end : ℕ) → end ≤ i → range i (end - i) ≡ []
-range-none i end h =
-    let none : end - i ≡ 0 = omega arith in
-    ap (range i) none
 
 -- ---- the nodes
 module _ (w : List ℕ) where

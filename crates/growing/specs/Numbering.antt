@@ -10,6 +10,7 @@ use Prim.Native.Nat.{ℕ, zero, suc, _<_}
 use native.Mathlib.Omega.{arith}
 use lib.Dec.{T, not-T}
 use lib.ListN.{length, getD, length-append}
+use Rattle.lists.specs.Places.{getD-in}
 use Rattle.timetable.specs.Timetable.{stationsMost}
 use Rattle.lists.specs.Lists.{_∈_, keep, filter, concatMap, range, before, same, sort, Rising, tail}
 use Rattle.lists.specs.Tests.{T-true, T-false}
@@ -142,11 +143,6 @@ module _ (ps : List (List ℕ)) where
           (ap keyed (c .2) ∙ r′ .2)
           (kid-first (b .0) (c .0) s (t .0) (r .0 (keyed (t .0)) (Memᴰ·map keyed (t .1))))
 
-pub getD-in : (l : List (List ℕ)) (v : ℕ) → v < length l → getD l v [] ∈ l
-getD-in [] v h = absurd (omega arith)
-getD-in (q ∷ l) zero h = here refl
-getD-in (q ∷ l) (suc v) h = there (getD-in l v (omega arith))
-
 -- ---- the root and the nodes rise
 tail-first : (l : List (List ℕ)) → ((z : List ℕ) → z ∈ l → z ≡ keyed (tail z)) → map keyed (map tail l) ≡ l
 tail-first [] h = refl
@@ -200,7 +196,7 @@ place-at (q ∷ l) r (suc v) h =
         (subst
         (λ y. T (before (keyed q) y))
         (ap keyed (same-eq (getD l v []) q t))
-        (r .0 (keyed (getD l v [])) (Memᴰ·map keyed (getD-in l v (omega arith))))))
+        (r .0 (keyed (getD l v [])) (Memᴰ·map keyed (getD-in l v [] (omega arith))))))
 
 -- ---- every node but the root is the kid of one
 pub final-join : (s : List ℕ) (b : ℕ) → final (s ++ (b ∷ [])) ≡ b

@@ -6,6 +6,7 @@ use Prim.Native.Nat.{ℕ, zero, suc, _≤_, _<_}
 use native.Mathlib.Omega.{arith}
 use lib.ListN.{length, getD, take, drop}
 use lib.Seq.{split-at, length-take-le}
+use Rattle.lists.specs.Places.{getD-in}
 use Rattle.timetable.specs.Timetable.{stationsMost}
 use Rattle.lists.specs.Lists.{_∈_}
 use Rattle.lists.specs.Members.{cons-cases, concatMap-out}
@@ -13,7 +14,7 @@ use Rattle.stores.specs.Words.{beginnings, front, final, nodes, place}
 use Rattle.stores.specs.Sequences.{begin-within, final-within, place-append, place-bound, place-get}
 use Rattle.stores.specs.Nodes.{front-before, node-out, nodes-made}
 use Rattle.growing.specs.Tree.{rooted, nodeAt, Made}
-use Rattle.growing.specs.Numbering.{joined, getD-in}
+use Rattle.growing.specs.Numbering.{joined}
 use Rattle.growing.specs.Numbering.{root-first}
 
 module _ (ps : List (List ℕ)) (k : ℕ) (made : Made k ps) where
@@ -32,7 +33,7 @@ module _ (ps : List (List ℕ)) (k : ℕ) (made : Made k ps) where
 
   pub station-near : (source v : ℕ) → source ≤ stationsMost → v < length (rooted ps)
       → final (source ∷ nodeAt ps v) ≤ stationsMost
-  station-near source v near h = station-of source (nodeAt ps v) near (getD-in (rooted ps) v h)
+  station-near source v near h = station-of source (nodeAt ps v) near (getD-in (rooted ps) v [] h)
 
 pub parent-below : (ps : List (List ℕ)) (v : ℕ) → suc v < length (rooted ps)
     → place (front (nodeAt ps (suc v))) (rooted ps) < suc v
@@ -64,7 +65,7 @@ parent-most ps (suc v) h = omega (arith, parent-below ps v h)
 module _ (ps : List (List ℕ)) (v : ℕ) (h : suc v < length (rooted ps)) where
   node-listed : nodeAt ps (suc v) ∈ nodes ps
   unfolding rooted
-  node-listed = getD-in (nodes ps) v (omega arith)
+  node-listed = getD-in (nodes ps) v [] (omega arith)
 
   pub node-full : nodeAt ps (suc v) ≢ []
   node-full = nodes-made ps .nonempty (nodeAt ps (suc v)) node-listed

@@ -33,12 +33,6 @@ step-is w y p l m k is-m is-k q noted last e f g =
     g ∙ ap (lowest noPoints) (f ∙ (λ i. takenAll p (is-m i) (is-k i) (e i) l))
 
 -- ---- the arrays have changed places, or have not
-not-true : (b : Bool) → b ≡ true → not b ≡ false
-not-true b e = rw e
-
-not-false : (b : Bool) → b ≡ false → not b ≡ true
-not-false b e = rw e
-
 module _ (turned : Bool) (p q : List ℕ) where
   pub fitting-second : (l : List Ride) → turned ≡ true → Fitting (held turned p q) l → Fitting q l
   fitting-second l e = subst (λ k. Fitting k l) (held-second turned p q e)
@@ -50,24 +44,24 @@ module _ (turned : Bool) (p q : List ℕ) where
     pub turned-second : turned ≡ true → after ≡ changeWords w q y l
         → held (not turned) after q ≡ changeWords w (held turned p q) y l
     turned-second e h =
-        held-first (not turned) after q (not-true turned e)
+        held-first (not turned) after q (ap not e)
         ∙ h
         ∙ ap (λ k. changeWords w k y l) (sym (held-second turned p q e))
 
     pub turned-first : turned ≡ false → after ≡ changeWords w p y l
         → held (not turned) p after ≡ changeWords w (held turned p q) y l
     turned-first e h =
-        held-second (not turned) p after (not-false turned e)
+        held-second (not turned) p after (ap not e)
         ∙ h
         ∙ ap (λ k. changeWords w k y l) (sym (held-first turned p q e))
 
   pub value-second : (r : ℕ) (after : List ℕ) → turned ≡ true → r ≡ firstValue after
       → r ≡ firstValue (held (not turned) after q)
-  value-second r after e h = h ∙ ap firstValue (sym (held-first (not turned) after q (not-true turned e)))
+  value-second r after e h = h ∙ ap firstValue (sym (held-first (not turned) after q (ap not e)))
 
   pub value-first : (r : ℕ) (after : List ℕ) → turned ≡ false → r ≡ firstValue after
       → r ≡ firstValue (held (not turned) p after)
-  value-first r after e h = h ∙ ap firstValue (sym (held-second (not turned) p after (not-false turned e)))
+  value-first r after e h = h ∙ ap firstValue (sym (held-second (not turned) p after (ap not e)))
 
   module _ (l : List Ride) (best after : List ℕ) where
     pub end-second : turned ≡ true → after ≡ takenAll q 0 0 best l → after ≡ takenAll (held turned p q) 0 0 best l

@@ -14,7 +14,7 @@ use Rattle.lists.specs.Tests.{either, T-true, T-false}
 use Rattle.lists.specs.Members.{filter-in, filter-out}
 use Rattle.connections.specs.Rides.{Ride}
 use Rattle.minutes.specs.Minutes.{noPoints, blank, noted, noteAll}
-use Rattle.minutes.specs.Noted.{Arrives, Noted, all-noted, getD-blank}
+use Rattle.minutes.specs.Noted.{Arrives, Noted, all-noted, getD-blank, length-noted}
 use Rattle.layers.specs.Lowest.{lowest, length-lowest}
 use Rattle.layers.specs.Lowest.{Before, lowest-least, lowest-below, lowest-falls, lowest-stems}
 use Rattle.layers.specs.Layering.{taken, takenAll, stepOf}
@@ -43,12 +43,6 @@ in-time (r ∷ l) best long =
         let h = nltb→le (r .arrive) 2880 t in
         let same = set-out best (r .arrive) (min (getD best (r .arrive) 0) (r .points)) (omega arith) in
         rw (T-false (ltb (r .arrive) 2880) t) (ih ∙ ap (λ b. noteAll b l) (sym same))
-
-length-noted : (l : List Ride) (best : List ℕ) → length (noteAll best l) ≡ length best
-unfolding noteAll
-length-noted [] best = refl
-length-noted (r ∷ l) best =
-    length-noted l (noted best r) ∙ length-set best (r .arrive) (min (getD best (r .arrive) 0) (r .points))
 
 module _ (p : List ℕ) (minutes points : ℕ) (l : List Ride) where
   -- what one has paid behind a ride

@@ -6,7 +6,7 @@ use native.Mathlib.Omega.{arith}
 use lib.Dec.{T}
 use lib.ListN.{length, getD}
 use Rattle.timetable.specs.Timetable.{Stop, Trip}
-use Rattle.lists.specs.Tests.{and-r, reads, writes}
+use Rattle.lists.specs.Tests.{T-right, reads, writes}
 use Rattle.connections.specs.Rides.{noStop, ridePoints}
 use Rattle.connections.specs.RideLaws.{points-none, points-first, points-next}
 use Rattle.lines.specs.Lines.{behind}
@@ -27,7 +27,7 @@ module _ (s u : Stop) (k l : Trip) where
       record { station = search reads; points = search reads; arrive = search reads; depart = search reads }
 
   behind-rest : T (behind (s ∷ k) (u ∷ l)) → T (behind k l)
-  behind-rest t = search and-r
+  behind-rest t = search T-right
 
   behind-cons : Later s u → T (behind k l) → T (behind (s ∷ k) (u ∷ l))
   behind-cons h t = search writes

@@ -1,16 +1,17 @@
 -- What is in a list that was filtered, mapped, joined or counted: for each way of making a list one law in and one out.
-use mathlib.Core.Path.{_≡_, refl, sym}
+use mathlib.Core.Path.{_≡_, refl, sym, ap, _∙_}
 use mathlib.Core.Bool.{Bool, true, false}
 use mathlib.Core.Logic.{_⊎_, inl, inr}
 use mathlib.Core.List.{List, [], _∷_, _++_, map, List·Memᴰ·head as here, List·Memᴰ·tail as there, List·Memᴰ·not-nil}
 use mathlib.Core.List.{List·Memᴰ·cases-cons, List·Memᴰ·append-cases, List·Memᴰ·eq-of-singleton, Memᴰ·append-left}
-use mathlib.Core.List.{Memᴰ·append-right, Memᴰ·map, Memᴰ·of-map, Memᴰ·cast}
+use mathlib.Core.List.{append-assoc, Memᴰ·append-right, Memᴰ·map, Memᴰ·of-map, Memᴰ·cast}
 use Prim.Native.Nat.{ℕ, zero, suc, _+_, _≤_, _<_}
 use native.Mathlib.Omega.{arith}
 use native.Mathlib.Decide.{ℕ-discrete}
 use lib.Dec.{T, eqb-refl}
+use lib.ListN.{length}
 use Rattle.lists.specs.Lists.{_∈_, keep, filter, any, endWith, firstOf, concatMap, range, same}
-use Rattle.lists.specs.Tests.{reads, both, and-r, or-l, or-r, or-cases}
+use Rattle.lists.specs.Tests.{reads, T-both, T-right, T-or-left, T-or-right, T-or-cases}
 
 module _ {A : Type 0} where
   -- cases on a member of a list that begins with y
@@ -47,21 +48,29 @@ module _ {A : Type 0} where
       step : (x ∈ filter p l → (x ∈ l) × T (p x)) → (x ∈ y ∷ l) × T (p x)
       step ih = kept-cases (p y) m (λ e t. (here e, rw e t)) (λ i. (there (ih i .0), ih i .1))
 
+  pub filter-few : (p : A → Bool) (l : List A) → length (filter p l) ≤ length l
+  filter-few p [] = omega arith
+  filter-few p (x ∷ l) = go (p x) (filter-few p l)
+    where
+      go : (b : Bool) → length (filter p l) ≤ length l → length (keep b x (filter p l)) ≤ suc (length l)
+      go true h = omega arith
+      go false h = omega arith
+
   pub filter-in : {x : A} (p : A → Bool) {l : List A} → x ∈ l → T (p x) → x ∈ filter p l
   filter-in p (here {x = y} {xs = l} e) t = keep-here (filter p l) (p y) e (rw e at t)
   filter-in p (there {x = y} m) t = keep-there y (p y) (filter-in p m t)
 
   pub any-out : (p : A → Bool) (l : List A) → T (any p l) → (x : A) × (x ∈ l) × T (p x)
   any-out p [] t = absurd t
-  any-out p (y ∷ l) t = step (any-out p l) (or-cases (p y) (any p l) t)
+  any-out p (y ∷ l) t = step (any-out p l) (T-or-cases (p y) (any p l) t)
     where
       step : (T (any p l) → (x : A) × (x ∈ l) × T (p x)) → T (p y) ⊎ T (any p l) → (x : A) × (x ∈ y ∷ l) × T (p x)
       step ih (inl s) = (y, here refl, s)
       step ih (inr s) = let r = ih s in (r .0, there (r .1), r .2)
 
   pub any-in : (p : A → Bool) {l : List A} {x : A} → x ∈ l → T (p x) → T (any p l)
-  any-in p (here {x = y} {xs = l} e) t = or-l (p y) (any p l) (rw e at t)
-  any-in p (there {x = y} {xs = l} m) t = or-r (p y) (any p l) (any-in p m t)
+  any-in p (here {x = y} {xs = l} e) t = T-or-left (p y) (any p l) (rw e at t)
+  any-in p (there {x = y} {xs = l} m) t = T-or-right (p y) (any p l) (any-in p m t)
 
   pub first-out : {x : A} (p : A → Bool) (l : List A) → x ∈ firstOf p l → (x ∈ l) × T (p x)
   first-out p [] m = none m
@@ -103,8 +112,14 @@ same-eq [] [] t = refl
 same-eq [] (y ∷ ys) t = absurd t
 same-eq (x ∷ xs) [] t = absurd t
 same-eq (x ∷ xs) (y ∷ ys) t =
-    let e : x ≡ y = search reads in cc (e, same-eq xs ys (search and-r))
+    let e : x ≡ y = search reads in cc (e, same-eq xs ys (search T-right))
 
 pub same-refl : (x : List ℕ) → T (same x x)
 same-refl [] = tt
-same-refl (x ∷ xs) = search (both, eqb-refl x, same-refl xs)
+same-refl (x ∷ xs) = search (T-both, eqb-refl x, same-refl xs)
+
+-- lists joined, those of one list after those of another
+pub concat-append : (l m : List (List ℕ)) → concatMap (λ q. q) (l ++ m) ≡ concatMap (λ q. q) l ++ concatMap (λ q. q) m
+concat-append [] m = refl
+concat-append (x ∷ l) m =
+    ap (λ u. x ++ u) (concat-append l m) ∙ sym (append-assoc x (concatMap (λ q. q) l) (concatMap (λ q. q) m))

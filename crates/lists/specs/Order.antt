@@ -1,23 +1,24 @@
 -- The order of sequences, number by number, is irreflexive, transitive and total.
 use mathlib.Core.Path.{_≡_, refl, sym, subst}
-use mathlib.Core.Bool.{not, _&&_}
+use mathlib.Core.Bool.{Bool, true, false, not, _&&_, _||_}
 use mathlib.Core.Logic.{_⊎_, inl, inr}
 use mathlib.Core.List.{List, [], _∷_}
 use Prim.Native.Nat.{ℕ, _≤_, _<_}
 use native.Mathlib.Omega.{arith}
+use borrow.Author.Tests.{lt-ltb, le-ltb, eq-eqb, ne-eqb}
 use lib.Dec.{T, ltb, eqb, ltb→lt, lt→ltb, nltb→le, T-not, not-T}
 use Rattle.lists.specs.Lists.{before}
-use Rattle.lists.specs.Tests.{either, both, or-l, or-r, or-cases, reads, eq→eqb}
+use Rattle.lists.specs.Tests.{either, T-both, T-or-left, T-or-right, T-or-cases, reads, eq→eqb}
 
 module _ (x y : ℕ) (xs ys : List ℕ) where
   pub before-head : x < y → T (before (x ∷ xs) (y ∷ ys))
-  before-head h = search (or-l, lt→ltb)
+  before-head h = search (T-or-left, lt→ltb)
 
   pub before-tail : x ≡ y → T (before xs ys) → T (before (x ∷ xs) (y ∷ ys))
-  before-tail e t = search (or-r, both, eq→eqb)
+  before-tail e t = search (T-or-right, T-both, eq→eqb)
 
   pub before-cases : T (before (x ∷ xs) (y ∷ ys)) → (x < y) ⊎ ((x ≡ y) × T (before xs ys))
-  before-cases t = go (or-cases (ltb x y) (eqb x y && before xs ys) t)
+  before-cases t = go (T-or-cases (ltb x y) (eqb x y && before xs ys) t)
     where
       go : T (ltb x y) ⊎ T (eqb x y && before xs ys) → (x < y) ⊎ ((x ≡ y) × T (before xs ys))
       go (inl s) = inl (ltb→lt x y s)
@@ -68,3 +69,30 @@ before-total (x ∷ xs) (y ∷ ys) p q =
 -- the order of equals
 pub before-same : {a b c d : List ℕ} → a ≡ c → b ≡ d → T (before a b) → T (before c d)
 before-same {a} {b} {c} {d} e f t = subst (λ v. T (before c v)) f (subst (λ u. T (before u b)) e t)
+
+-- if x does not come before y, nor y before z, then x does not come before z
+pub not-before-trans : (x y z : List ℕ) → ¬ T (before x y) → ¬ T (before y z) → ¬ T (before x z)
+not-before-trans x y z p q t =
+    either
+    (before z y)
+    (λ s. p (before-trans x z y t s))
+    (λ s. p (rw (before-total z y s (not-T (before y z) q)) at t))
+
+-- ---- a comparison by one number, and by more where it is the same
+module _ (a b : ℕ) (more : Bool) where
+  pub first-less : a < b → (ltb a b || (eqb a b && more)) ≡ true
+  first-less h = simp (lt-ltb a b h)
+
+  pub first-more : b < a → (ltb a b || (eqb a b && more)) ≡ false
+  first-more h = simp (le-ltb a b (omega arith), ne-eqb a b (omega arith))
+
+  pub first-same : b ≤ a → a ≤ b → (ltb a b || (eqb a b && more)) ≡ more
+  first-same h g = simp (le-ltb a b h, eq-eqb a b (omega arith))
+
+pub last-number : (a b : ℕ) → before (a ∷ []) (b ∷ []) ≡ ltb a b
+last-number a b = go (ltb a b) (eqb a b)
+  where
+    go : (x y : Bool) → (x || (y && false)) ≡ x
+    go true y = refl
+    go false true = refl
+    go false false = refl

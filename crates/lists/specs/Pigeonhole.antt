@@ -14,10 +14,11 @@ use Rattle.lists.specs.Members.{filter-out}
 abbrev pub Within : ℕ → List ℕ → Type 0
 Within k l = (x : ℕ) → x ∈ l → (1 ≤ x) × (x ≤ k)
 
-abbrev other : ℕ → ℕ → Bool
+-- those other than k
+abbrev pub other : ℕ → ℕ → Bool
 other k x = not (eqb x k)
 
-other-all : (k : ℕ) (l : List ℕ) → ¬ (k ∈ l) → filter (other k) l ≡ l
+pub other-all : (k : ℕ) (l : List ℕ) → ¬ (k ∈ l) → filter (other k) l ≡ l
 other-all k [] h = refl
 other-all k (x ∷ l) h =
     either
@@ -33,7 +34,7 @@ other-length k (x ∷ l) d =
     (λ t. rw (T-true (eqb x k) t, other-all k l (λ m. d .0 (Memᴰ·cast (eqb→eq x k t) m))) (omega arith))
     (λ t. rw (T-false (eqb x k) t) (omega (arith, other-length k l (d .1))))
 
-distinct-filter : (p : ℕ → Bool) (l : List ℕ) → Distinct l → Distinct (filter p l)
+pub distinct-filter : (p : ℕ → Bool) (l : List ℕ) → Distinct l → Distinct (filter p l)
 distinct-filter p [] d = tt
 distinct-filter p (x ∷ l) d = go (p x) (distinct-filter p l (d .1))
   where

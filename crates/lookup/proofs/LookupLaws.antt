@@ -8,14 +8,11 @@ use native.Mathlib.Numerals.{add-one}
 use native.Mathlib.Omega.{arith}
 use borrow.Author.Tests.{le-leb, lt-leb, lt-ltb, le-ltb}
 use lib.Dec.{ltb}
-use lib.ListN.{length, getD, drop, length-take, length-drop, List·getD-eq-default}
+use lib.ListN.{length, getD, drop, length-take, length-drop}
 use lib.Seq.{slice, slice-cons, take-all}
 use Rattle.lookup.specs.Lookup.{Line, lowAt, totalAt, timesPlace, arriveAt, departAt, callsPlace}
 use Rattle.lookup.specs.Lookup.{listOf, lineAt}
 use Rattle.lookup.specs.Calls.{Call, Piece, callAt, pairsOf, callsOf, callsIn, Inside, later, after}
-
-pub past : (v : List ℕ) (i : ℕ) → length v ≤ i → 0 ≡ getD v i 0
-past v i h = sym (List·getD-eq-default v 0 h)
 
 module _ (p trips : ℕ) where
   pub product : p < 65536 → trips < 65536 → p * trips ≤ 65535 * 65535

@@ -8,8 +8,8 @@ use native.Mathlib.Nat.{mul-left-comm, mod-add-div}
 use native.Mathlib.Omega.{arith}
 use lib.ListN.{length, getD, length-append, length-map}
 use Rattle.lists.specs.Lists.{concatMap, range}
+use Rattle.lists.specs.Ranges.{length-range}
 use Rattle.timetable.specs.Timetable.{Trip}
-use Rattle.timetable.specs.Check.{length-range}
 use Rattle.connections.specs.Rides.{noStop}
 use Rattle.lines.specs.Lines.{course, stationOn}
 use Rattle.tables.specs.Tables.{stopOf, timeRow, lineTimes, totalOn, positionWords, courseWords, lineWords}

@@ -7,8 +7,8 @@ use native.Mathlib.Omega.{arith}
 use lib.ListN.{length, getD, length-append}
 use lib.Seq.{slice}
 use Rattle.lists.specs.Lists.{range}
+use Rattle.lists.specs.Ranges.{length-range}
 use Rattle.timetable.specs.Timetable.{Trip}
-use Rattle.timetable.specs.Check.{length-range}
 use Rattle.lines.specs.Lines.{lines}
 use Rattle.tables.specs.Tables.{
   lineWords,

@@ -1,6 +1,6 @@
 -- The calls that line tables tell of a station: exactly the places at which lines call there, and they rise.
 use mathlib.Core.Path.{_≡_, refl, sym, ap, subst, _∙_}
-use mathlib.Core.List.{List, [], _∷_, _++_, map, append-assoc, Memᴰ·map, Memᴰ·of-map}
+use mathlib.Core.List.{List, [], _∷_, _++_, map, Memᴰ·map, Memᴰ·of-map}
 use Prim.Native.Nat.{ℕ, zero, suc, _+_, _-_, _≤_, _<_}
 use native.Mathlib.Omega.{arith}
 use borrow.Author.Tests.{le-leb}
@@ -9,7 +9,7 @@ use lib.ListN.{length, getD}
 use lib.Seq.{slice}
 use Rattle.lists.specs.Lists.{_∈_, filter, concatMap, range}
 use Rattle.lists.specs.Tests.{eq→eqb}
-use Rattle.lists.specs.Members.{filter-in, filter-out, concatMap-in, concatMap-out, range-in, range-out}
+use Rattle.lists.specs.Members.{filter-in, filter-out, concatMap-in, concatMap-out, range-in, range-out, concat-append}
 use Rattle.timetable.specs.Timetable.{Trip}
 use Rattle.lines.specs.Lines.{lines, course, stationOn, lineCalls, calls}
 use Rattle.tables.specs.Tables.{callPairs}
@@ -52,17 +52,12 @@ module _ (t : List Trip) (s : ℕ) where
       let rest = line-read i ps l in
       λ k. record { line = is-line k; place = is-place k } ∷ rest k
 
-  joined : (a b : List (List ℕ)) → concatMap (λ q. q) (a ++ b) ≡ concatMap (λ q. q) a ++ concatMap (λ q. q) b
-  joined [] b = refl
-  joined (x ∷ a) b =
-      ap (λ u. x ++ u) (joined a b) ∙ sym (append-assoc x (concatMap (λ q. q) a) (concatMap (λ q. q) b))
-
   lines-read : (k n : ℕ)
       → pairsOf (concatMap (λ q. q) (concatMap (lineCalls t s) (range k n))) ≡ concatMap callsOn (range k n)
   unfolding pairsOf
   lines-read k zero = refl
   lines-read k (suc n) =
-      ap pairsOf (joined (lineCalls t s k) (concatMap (lineCalls t s) (range (suc k) n)))
+      ap pairsOf (concat-append (lineCalls t s k) (concatMap (lineCalls t s) (range (suc k) n)))
       ∙ line-read k (places k) (concatMap (λ q. q) (concatMap (lineCalls t s) (range (suc k) n)))
       ∙ ap (λ l. callsOn k ++ l) (lines-read (suc k) n)
 

@@ -8,7 +8,7 @@ use native.Mathlib.Omega.{arith}
 use borrow.Author.Tests.{lt-ltb, le-ltb, eq-eqb, ne-eqb}
 use lib.Dec.{ltb, eqb, ltb→lt}
 use lib.ListN.{getD}
-use Rattle.lists.specs.Tests.{and-l}
+use Rattle.lists.specs.Tests.{T-left, and-false}
 use Rattle.timetable.specs.Timetable.{Stop}
 use Rattle.timetable.specs.Words.{stationCount, stopAt, isTimetable}
 use Rattle.timetable.specs.Access.{stations-few}
@@ -19,10 +19,6 @@ use Rattle.marks.specs.Arrays.{raised}
 use Rattle.marks.specs.Walks.{Visit, visit, onwardPoints, goesOn, visits, boarding, run, offer, flag, endsWell}
 use Rattle.marks.specs.Walks.{changesWell}
 use Rattle.marks.specs.Held.{goes-few}
-
-and-false : (b : Bool) → b && false ≡ false
-and-false true = refl
-and-false false = refl
 
 module _ (w : List ℕ) (c : ℕ) (x : List ℕ) (i : ℕ) (act : Visit → List ℕ → List ℕ) (s : List ℕ) where
   -- who cannot board arrives nowhere
@@ -84,7 +80,7 @@ module _ (s : Stop) (c : ℕ) where
   onward-ends h = onward-not (rw (le-ltb 0 (s .depart) (omega arith)))
 
   pub onward-back : s .station ≡ c → 101 ≡ onwardPoints s c
-  onward-back h = onward-not (rw (eq-eqb (s .station) c h) (and-false (ltb 0 (s .depart))))
+  onward-back h = onward-not (rw (eq-eqb (s .station) c h) (and-false (ltb 0 (s .depart)) false refl))
 
   pub onward-on : (p : ℕ) → (s .depart ≡ 0 → ⊥) → (s .station ≡ c → ⊥) → p ≡ s .points → p ≡ onwardPoints s c
   unfolding onwardPoints
@@ -99,7 +95,7 @@ module _ (w : List ℕ) (ok : isTimetable w ≡ true) (j : ℕ) (goes : Goes w j
     (is : r ≡ onwardPoints (stopAt w (j + 1)) c) where
   next-goes : goesOn w c (j + 1) ≡ true → Goes w (j + 1)
   next-goes e =
-      let t = and-l (ltb 0 (depart w (j + 1))) (not (eqb (station w (j + 1)) c)) (rw e tt) in
+      let t = T-left (ltb 0 (depart w (j + 1))) (not (eqb (station w (j + 1)) c)) (rw e tt) in
       let same = ap (depart w) (add-one j) in
       subst (Goes w) (sym (add-one j))
       (timely w ok .goes-on j goes (omega (arith, ltb→lt 0 (depart w (j + 1)) t)))

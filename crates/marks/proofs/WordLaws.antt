@@ -1,12 +1,12 @@
 -- One word at a time: the label of a departure of the source, an offer, and a flag that is raised.
-use mathlib.Core.Path.{_≡_, sym, ap, _∙_}
+use mathlib.Core.Path.{_≡_, ap, _∙_}
 use mathlib.Core.Bool.{true, cond}
 use mathlib.Core.List.{List}
 use Prim.Native.Nat.{ℕ, _+_, _-_, _^_, _≤_, _<_}
 use native.Mathlib.Omega.{arith}
 use borrow.Author.Tests.{lt-ltb, le-ltb, eq-eqb, ne-eqb}
 use lib.Dec.{ltb, eqb}
-use lib.ListN.{length, getD, set, List·getD-eq-default}
+use lib.ListN.{getD, set}
 use Rattle.timetable.specs.Timetable.{Stop}
 use Rattle.timetable.specs.Words.{stationCount, stopAt, isTimetable}
 use Rattle.stopwise.specs.Stopwise.{depart, changePoints, unreached}
@@ -23,9 +23,6 @@ module _ (w : List ℕ) (g d : ℕ) (s : Stop) (is : s ≡ stopAt w g) where
   pub late : d ≤ s .depart → 0 ≡ rootLabel w d g
   unfolding rootLabel
   late h = rw (le-ltb (depart w g) d (rw is at h))
-
-pub past : (x : List ℕ) (f : ℕ) → length x ≤ f → 0 ≡ getD x f 0
-past x f h = sym (List·getD-eq-default x 0 {n = f} h)
 
 module _ (l : List ℕ) (k a b : ℕ) where
   pub raised-up : a < b → set l k 1 ≡ raised (ltb a b) k l

@@ -1,14 +1,15 @@
 -- The arrays that hold the order of departures: station by station, where each station's departures begin, and for each
 -- arrival the departure caught.
 use mathlib.Core.Path.{_≡_, sym, ap, subst, _∙_}
-use mathlib.Core.Bool.{Bool, true, false}
-use mathlib.Core.List.{List, [], _∷_, List·Memᴰ·head as here, List·Memᴰ·tail as there}
+use mathlib.Core.Bool.{true}
+use mathlib.Core.List.{List, List·Memᴰ·head as here, List·Memᴰ·tail as there}
 use Prim.Native.Nat.{ℕ, zero, suc, _+_, _-_, _≤_, _<_}
 use native.Mathlib.Omega.{arith}
 use lib.Dec.{ltb}
 use lib.ListN.{length, getD, take, drop}
 use lib.Seq.{slice, slice-cons, take-take}
-use Rattle.lists.specs.Lists.{_∈_, keep, filter}
+use Rattle.lists.specs.Lists.{_∈_}
+use Rattle.lists.specs.Members.{filter-few}
 use Rattle.timetable.specs.Words.{isTimetable}
 use Rattle.stopwise.specs.Stopwise.{station, Goes}
 use Rattle.stopwise.specs.TimelyLaws.{timely}
@@ -31,14 +32,6 @@ pub record Changes (w caught : List ℕ) : Type 0 where
 abbrev pub Inside : (l : List ℕ) (begin end : ℕ) (x : List ℕ) → Type 0
 Inside l begin end x = (k : ℕ) → begin ≤ k → k < end → getD l k 0 < length x
 
-filter-short : (p : ℕ → Bool) (l : List ℕ) → length (filter p l) ≤ length l
-filter-short p [] = omega arith
-filter-short p (x ∷ l) = go (p x) (filter-short p l)
-  where
-    go : (b : Bool) → length (filter p l) ≤ length l → length (keep b x (filter p l)) ≤ suc (length l)
-    go true ih = omega arith
-    go false ih = omega arith
-
 -- what stands at one of the places of a part is in it
 slice-in : (l : List ℕ) (m b t : ℕ) → b + m < t → t ≤ length l → getD l (b + m) 0 ∈ slice b t l
 slice-in l zero b t h g =
@@ -59,7 +52,7 @@ module _ (w : List ℕ) (yes : isTimetable w ≡ true) where
   begin-most m =
       omega (
         arith,
-        filter-short (λ i. ltb (station w i) m) (order w),
+        filter-few (λ i. ltb (station w i) m) (order w),
         chain-length w yes,
         order-length w yes,
       )

@@ -12,7 +12,7 @@ use borrow.Author.Tests.{lt-ltb, ne-eqb}
 use lib.Dec.{ltb, eqb, ltb→lt}
 use lib.ListN.{getD}
 use Rattle.lists.specs.Lists.{_∈_}
-use Rattle.lists.specs.Tests.{and-l}
+use Rattle.lists.specs.Tests.{T-left}
 use Rattle.lists.specs.Members.{none, cons-cases, concatMap-in, concatMap-out}
 use Rattle.timetable.specs.Words.{isTimetable}
 use Rattle.stopwise.specs.Stopwise.{station, depart, points, unreached, Goes, Ridden, ridden}
@@ -54,7 +54,7 @@ module _ (w : List ℕ) (sure : Timely w) (c : ℕ) where
         → (v : Visit) → v ∈ visits w c n (suc j) y → P (v .stop) (v .paid))
         → (v : Visit) → v ∈ cond b (visits w c n (suc j) y) [] → P (v .stop) (v .paid)
     rest-all n j y true e g h ih v m =
-        let t = and-l (ltb 0 (depart w (suc j))) (not (eqb (station w (suc j)) c)) (rw e tt) in
+        let t = T-left (ltb 0 (depart w (suc j))) (not (eqb (station w (suc j)) c)) (rw e tt) in
         let goes = sure .goes-on j g (omega (arith, ltb→lt 0 (depart w (suc j)) t)) in
         ih goes (on (suc j) y goes h) v m
     rest-all n j y false e g h ih v m = none m

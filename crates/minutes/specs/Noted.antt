@@ -31,6 +31,12 @@ getD-blank (suc n) a (suc i) = getD-blank n a i
 same-cost : (x y : Cost) → x .minutes ≡ y .minutes → x .points ≡ y .points → x ≡ y
 same-cost x y h g = λ i. record { minutes = h i; points = g i }
 
+pub length-noted : (l : List Ride) (best : List ℕ) → length (noteAll best l) ≡ length best
+unfolding noteAll
+length-noted [] best = refl
+length-noted (r ∷ l) best =
+    length-noted l (noted best r) ∙ length-set best (r .arrive) (min (getD best (r .arrive) 0) (r .points))
+
 -- one minute more
 module _ (least a x : ℕ) (l : List ℕ) where
   leads-more : T (ltb x least) → leads least a (x ∷ l) ≡ record { minutes = a; points = x } ∷ leads x (suc a) l

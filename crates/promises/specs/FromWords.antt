@@ -11,14 +11,15 @@ use native.Mathlib.Omega.{arith}
 use borrow.Author.Tests.{leb-true, le-leb, ne-eqb}
 use lib.Dec.{T, leb, eqb, eqb·suc-zero}
 use lib.ListN.{length, drop}
+use Rattle.words.specs.Put.{put-front}
 use Rattle.lists.specs.Lists.{_∈_}
-use Rattle.lists.specs.Tests.{T-true}
-use Rattle.questions.specs.Question.{Question, ask, firstNo, yes-here, yes-later, and-left, and-right, and-both}
+use Rattle.lists.specs.Tests.{T-true, and-left, and-right, and-both}
+use Rattle.questions.specs.Question.{Question, ask, firstNo, yes-here, yes-later}
 use Rattle.replies.specs.Replies.{numberOf, replyOf, wordsAfter}
 use Rattle.replies.specs.Later.{Asked, asked-on}
 use Rattle.timetable.specs.Timetable.{Timetable, lastMinute, valid}
 use Rattle.timetable.specs.Words.{timetableOf, isTimetable}
-use Rattle.accepted.specs.OwnWords.{yes-valid}
+use Rattle.timetable.specs.Access.{spelled-valid}
 use Rattle.connections.specs.Connections.{net, Connection, Feasible, duration}
 use Rattle.connections.specs.Planner.{plannerList, rowsOf}
 use Rattle.connections.specs.Sound.{Sound, sound}
@@ -51,7 +52,7 @@ use Rattle.promises.specs.Promises.{
   StoreFits,
   Stores,
 }
-use Rattle.promises.specs.Shown.{put-front, lastTwo, some-length, list-shown}
+use Rattle.promises.specs.Shown.{lastTwo, some-length, list-shown}
 
 -- ---- where no question has a no, none of the first ones has
 sum-zero : (n k : ℕ) → cond (eqb n 0) k n ≡ 0 → n ≡ 0
@@ -78,7 +79,7 @@ module _ (timetable lines : List ℕ) (long-timetable : slicesLeast ≤ length t
   plan = timetableOf timetable
 
   plan-valid : T (valid plan)
-  plan-valid = subst T (sym (yes-valid timetable yes-9)) tt
+  plan-valid = subst T (sym (spelled-valid timetable yes-9)) tt
 
   plan-sound : Sound (net plan)
   plan-sound = sound plan plan-valid

@@ -1,16 +1,17 @@
 -- The theorem of Promises. A text that was read and line tables that were built, with number 0, have a yes to 9 and 10,
 -- and the words spell the text's timetable; so all that FromWords says holds of it.
-use mathlib.Core.Path.{_≡_, refl, sym, ap, subst, _∙_}
+use mathlib.Core.Path.{_≡_, sym, ap, subst, _∙_}
 use mathlib.Core.Bool.{true, false, _&&_}
 use mathlib.Core.Logic.{_↔_}
-use mathlib.Core.List.{List, _∷_, _++_}
+use mathlib.Core.List.{List, _++_}
 use Prim.Native.Nat.{ℕ, _+_, _≤_, _<_}
 use native.Mathlib.Nat.{add-zero, zero-add}
 use borrow.Author.Tests.{le-leb, lt-leb}
 use lib.Dec.{T, leb}
 use lib.ListN.{length, drop}
+use Rattle.words.specs.Put.{put-front}
 use Rattle.lists.specs.Lists.{_∈_}
-use Rattle.questions.specs.Question.{and-false}
+use Rattle.lists.specs.Tests.{and-false}
 use Rattle.replies.specs.Replies.{numberOf, replyOf, reply-number, wordsAfter}
 use Rattle.timetable.specs.Timetable.{Timetable, valid}
 use Rattle.timetable.specs.Words.{words, timetableOf, isTimetable}
@@ -18,9 +19,8 @@ use Rattle.reading.specs.Reading.{Accepted, reading, readReply, readWords}
 use Rattle.reading.specs.Reading.{numberOf as readNumber}
 use Rattle.accepted.specs.Sound.{accepted-valid}
 use Rattle.accepted.specs.Question9.{number-zero, read-spells, read-has-yes}
-use Rattle.results.specs.Results.{row}
-use Rattle.connections.specs.Connections.{net, Connection, duration, penalty}
-use Rattle.connections.specs.Planner.{plannerList, measure, rideCount, numbers, tieKey}
+use Rattle.connections.specs.Connections.{net}
+use Rattle.connections.specs.Planner.{plannerList, row-says}
 use Rattle.stores.specs.Stored.{Sequence}
 use Rattle.stores.specs.Words.{readable, wellMade, keptList}
 use Rattle.lines.specs.DirectRides.{directs}
@@ -47,7 +47,6 @@ use Rattle.promises.specs.Promises.{
   Stores,
   Promises,
 }
-use Rattle.promises.specs.Shown.{put-front}
 use Rattle.promises.specs.FromWords.{
   built-slices,
   direct-shown,
@@ -243,11 +242,6 @@ module _ (text : List ℕ) (plan : Timetable) (text-lines : ℕ) (accepted : rea
 
   three : DemandThree plan
   three = demand-three plan plan-valid
-
-row-says : (minute : ℕ) (c : Connection)
-    → row (measure minute) c ≡ duration minute c ∷ penalty c ∷ rideCount c ∷ numbers c
-unfolding tieKey
-row-says minute c = refl
 
 pub promises : Promises
 promises =

@@ -12,7 +12,7 @@ use lib.Dec.{leb}
 use lib.ListN.{length, drop, length-map}
 use Rattle.lists.specs.Lists.{_∈_}
 use Rattle.questions.specs.Question.{Question, ask, firstNo}
-use Rattle.words.specs.Put.{put}
+use Rattle.words.specs.Put.{put-front}
 use Rattle.replies.specs.Replies.{replyOf, wordsAfter}
 use Rattle.timetable.specs.Timetable.{lastMinute}
 use Rattle.results.specs.Results.{Measure, row, entries, result, costs, Climbs, Answers}
@@ -21,10 +21,6 @@ use Rattle.connections.specs.Connections.{Connection, duration}
 use Rattle.connections.specs.Planner.{measure, rowsOf}
 use Rattle.promises.specs.Packed.{packedCount}
 use Rattle.promises.specs.Promises.{refusal, shownWords, shownReply, Shows}
-
-pub put-front : (ws old : List ℕ) → put 0 ws old ≡ ws ++ drop (length ws) old
-unfolding put
-put-front ws old = rw zero-add
 
 -- ---- questions 14 and 15, or any one number
 abbrev pub lastTwo : (some room : Bool) → List Question

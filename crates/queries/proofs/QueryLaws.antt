@@ -8,7 +8,7 @@ use native.Mathlib.Omega.{arith}
 use borrow.Author.Tests.{eq-eqb, ne-eqb}
 use lib.Dec.{eqb}
 use lib.ListN.{length, getD, take, drop, List·getD-eq-default}
-use Rattle.questions.specs.Question.{and-false}
+use Rattle.lists.specs.Tests.{and-false}
 use Rattle.text.specs.Piece.{pieceLength, pieces, first-from, last-from, pieces-some}
 use Rattle.text.specs.Number.{fieldValue, fieldValues}
 use Rattle.queries.specs.Query.{askedOf, fieldsAsk, four-fields, queryOf}

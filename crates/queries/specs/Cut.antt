@@ -9,7 +9,7 @@ use lib.Dec.{eqb, leb}
 use borrow.Author.Tests.{leb-true, leb-false}
 use lib.ListN.{length, getD, take, drop, length-drop, length-take}
 use lib.Seq.{take-all}
-use Rattle.questions.specs.Question.{and-left, and-right}
+use Rattle.lists.specs.Tests.{and-left, and-right}
 use Rattle.text.specs.Piece.{pieces, markedLength, pieces-length}
 use Rattle.text.specs.Number.{isNumber, fieldValue, fieldValues, value-long}
 use Rattle.queries.specs.Query.{askedOf, fieldsAsk, four-fields, queryOf}

@@ -7,9 +7,9 @@ use lib.ListN.{length, take, set, length-set}
 use lib.Seq.{length-take-le}
 use Rattle.words.specs.Put.{put, put-more, put-append}
 use Rattle.results.specs.Results.{row}
+use Rattle.connections.specs.Planner.{row-says}
 use Rattle.promises.specs.Query.{kept}
 use Rattle.query_rows.specs.Rowed.{RowFor}
-use Rattle.query_rows.specs.Leading.{row-words}
 use Rattle.query_rows.specs.Granted.{costOf, Winning, Written, Room}
 use Rattle.query_rows.specs.declared.Winner.{Winner}
 
@@ -43,7 +43,7 @@ module _ (w s shown : List ℕ) (a b u m p : ℕ) (x : Winner) (z : Winning w s 
         one = z .one;
         shows = z .shows;
         is =
-            row-words u (z .one)
+            row-says u (z .one)
             ∙ (λ i.
             (z .shows .arrives i - u)
             ∷ z .shows .pays i

@@ -1,6 +1,6 @@
 -- The least penalties of a store's sequences, collected arc by arc: after k arcs the array has, for each minute, the
 -- least penalty of those who arrive then by one of the first k sequences; after all arcs it has that of the list kept.
-use mathlib.Core.Path.{_≡_, refl, sym, ap, subst, _∙_}
+use mathlib.Core.Path.{_≡_, refl, sym, subst, _∙_}
 use mathlib.Core.Logic.{_≢_, inl, inr}
 use mathlib.Core.List.{List, [], _∷_, _++_, reverseAux, List·Memᴰ·head as here, Memᴰ·append-left, Memᴰ·append-right}
 use Prim.Native.Nat.{ℕ, zero, suc, _≤_, _<_}
@@ -9,29 +9,17 @@ use lib.ListN.{length, getD, take, replicate, length-replicate, List·getD-eq-de
 use lib.Seq.{take-suc, take-all}
 use Rattle.lists.specs.Lists.{_∈_}
 use Rattle.lists.specs.Members.{none, append-cases, cons-cases}
-use Rattle.results.specs.Picks.{lead}
 use Rattle.connections.specs.Connections.{Net, Connection, direct, onward, Feasible, ready, arrival, penalty, stations}
 use Rattle.connections.specs.Sound.{Sound}
 use Rattle.connections.specs.Feasibility.{takes-time}
 use Rattle.reckoning.specs.Along.{Ends}
-use Rattle.reckoning.specs.AlongLaws.{Sequenced, sequence-ends, reverse-twice}
+use Rattle.reckoning.specs.AlongLaws.{Sequenced, sequence-ends, sequence-end}
 use Rattle.stores.specs.Words.{readable, keptList}
 use Rattle.stores.specs.KeptLaws.{kept-exactly}
 use Rattle.minutes.specs.Minutes.{noPoints, blank}
 use Rattle.minutes.specs.Noted.{getD-any}
 use Rattle.layers.specs.Lowered.{Lowered}
 use Rattle.query_rows.specs.Rowed.{At, LeastKept, Bounds}
-
--- the last station of a connection is where it ends
-stations-end : (n : Net) (x u b : ℕ) (c : Connection) (m : List ℕ) → Feasible n x u b c
-    → lead (reverseAux (stations c) m) ≡ b
-stations-end n x u b (direct r) m f = f .1
-stations-end n x u b (onward r z c) m f = stations-end n (z .to) (ready r z) b c (z .from ∷ m) (f .2)
-
-pub sequence-end : (n : Net) (x u b : ℕ) (c : Connection) (rev : List ℕ) (y : ℕ) → Feasible n x u b c
-    → stations c ≡ reverseAux rev (y ∷ []) → b ≡ y
-sequence-end n x u b c rev y f e =
-    sym (stations-end n x u b c [] f) ∙ ap (λ q. lead (reverseAux q [])) e ∙ ap lead (reverse-twice rev (y ∷ []))
 
 pub arrives-in-time : (n : Net) → Sound n → (x u b : ℕ) (c : Connection) → Feasible n x u b c → arrival c < 2880
 arrives-in-time n ok x u b (direct r) f = omega (arith, ok .bounded r (f .0 .listed))

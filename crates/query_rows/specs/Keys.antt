@@ -3,13 +3,14 @@
 use mathlib.Core.Path.{_≡_, refl, sym, ap, _∙_}
 use mathlib.Core.Bool.{Bool, true, false}
 use mathlib.Core.List.{List, _∷_}
-use Prim.Native.Nat.{ℕ, suc, _+_, _-_, _*_, _≤_, _<_}
+use Prim.Native.Nat.{ℕ, _+_, _-_, _*_, _≤_, _<_}
 use native.Mathlib.Numerals.{add-one}
 use native.Mathlib.Omega.{arith}
 use borrow.Author.Tests.{lt-ltb, le-ltb, eq-eqb, ne-eqb}
 use lib.Dec.{ltb, eqb}
 use lib.ListN.{length, getD, take, drop, drop-of-length-le}
-use lib.Seq.{drop-cons, getD-take, length-take-le}
+use lib.Seq.{length-take-le}
+use Rattle.lists.specs.Places.{drop-taken}
 use Rattle.timetable.specs.Timetable.{lastMinute}
 use Rattle.lists.specs.Lists.{before}
 use Rattle.connections.specs.Connections.{Connection, departure}
@@ -25,27 +26,24 @@ key-is c = refl
 -- ---- words compared one by one
 module _ (a b : List ℕ) (n i : ℕ) (long-a : n ≤ length a) (long-b : n ≤ length b)
     (so-far : before (take n a) (take n b) ≡ before (drop i (take n a)) (drop i (take n b))) where
-  next : (l : List ℕ) → n ≤ length l → i < n → drop i (take n l) ≡ getD l i 0 ∷ drop (suc i) (take n l)
-  next l long h =
-      drop-cons (take n l) i 0 (omega (arith, length-take-le n l long))
-      ∙ ap (λ x. x ∷ drop (suc i) (take n l)) (getD-take n l i 0 h)
-
   module _ (h : i < n) where
     pub word-less : getD a i 0 < getD b i 0 → true ≡ before (take n a) (take n b)
-    word-less l = sym (so-far ∙ rw (next a long-a h, next b long-b h, lt-ltb (getD a i 0) (getD b i 0) l))
+    word-less l =
+        let less : ltb (getD a i 0) (getD b i 0) ≡ true = lt-ltb (getD a i 0) (getD b i 0) l in
+        sym (so-far ∙ rw (drop-taken n i a long-a h, drop-taken n i b long-b h, less))
 
     pub word-more : getD b i 0 < getD a i 0 → false ≡ before (take n a) (take n b)
     word-more l =
         let not-less : ltb (getD a i 0) (getD b i 0) ≡ false = le-ltb (getD a i 0) (getD b i 0) (omega arith) in
         let not-same : eqb (getD a i 0) (getD b i 0) ≡ false = ne-eqb (getD a i 0) (getD b i 0) (λ e. omega arith) in
-        sym (so-far ∙ rw (next a long-a h, next b long-b h, not-less, not-same))
+        sym (so-far ∙ rw (drop-taken n i a long-a h, drop-taken n i b long-b h, not-less, not-same))
 
     pub word-same : getD b i 0 ≤ getD a i 0 → getD a i 0 ≤ getD b i 0
         → before (take n a) (take n b) ≡ before (drop (i + 1) (take n a)) (drop (i + 1) (take n b))
     word-same l g =
         let not-less : ltb (getD a i 0) (getD b i 0) ≡ false = le-ltb (getD a i 0) (getD b i 0) (omega arith) in
         let same : eqb (getD a i 0) (getD b i 0) ≡ true = eq-eqb (getD a i 0) (getD b i 0) (omega arith) in
-        so-far ∙ rw (next a long-a h, next b long-b h, not-less, same, add-one i)
+        so-far ∙ rw (drop-taken n i a long-a h, drop-taken n i b long-b h, not-less, same, add-one i)
 
   pub words-same : n ≤ i → false ≡ before (take n a) (take n b)
   words-same h =

@@ -8,11 +8,12 @@ use native.Mathlib.Omega.{arith}
 use native.Mathlib.Decide.{ℕ-discrete}
 use lib.ListN.{length, getD, set}
 use lib.Seq.{getD-set-same, getD-set-other}
+use Rattle.lists.specs.Order.{not-before-trans}
 use Rattle.timetable.specs.Words.{timetableOf}
 use Rattle.lists.specs.Lists.{_∈_}
 use Rattle.results.specs.Results.{Cost, row}
-use Rattle.connections.specs.Connections.{net, Connection, direct, onward, stations}
-use Rattle.connections.specs.Planner.{rideCount, tieKey, measure}
+use Rattle.connections.specs.Connections.{net, Connection, stations}
+use Rattle.connections.specs.Planner.{tieKey, measure, row-says}
 use Rattle.connections.specs.Sound.{Sound}
 use Rattle.stores.specs.Words.{readable}
 use Rattle.stores.specs.KeptLaws.{kept-exactly}
@@ -21,10 +22,11 @@ use Rattle.wellmade.specs.Paths.{arcPath, length-readable}
 use Rattle.wellmade.specs.Granted.{readable-in}
 use Rattle.minutes.specs.Minutes.{noPoints, leads}
 use Rattle.minutes.specs.Noted.{getD-any, led-exactly}
+use Rattle.reckoning.specs.Greedy.{count-stations}
 use Rattle.promises.specs.Query.{kept}
 use Rattle.query_rows.specs.Rowed.{Shows}
-use Rattle.query_rows.specs.Won.{By, not-before-trans, won-all, none-never}
-use Rattle.query_rows.specs.Leading.{row-of, numbers-long, row-words}
+use Rattle.query_rows.specs.Won.{By, won-all, none-never}
+use Rattle.query_rows.specs.Leading.{row-of, numbers-long}
 use Rattle.query_rows.specs.Granted.{Granted, is-sound, all-bounds, costOf, Leading, Winning, Counted}
 use Rattle.query_rows.specs.Sole.{sole-all}
 use Rattle.query_rows.specs.Arcs.{arc-few, NotedAll, noted-all}
@@ -68,11 +70,6 @@ lead-points best m p i =
     let l = led-exactly noPoints best noPoints 0 (costOf m p) .0 i in
     ap (λ j. getD best j noPoints) (omega (arith, l .at)) ∙ l .is
 
--- a ride for each station of the sequence
-count-stations : (c : Connection) → rideCount c ≡ length (stations c)
-count-stations (direct r) = refl
-count-stations (onward r z c) = ap suc (count-stations c)
-
 module _ (w v s : List ℕ) (a b u m p k : ℕ) (g : Granted w v s a b u) (l : Leader w s a b u m p k) where
   pub leader-few : k + 1 < 65536
   leader-few = arc-few w v s a b u g k (l .inside)
@@ -86,7 +83,7 @@ module _ (w v s : List ℕ) (a b u m p k : ℕ) (g : Granted w v s a b u) (l : L
             omega (
               arith,
               e,
-              ap length (row-words u (l .one)),
+              ap length (row-says u (l .one)),
               numbers-long (l .one),
               count-stations (l .one),
               ap length (l .by),

@@ -7,11 +7,12 @@ use native.Mathlib.Omega.{arith}
 use lib.ListN.{length, getD, set}
 use lib.Seq.{getD-set-same}
 use Rattle.lists.specs.Lists.{_∈_, tail}
+use Rattle.lists.specs.Places.{no-length}
 use Rattle.results.specs.Results.{Cost, row}
 use Rattle.results.specs.Picks.{lead, pick}
 use Rattle.results.specs.Answered.{result-none}
 use Rattle.connections.specs.Connections.{Connection, direct, onward, arrival, duration, penalty}
-use Rattle.connections.specs.Planner.{rideCount, numbers, tieKey, measure, rowsOf}
+use Rattle.connections.specs.Planner.{rideCount, numbers, measure, rowsOf}
 use Rattle.minutes.specs.Minutes.{noPoints, leads}
 use Rattle.query_rows.specs.Rowed.{Bounds, LeastKept, RowFor, Rowed, led-leads, led-cost, rowed}
 
@@ -89,10 +90,6 @@ module _ (u : ℕ) (d : List Connection) where
         let same = rowed u d bounds w least (set (all .0) i r) (rowed-set ls (all .0) i r h (all .1) f) in
         sym (getD-set-same (all .0) i r [] inside) ∙ ap (λ l. getD l i []) same
 
-    no-length : {A : Type 0} (l : List A) → length l ≡ 0 → l ≡ []
-    no-length [] e = refl
-    no-length (x ∷ l) e = absurd (omega arith)
-
     pub leads-none : length ls ≡ 0 → length d ≡ 0
     unfolding rowsOf
     leads-none e =
@@ -111,7 +108,3 @@ module _ (u : ℕ) (d : List Connection) where
 pub numbers-long : (c : Connection) → length (numbers c) ≡ 3 * rideCount c
 numbers-long (direct r) = refl
 numbers-long (onward r w c) = omega (arith, numbers-long c)
-
-pub row-words : (u : ℕ) (c : Connection) → row (measure u) c ≡ duration u c ∷ penalty c ∷ rideCount c ∷ numbers c
-unfolding tieKey
-row-words u c = refl

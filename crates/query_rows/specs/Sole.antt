@@ -10,7 +10,7 @@ use lib.Seq.{take-all}
 use Rattle.lists.specs.Lists.{_∈_}
 use Rattle.connections.specs.Connections.{Net, Connection, Feasible, arrival, penalty, stations}
 use Rattle.connections.specs.Sound.{Sound}
-use Rattle.reckoning.specs.AlongLaws.{sequence-ends}
+use Rattle.reckoning.specs.AlongLaws.{sequence-ends, sequence-end}
 use Rattle.stores.specs.Words.{readable, keptList}
 use Rattle.stores.specs.KeptLaws.{kept-exactly}
 use Rattle.wellmade.specs.Entries.{arcTarget}
@@ -18,7 +18,7 @@ use Rattle.wellmade.specs.Paths.{arcPath}
 use Rattle.minutes.specs.Minutes.{noPoints, blank}
 use Rattle.minutes.specs.Noted.{getD-any, getD-blank}
 use Rattle.layers.specs.Lowered.{Lowered}
-use Rattle.query_rows.specs.Collected.{Collected, sequence-cases, sequence-end, arrives-in-time}
+use Rattle.query_rows.specs.Collected.{Collected, sequence-cases, arrives-in-time}
 use Rattle.query_rows.specs.Merged.{unnamed, Merged}
 
 -- for a query from a at minute u to b

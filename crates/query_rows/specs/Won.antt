@@ -2,16 +2,14 @@
 -- that the rule for equal cost picks, or none; after all arcs it is the one picked from the list kept.
 use mathlib.Core.Path.{_≡_, sym, ap, subst, _∙_}
 use mathlib.Core.Logic.{_≢_}
-use mathlib.Core.Bool.{not}
 use mathlib.Core.List.{List, [], _∷_, _++_, reverseAux, List·Memᴰ·head as here, Memᴰ·append-left, Memᴰ·append-right}
 use Prim.Native.Nat.{ℕ, suc, _≤_, _<_}
 use native.Mathlib.Omega.{arith, by-contra}
-use lib.Dec.{T, not-T}
+use lib.Dec.{T}
 use lib.ListN.{length, getD, take}
 use lib.Seq.{take-suc, take-all}
 use Rattle.lists.specs.Lists.{_∈_, before}
-use Rattle.lists.specs.Tests.{either}
-use Rattle.lists.specs.Order.{before-trans, before-total}
+use Rattle.lists.specs.Order.{before-trans, not-before-trans}
 use Rattle.lists.specs.Members.{none, append-cases, cons-cases}
 use Rattle.results.specs.Results.{Cost}
 use Rattle.connections.specs.Connections.{Net, Connection, Feasible, arrival, penalty, stations}
@@ -23,20 +21,8 @@ use Rattle.stores.specs.Words.{readable, keptList}
 use Rattle.stores.specs.KeptLaws.{kept-exactly}
 use Rattle.minutes.specs.Minutes.{noPoints, leads}
 use Rattle.minutes.specs.Noted.{Led, led-exactly}
+use Rattle.reckoning.specs.AlongLaws.{sequence-end}
 use Rattle.query_rows.specs.Rowed.{LeastKept, Shows}
-use Rattle.query_rows.specs.Collected.{sequence-end}
-
--- the order is total: what does not go before is as good or behind
-pub not-before-trans : (x y z : List ℕ) → ¬ T (before x y) → ¬ T (before y z) → ¬ T (before x z)
-not-before-trans x y z p q t = either (before y x) earlier equal
-  where
-    earlier : T (before y x) → ⊥
-    earlier s = q (before-trans y x z s t)
-
-    equal : T (not (before y x)) → ⊥
-    equal s =
-        let same = before-total x y (not-T (before x y) p) s in
-        q (subst (λ l. T (before l z)) same t)
 
 -- for a query from a at minute u to b, and an arrival minute and penalty
 module _ (n : Net) (ok : Sound n) (s : List ℕ) (a u b : ℕ) (c : Cost) where

@@ -6,6 +6,7 @@ use Prim.Native.Nat.{ℕ, _+_, _*_, _<_}
 use native.Mathlib.Omega.{arith}
 use lib.ListN.{length, set, length-append}
 use Rattle.words.specs.Put.{put, put-next}
+use Rattle.lists.specs.Places.{no-length}
 use Rattle.text.specs.declared.Line.{Line}
 use Rattle.text.specs.declared.Line.the-variants.{Station as StationIn, Stop as StopIn, Shapeless}
 use Rattle.text.specs.declared.StopLine.{StopLine}
@@ -34,11 +35,7 @@ pub length-bodyOf : (d : Draft) → length (bodyOf d) ≡ 2 * length (d .station
 length-bodyOf d =
     simp (length-append, length-stationWords, length-stopWords)
 
-pub nothing : {A : Type 0} (l : List A) → length l ≡ 0 → l ≡ []
-nothing [] e = refl
-nothing (x ∷ l) e = absurd (omega arith)
-
-final-append : (l : Trip) (s : Stop) → final (l ++ (s ∷ [])) ≡ s
+pub final-append : (l : Trip) (s : Stop) → final (l ++ (s ∷ [])) ≡ s
 final-append [] s = refl
 final-append (u ∷ []) s = refl
 final-append (u ∷ v ∷ l) s = final-append (v ∷ l) s
@@ -75,7 +72,7 @@ pub body-grows : (d : Draft) (line : Line) → lineNumberAt (progress d) line �
 unfolding stationWords stopWords
 body-grows d (StationIn l) e =
     let all = station-yes (progress d) l 0 (sym e) refl in
-    let none : stopsIn d ≡ [] = nothing (stopsIn d) (all .before-stops) in
+    let none : stopsIn d ≡ [] = no-length (stopsIn d) (all .before-stops) in
     rw (
       none,
       append-nil (stationWords (d .stations ++ (stationOfLine l ∷ []))),

@@ -8,8 +8,9 @@ use native.Mathlib.Omega.{arith}
 use borrow.Author.Tests.{eq-eqb, ne-eqb, eqb-true}
 use lib.Dec.{leb, eqb}
 use lib.ListN.{length, take, drop, set, length-take, length-drop, length-set}
-use Rattle.questions.specs.Question.{and-right}
 use Rattle.words.specs.Put.{put, put-none, put-one, put-append, put-over, length-put}
+use Rattle.lists.specs.Places.{no-length}
+use Rattle.lists.specs.Tests.{and-right}
 use Rattle.text.specs.Piece.{pieces, pieceLength, last-from, first-from, pieces-some}
 use Rattle.text.specs.Shape.{shapeOf}
 use Rattle.text.specs.declared.Line.{Line}
@@ -37,7 +38,6 @@ use Rattle.reading.specs.declared.Next.the-variants.{On, Refused as Next
 use Rattle.reading.specs.declared.Lines.{Lines}
 use Rattle.reading.specs.declared.Lines.the-variants.{Accepted as LinesAccepted, Refused as LinesRefused}
 use Rattle.reading.proofs.DraftLaws.{
-  nothing,
   bodyOf,
   length-bodyOf,
   progress-grows,
@@ -181,7 +181,7 @@ module _
       unfolding some whole
       ended-well t =
           let none : (k .draft) .begun ≡ [] =
-          nothing ((k .draft) .begun)
+          no-length ((k .draft) .begun)
           (eqb-true (length ((k .draft) .begun)) 0
           (and-right (leb 1 (length ((k .draft) .stations))) (eqb (length ((k .draft) .begun)) 0) t)) in
           let closed : k .draft ≡ record {

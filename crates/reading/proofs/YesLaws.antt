@@ -7,7 +7,8 @@ use native.Mathlib.Omega.{arith}
 use lib.ListN.{length}
 use borrow.Author.Tests.{ltb-true, leb-true, eqb-true}
 use lib.Dec.{leb, ltb, eqb}
-use Rattle.questions.specs.Question.{ask, firstNo, yes-here, yes-later, and-left, and-right}
+use Rattle.questions.specs.Question.{ask, firstNo, yes-here, yes-later}
+use Rattle.lists.specs.Tests.{and-left, and-right}
 use Rattle.text.specs.Range.{inRange, minutes-bound, points-bound, time-bound, ride-bound}
 use Rattle.text.specs.declared.StationLine.{StationLine}
 use Rattle.text.specs.declared.StopLine.{StopLine}

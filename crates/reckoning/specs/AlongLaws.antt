@@ -6,6 +6,7 @@ use mathlib.Core.List.{List, [], _∷_, reverseAux}
 use Prim.Native.Nat.{ℕ, _+_, _≤_}
 use native.Mathlib.Omega.{arith}
 use Rattle.lists.specs.Lists.{_∈_, tail}
+use Rattle.results.specs.Picks.{lead}
 use Rattle.connections.specs.Rides.{Ride}
 use Rattle.connections.specs.Connections.{Change, Net, Connection, direct, onward, Boards, Changes, Feasible, ready}
 use Rattle.connections.specs.Connections.{arrival, penalty, stations}
@@ -31,6 +32,17 @@ stations-read rev (onward r w c) = stations-read (w .from ∷ rev) c
 pub reverse-twice : (l m : List ℕ) → reverseAux (reverseAux l m) [] ≡ reverseAux m l
 reverse-twice [] m = refl
 reverse-twice (x ∷ l) m = reverse-twice l (x ∷ m)
+
+-- the last of a connection's stations is where it ends
+stations-end : (n : Net) (x u b : ℕ) (c : Connection) (m : List ℕ) → Feasible n x u b c
+    → lead (reverseAux (stations c) m) ≡ b
+stations-end n x u b (direct r) m f = f .1
+stations-end n x u b (onward r w c) m f = stations-end n (w .to) (ready r w) b c (w .from ∷ m) (f .2)
+
+pub sequence-end : (n : Net) (x u b : ℕ) (c : Connection) (rev : List ℕ) (y : ℕ) → Feasible n x u b c
+    → stations c ≡ reverseAux rev (y ∷ []) → b ≡ y
+sequence-end n x u b c rev y f e =
+    sym (stations-end n x u b c [] f) ∙ ap (λ q. lead (reverseAux q [])) e ∙ ap lead (reverse-twice rev (y ∷ []))
 
 -- a sequence from a to b says where its changes are
 read-unique : (l m : List ℕ) (b : ℕ) → reverseAux l (b ∷ []) ≡ reverseAux m (b ∷ []) → l ≡ m

@@ -50,7 +50,7 @@ three-cases a b c d e f k l t = one (before-cases a d (b ∷ c ∷ k) (e ∷ f �
 abbrev pub leaving : Ride → List ℕ
 leaving r = (lastMinute - r .depart) ∷ rideNumbers r
 
-count-stations : (c : Connection) → rideCount c ≡ length (stations c)
+pub count-stations : (c : Connection) → rideCount c ≡ length (stations c)
 count-stations (direct r) = refl
 count-stations (onward r w c) = ap suc (count-stations c)
 

@@ -6,7 +6,7 @@ use mathlib.Core.Logic.{_⊎_, inl, inr, _↔_}
 use Prim.Native.Nat.{_+_, _≤_, _<_}
 use native.Mathlib.Omega.{arith, by-contra}
 use lib.Dec.{T, ltb, ltb→lt, nltb→le, le→leb}
-use Rattle.lists.specs.Tests.{either, both, and-r, or-l, or-r, or-cases, reads, writes}
+use Rattle.lists.specs.Tests.{either, T-both, T-right, T-or-left, T-or-right, T-or-cases, reads, writes}
 use Rattle.results.specs.Results.{Cost, dominates, equal}
 
 pub record NoWorse (x y : Cost) : Type 0 where
@@ -32,7 +32,7 @@ module _ (x y : Cost) where
   dominates-out t =
       let a : x .minutes ≤ y .minutes = search reads in
       let b : x .points ≤ y .points = search reads in
-      elim (or-cases (ltb (x .minutes) (y .minutes)) (ltb (x .points) (y .points)) (search and-r)) [
+      elim (T-or-cases (ltb (x .minutes) (y .minutes)) (ltb (x .points) (y .points)) (search T-right)) [
         | inl s ↦ omega (arith, ltb→lt)
         | inr s ↦ omega (arith, ltb→lt)
       ]
@@ -42,12 +42,12 @@ module _ (x y : Cost) where
   dominates-in h = either (ltb (x .minutes) (y .minutes)) quicker cheaper
     where
       quicker : T (ltb (x .minutes) (y .minutes)) → T (dominates x y)
-      quicker s = search (both, le→leb, or-l)
+      quicker s = search (T-both, le→leb, T-or-left)
 
       cheaper : T (not (ltb (x .minutes) (y .minutes))) → T (dominates x y)
       cheaper s =
           let k : x .points < y .points = omega (arith, nltb→le (x .minutes) (y .minutes) s) in
-          search (both, le→leb, or-r)
+          search (T-both, le→leb, T-or-right)
 
   -- for a reader: the test of the definition says what the words say
   pub dominates-exactly : T (dominates x y) ↔ Dominates x y
@@ -59,7 +59,7 @@ module _ (x y : Cost) where
           record {
             sooner = search reads;
             cheaper = search reads;
-            smaller = elim (or-cases (ltb (x .minutes) (y .minutes)) (ltb (x .points) (y .points)) (search and-r)) [
+            smaller = elim (T-or-cases (ltb (x .minutes) (y .minutes)) (ltb (x .points) (y .points)) (search T-right)) [
               | inl s ↦ inl (ltb→lt (x .minutes) (y .minutes) s)
               | inr s ↦ inr (ltb→lt (x .points) (y .points) s)
             ];

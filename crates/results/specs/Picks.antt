@@ -9,7 +9,7 @@ use Prim.Native.Nat.{ℕ, zero, suc, _+_, _<_}
 use native.Mathlib.Omega.{arith}
 use lib.Dec.{T, T-not, not-T}
 use Rattle.lists.specs.Lists.{_∈_, filter, any, before, Rising}
-use Rattle.lists.specs.Tests.{either, both, and-l, and-r, or-l, or-r, or-cases}
+use Rattle.lists.specs.Tests.{either, T-both, T-left, T-right, T-or-left, T-or-right, T-or-cases}
 use Rattle.lists.specs.Members.{none, cons-cases, filter-in, filter-out, any-in, any-out}
 use Rattle.lists.specs.Order.{before-irrefl, before-trans, before-total}
 use Rattle.lists.specs.Sorting.{sort-in, sort-out, sort-rising}
@@ -35,10 +35,10 @@ module _ {X : Type 0} (m : Measure X) where
     shown-out i t = record { best = record { listed = i; free = free }; first = first }
       where
         free : (e : X) → e ∈ l → ¬ T (over m c e)
-        free e k d = T-not (any (ahead m c) l) t (any-in (ahead m c) k (search or-l))
+        free e k d = T-not (any (ahead m c) l) t (any-in (ahead m c) k (search T-or-left))
 
         first : (e : X) → e ∈ l → m .cost e ≡ m .cost c → ¬ T (before (m .key e) (m .key c))
-        first e k q b = T-not (any (ahead m c) l) t (any-in (ahead m c) k (search (or-r, both, equal-in)))
+        first e k q b = T-not (any (ahead m c) l) t (any-in (ahead m c) k (search (T-or-right, T-both, equal-in)))
 
     shown-in : Picked m l c → T (shown m l c)
     shown-in p = not-T (any (ahead m c) l) clash
@@ -48,9 +48,9 @@ module _ {X : Type 0} (m : Measure X) where
             let r = any-out (ahead m c) l s in
             let e = r .0 in
             let tied = equal (m .cost e) (m .cost c) && before (m .key e) (m .key c) in
-            elim (or-cases (over m c e) tied (r .2)) [
+            elim (T-or-cases (over m c e) tied (r .2)) [
               | inl d ↦ p .best .free e (r .1) d
-              | inr d ↦ p .first e (r .1) (search (equal-out, and-l)) (search and-r)
+              | inr d ↦ p .first e (r .1) (search (equal-out, T-left)) (search T-right)
             ]
 
   -- membership among the entries and the costs
@@ -135,12 +135,12 @@ module _ {X : Type 0} (m : Measure X) where
   first-of p (y ∷ l) e h =
       either
       (p y && before (m .key y) (m .key e))
-      (λ t. take-y t (first-of p l y (search and-l)))
+      (λ t. take-y t (first-of p l y (search T-left)))
       (λ t. keep-e t (first-of p l e h))
     where
       take-y : T (p y && before (m .key y) (m .key e)) → First p l y → First p (y ∷ l) e
       take-y t s =
-          let b : T (before (m .key y) (m .key e)) = search and-r in
+          let b : T (before (m .key y) (m .key e)) = search T-right in
           record {
             one = s .one;
             passes = s .passes;
@@ -170,7 +170,7 @@ module _ {X : Type 0} (m : Measure X) where
           later : T (p y) → ¬ T (before (m .key y) (m .key (s .one)))
           later g v =
               let b = before-e v in
-              T-not (p y && before (m .key y) (m .key e)) t (search both)
+              T-not (p y && before (m .key y) (m .key e)) t (search T-both)
 
   -- an undominated cost is shown
   pub pick : (l : List X) (c : X) → Undominated m l c → (e : X) × Picked m l e × (m .cost e ≡ m .cost c)

@@ -7,10 +7,10 @@ use native.Mathlib.Omega.{arith}
 use borrow.Author.Tests.{not-true, not-false}
 use lib.ListN.{length}
 use Rattle.lists.specs.Lists.{concatMap}
+use Rattle.lists.specs.Ranges.{range-more, range-none}
 use Rattle.timetable.specs.Timetable.{Station}
 use Rattle.timetable.specs.Words.{stationAt}
 use Rattle.connections.specs.Rides.{Ride}
-use Rattle.tables.proofs.TimesLaws.{range-more, range-none}
 use Rattle.lookup.specs.Lookup.{Line, numberAt, arriveAt, departAt}
 use Rattle.lookup.specs.First.{firstTrip}
 use Rattle.lookup.specs.Calls.{Piece, Boarding, callsOf, callsIn, BoardsAt}

@@ -3,35 +3,15 @@ use mathlib.Core.Path.{_≡_, refl, sym, ap, _∙_}
 use mathlib.Core.Bool.{Bool, true, false, _&&_, _||_}
 use mathlib.Core.List.{[], _∷_}
 use Prim.Native.Nat.{ℕ, _-_, _≤_, _<_}
-use native.Mathlib.Omega.{arith}
-use borrow.Author.Tests.{lt-ltb, le-ltb, eq-eqb, ne-eqb}
 use lib.Dec.{ltb, eqb}
 use Rattle.lists.specs.Lists.{before}
+use Rattle.lists.specs.Order.{first-less, first-more, first-same, last-number}
 use Rattle.riding.specs.declared.Ride.{Ride as RideStruct}
 use Rattle.showing.specs.Heads.{lateness}
 use Rattle.showing.specs.Turns.{numbersBefore, comesBefore}
 
 pub late-first : (first : Bool) (depart r : ℕ) → first ≡ true → r ≡ 2879 - depart → r ≡ lateness first depart
 late-first first depart r e h = h ∙ sym (ap (λ b. lateness b depart) e)
-
--- a comparison by one number, and by more where it is the same
-module _ (a b : ℕ) (more : Bool) where
-  first-less : a < b → (ltb a b || (eqb a b && more)) ≡ true
-  first-less h = simp (lt-ltb a b h)
-
-  first-more : b < a → (ltb a b || (eqb a b && more)) ≡ false
-  first-more h = simp (le-ltb a b (omega arith), ne-eqb a b (omega arith))
-
-  first-same : b ≤ a → a ≤ b → (ltb a b || (eqb a b && more)) ≡ more
-  first-same h g = simp (le-ltb a b h, eq-eqb a b (omega arith))
-
-last-number : (a b : ℕ) → before (a ∷ []) (b ∷ []) ≡ ltb a b
-last-number a b = either (ltb a b) (eqb a b)
-  where
-    either : (x y : Bool) → (x || (y && false)) ≡ x
-    either true y = refl
-    either false true = refl
-    either false false = refl
 
 module _ (g f : RideStruct) where
   -- what decides behind the trip

@@ -1,6 +1,6 @@
 -- From ride to ride along a path: the ride to take, what is written of it, and where one is behind it.
 use mathlib.Core.Path.{_≡_, refl, sym, ap, subst, _∙_}
-use mathlib.Core.Bool.{Bool, true, false, not}
+use mathlib.Core.Bool.{Bool, true, false, not, true≢false}
 use mathlib.Core.Logic.{_⊎_, inl, inr, _↔_}
 use mathlib.Core.List.{List, [], _∷_, _++_}
 use Prim.Native.Nat.{ℕ, _+_, _-_, _*_, _≤_, _<_}
@@ -32,9 +32,6 @@ use Rattle.showing.specs.OnTheWay.{Standing, Taken, Nothing, Headed, Und
 use Rattle.showing.specs.OnTheWay.{Stopped, Gone, Rode}
 use Rattle.showing.proofs.PatternLaws.{is-valid, station-few, station-inside}
 use Rattle.showing.proofs.PatternLaws.{ChangeThere, change-there}
-
-true-false : true ≡ false → ⊥
-true-false e = let z : _≡_ {A = ℕ} 0 1 = cc in omega arith
 
 -- ---- one ride
 pub three-put : (i a b c : ℕ) (old mid : List ℕ) → 3 * i + 3 ≤ length old → mid ≡ put (3 * i) (a ∷ b ∷ []) old
@@ -271,7 +268,7 @@ module _ (w lines path : List ℕ) (r v : ℕ) (given : Given w lines path r v) 
 
         go : Stopped w path r v 0 start step ⊎ Gone w path r v true 0 start old new step
             → Under w path r v a m (p .0) (step .depart) 1 new (step .at)
-        go (inl h) = absurd (true-false (sym (ap not (h .found)) ∙ found))
+        go (inl h) = absurd (true≢false (sym (ap not (h .found)) ∙ found))
         go (inr h) =
             let ride = h .taken .ride in
             let y = getD path 0 0 in
@@ -313,7 +310,7 @@ module _ (w lines path : List ℕ) (r v : ℕ) (given : Given w lines path r v) 
         go : Stopped w path r v 0 start step ⊎ Gone w path r v true 0 start old new step
             → (e : Connection) → ¬ Fitting t b v (take r path) a m (p .0) e
         go (inl h) = h .none
-        go (inr h) = absurd (true-false (sym e ∙ ap not (h .found)))
+        go (inr h) = absurd (true≢false (sym e ∙ ap not (h .found)))
 
   pub none-fits : (a m p : ℕ) (step : Next) (old new : List ℕ)
       → Rode w path r v true 0 (record { from = a; ready = m; left = record { 0 = p } }) old new step

@@ -4,19 +4,11 @@ use mathlib.Core.Bool.{not, cond}
 use mathlib.Core.Logic.{_⊎_, inl, inr}
 use mathlib.Core.List.{List, [], _∷_, List·Memᴰ·head as here, List·Memᴰ·tail as there}
 use Prim.Native.Nat.{ℕ}
-use lib.Dec.{T, T-not, not-T}
+use lib.Dec.{T, T-not}
 use Rattle.lists.specs.Lists.{_∈_, before}
 use Rattle.lists.specs.Tests.{either, T-true, T-false}
 use Rattle.lists.specs.Members.{none, cons-cases}
-use Rattle.lists.specs.Order.{before-irrefl, before-trans, before-total}
-
--- if x does not come before y, nor y before z, then x does not come before z
-not-before-trans : (x y z : List ℕ) → ¬ T (before x y) → ¬ T (before y z) → ¬ T (before x z)
-not-before-trans x y z p q t =
-    either
-    (before z y)
-    (λ s. p (before-trans x z y t s))
-    (λ s. p (rw (before-total z y s (not-T (before y z) q)) at t))
+use Rattle.lists.specs.Order.{before-irrefl, before-trans, not-before-trans}
 
 module _ {A : Type 0} (key : A → List ℕ) where
   -- of two the one that comes before the other

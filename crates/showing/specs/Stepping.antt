@@ -1,14 +1,14 @@
 -- From what is left at one station of a pattern to what is left at the station before it: for each ride between them
 -- that can be caught, the latest minute of arrival for which it can, and what it costs with the change before it and
 -- what is left behind it.
-use mathlib.Core.Path.{_≡_, refl, sym, ap, _∙_}
+use mathlib.Core.Path.{_≡_, sym, ap, _∙_}
 use mathlib.Core.Bool.{Bool, not, _&&_}
 use mathlib.Core.Logic.{inl, inr, _↔_}
 use mathlib.Core.List.{List, [], _∷_, map, Memᴰ·map, Memᴰ·of-map}
-use Prim.Native.Nat.{ℕ, _+_, _-_, _≤_, _<_, min}
+use Prim.Native.Nat.{ℕ, _+_, _-_, _≤_, _<_}
 use native.Mathlib.Omega.{arith}
 use lib.Dec.{T, leb, ltb, ltb→lt, nltb→le}
-use lib.ListN.{length, getD, length-set}
+use lib.ListN.{length, getD}
 use Rattle.timetable.specs.Timetable.{Timetable, valid}
 use Rattle.lists.specs.Lists.{_∈_, filter}
 use Rattle.lists.specs.Tests.{either, reads, writes}
@@ -20,7 +20,7 @@ use Rattle.connections.specs.Sound.{Sound, sound}
 use Rattle.connections.specs.Feasibility.{penalty-most}
 use Rattle.reckoning.specs.Ways.{firstRide}
 use Rattle.minutes.specs.Minutes.{noPoints, noteAll, blank}
-use Rattle.minutes.specs.Noted.{Noted, Arrives, all-noted, LeastNoted, least-noted}
+use Rattle.minutes.specs.Noted.{Noted, Arrives, all-noted, LeastNoted, least-noted, length-noted}
 use Rattle.showing.specs.Rests.{Rest, Rests, begun, parted}
 use Rattle.showing.specs.Settling.{settledFrom, length-from, from-kept, from-low, from-is}
 use Rattle.showing.specs.Spans.{Spans, Arrived, spans-blank, spans-in}
@@ -50,12 +50,6 @@ catches cm cp old l = map (caught cm cp old) (filter (catchable cm old) l)
 -- what is left at the station before from minute t on, rides being those between the two
 unfoldable pub stepped : (t cm cp : ℕ) (old : List ℕ) → List Ride → List ℕ
 stepped t cm cp old rides = settledFrom noPoints t (noteAll blank (catches cm cp old rides))
-
-pub length-noted : (l : List Ride) (best : List ℕ) → length (noteAll best l) ≡ length best
-unfolding noteAll
-length-noted [] best = refl
-length-noted (r ∷ l) best =
-    length-noted l _ ∙ length-set best (r .arrive) (min (getD best (r .arrive) 0) (r .points))
 
 -- ---- the window is kept
 module _ (t v : ℕ) (early : t ≤ v) (timely : v ≤ 2879) where

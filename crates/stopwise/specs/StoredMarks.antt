@@ -3,12 +3,11 @@
 use mathlib.Core.Path.{_≡_, sym, ap, subst, _∙_}
 use mathlib.Core.Bool.{true}
 use mathlib.Core.Logic.{_≢_}
-use mathlib.Core.List.{List, [], _∷_, reverseAux}
+use mathlib.Core.List.{List, _∷_}
 use Prim.Native.Nat.{ℕ, _≤_}
 use native.Mathlib.Omega.{arith}
 use Rattle.timetable.specs.Words.{isTimetable}
 use Rattle.lists.specs.Lists.{_∈_}
-use Rattle.results.specs.Picks.{lead}
 use Rattle.connections.specs.Connections.{Net, Connection, direct, onward, Boards, Feasible, ready, departure}
 use Rattle.connections.specs.Connections.{stations}
 use Rattle.connections.specs.Rides.{Ride}
@@ -16,7 +15,6 @@ use Rattle.connections.specs.Sound.{Sound}
 use Rattle.connections.specs.OptimalLaws.{optimal-own-minute}
 use Rattle.stores.specs.Stored.{stored}
 use Rattle.stores.specs.StoredLaws.{sequence-is, stored-in, stored-out}
-use Rattle.reckoning.specs.AlongLaws.{reverse-twice}
 use Rattle.reckoning.specs.Ways.{Way}
 use Rattle.stopwise.specs.Stopwise.{station, depart, Goes}
 use Rattle.stopwise.specs.Settled.{Timely}
@@ -30,17 +28,6 @@ pub record Source (w : List ℕ) (a d : ℕ) : Type 0 where
   pub leaves : depart w g ≡ d
 
 -- ---- the target of a connection
--- it is the last of its stations
-stations-end : (n : Net) (x u b : ℕ) (c : Connection) (m : List ℕ) → Feasible n x u b c
-    → lead (reverseAux (stations c) m) ≡ b
-stations-end n x u b (direct r) m f = f .1
-stations-end n x u b (onward r z c) m f = stations-end n (z .to) (ready r z) b c (z .from ∷ m) (f .2)
-
-pub sequence-end : (n : Net) (x u b : ℕ) (c : Connection) (rev : List ℕ) (y : ℕ) → Feasible n x u b c
-    → stations c ≡ reverseAux rev (y ∷ []) → b ≡ y
-sequence-end n x u b c rev y f e =
-    sym (stations-end n x u b c [] f) ∙ ap (λ q. lead (reverseAux q [])) e ∙ ap lead (reverse-twice rev (y ∷ []))
-
 target-listed : (n : Net) → Sound n → (x u b : ℕ) (c : Connection) → Feasible n x u b c
     → (1 ≤ b) × (b ≤ n .stations)
 target-listed n ok x u b (direct r) f =

@@ -7,9 +7,9 @@ use Prim.Native.Nat.{ℕ, zero, suc, _+_, _-_, _≤_, _<_}
 use native.Mathlib.Omega.{arith}
 use lib.Dec.{T}
 use lib.ListN.{length, getD}
-use Rattle.lists.specs.Tests.{and-l, and-r, reads}
-use Rattle.timetable.specs.Timetable.{Stop, Trip, Station, Timetable, lastMinute, validStation, listed, leaves, ends}
-use Rattle.timetable.specs.Timetable.{follows, runs, validTrip, validStations, validTrips, valid}
+use Rattle.lists.specs.Tests.{T-left, T-right, reads}
+use Rattle.timetable.specs.Timetable.{Stop, Trip, Station, lastMinute, validStation, listed, leaves, ends}
+use Rattle.timetable.specs.Timetable.{follows, runs, validTrip, valid}
 use Rattle.timetable.specs.Words.{stationCount, tripCount, stopCount, stationAt, stopAt, startAt, tripAt, timetableOf}
 use Rattle.timetable.specs.Words.{isTimetable}
 use Rattle.timetable.specs.Check.{length-stations, length-trips}
@@ -17,7 +17,7 @@ use Rattle.timetable.specs.Access.{station-is, trip-is, trip-long, stop-is, spe
 use Rattle.timetable.specs.Access.{stops-few}
 use Rattle.connections.specs.Rides.{noStop}
 use Rattle.connections.specs.Connections.{noStation}
-use Rattle.connections.specs.Sound.{valid-trip, valid-station}
+use Rattle.connections.specs.Sound.{valid-trip, valid-station, trips-valid, stations-valid}
 use Rattle.stopwise.specs.Stopwise.{arrive, depart, Goes}
 use Rattle.stopwise.specs.Settled.{Timely}
 
@@ -48,13 +48,13 @@ leg n b s i l f =
 
 follows-listed : (n : ℕ) (b s : Stop) → T (follows n b s) → T (listed n s)
 unfolding follows
-follows-listed n b s t = search (and-l, and-r)
+follows-listed n b s t = search (T-left, T-right)
 
 -- the stop behind b, and the stops behind that one
 runs-follows : (n : ℕ) (b s : Stop) (l : List Stop) → T (runs n b (s ∷ l)) → T (follows n b s)
 unfolding runs
-runs-follows n b s [] t = search and-l
-runs-follows n b s (u ∷ l) t = search and-l
+runs-follows n b s [] t = search T-left
+runs-follows n b s (u ∷ l) t = search T-left
 
 runs-ends : (n : ℕ) (b s : Stop) → T (runs n b (s ∷ [])) → s .depart ≡ 0
 unfolding runs ends
@@ -67,11 +67,11 @@ module _ (n : ℕ) (b s u : Stop) (l : List Stop) (t : T (runs n b (s ∷ u ∷ 
 
   runs-leaves : T (leaves s)
   unfolding runs
-  runs-leaves = search (and-l, and-r)
+  runs-leaves = search (T-left, T-right)
 
   runs-on : T (runs n s (u ∷ l))
   unfolding runs
-  runs-on = search and-r
+  runs-on = search T-right
 
 -- ---- place by place: l runs behind stop b
 leg-at : (n : ℕ) (b : Stop) (l : List Stop) → T (listed n b) → T (leaves b) → T (runs n b l) → (p : ℕ) → p < length l
@@ -104,27 +104,19 @@ module _ (n : ℕ) where
       → Leg n (getD l p noStop) (getD l (suc p) noStop)
   unfolding validTrip
   trip-leg [] t p h = absurd t
-  trip-leg (b ∷ l) t p h = leg-at n b l (search (and-l, and-r)) (search (and-l, and-r)) (search and-r) p (omega arith)
+  trip-leg (b ∷ l) t p h =
+      leg-at n b l (search (T-left, T-right)) (search (T-left, T-right)) (search T-right) p (omega arith)
 
   trip-waits : (l : Trip) → T (validTrip n l) → (p : ℕ) → suc (suc p) < length l
       → (getD l (suc p) noStop) .arrive ≤ (getD l (suc p) noStop) .depart
   unfolding validTrip
   trip-waits [] t p h = absurd t
-  trip-waits (b ∷ l) t p h = waits-at n b l (search and-r) p (omega arith)
+  trip-waits (b ∷ l) t p h = waits-at n b l (search T-right) p (omega arith)
 
   trip-ends : (l : Trip) → T (validTrip n l) → (p : ℕ) → suc (suc p) ≡ length l → (getD l (suc p) noStop) .depart ≡ 0
   unfolding validTrip
   trip-ends [] t p h = absurd t
-  trip-ends (b ∷ l) t p h = ends-at n b l (search and-r) p (omega arith)
-
-module _ (t : Timetable) (v : T (valid t)) where
-  trips-valid : T (validTrips (length (t .stations)) (t .trips))
-  unfolding valid
-  trips-valid = search and-r
-
-  stations-valid : T (validStations (t .stations))
-  unfolding valid
-  stations-valid = search (and-l, and-r)
+  trip-ends (b ∷ l) t p h = ends-at n b l (search T-right) p (omega arith)
 
 record Price (s : Station) : Type 0 where
   some : 1 ≤ s .points

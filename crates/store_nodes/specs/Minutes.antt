@@ -14,12 +14,13 @@ use Rattle.timetable.specs.Words.{isTimetable}
 use Rattle.stores.specs.Words.{beginnings}
 use Rattle.reckoning.specs.Ways.{Way}
 use Rattle.reckoning.specs.Continuing.{closing-exactly}
+use Rattle.reckoning.specs.AlongLaws.{sequence-end}
 use Rattle.stopwise.specs.Paid.{LeastArrivals}
 use Rattle.stopwise.specs.Prospects.{Allows, Ends, GoesOn}
 use Rattle.stopwise.specs.Settled.{Timely}
 use Rattle.stopwise.specs.RideStops.{netOf, spelled-sound}
 use Rattle.stopwise.specs.Marks.{ends-closing, goes-on-way}
-use Rattle.stopwise.specs.StoredMarks.{Source, way-stored, stored-way, sequence-end}
+use Rattle.stopwise.specs.StoredMarks.{Source, way-stored, stored-way}
 use Rattle.growing.specs.Tree.{hasArc, hasKid}
 use Rattle.growing.specs.Numbering.{arc-out, arc-in, kid-out, kid-in}
 use Rattle.stores.specs.Stored.{sequences}

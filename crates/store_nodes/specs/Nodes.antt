@@ -9,6 +9,7 @@ use lib.ListN.{length, getD, length-append}
 use Rattle.lists.specs.Lists.{_∈_, Distinct}
 use Rattle.lists.specs.Members.{cons-cases, concatMap-out}
 use Rattle.lists.specs.Pigeonhole.{Within}
+use Rattle.lists.specs.Places.{getD-in}
 use Rattle.timetable.specs.Words.{stationCount, isTimetable}
 use Rattle.timetable.specs.Check.{length-stations}
 use Rattle.connections.specs.OptimalLaws.{pattern-distinct}
@@ -17,7 +18,7 @@ use Rattle.stores.specs.Nodes.{node-out}
 use Rattle.stores.specs.StoredLaws.{stored-out, stored-short}
 use Rattle.stopwise.specs.RideStops.{netOf, spelled-sound}
 use Rattle.growing.specs.Tree.{rooted, nodeAt, Made}
-use Rattle.growing.specs.Numbering.{root-first, getD-in}
+use Rattle.growing.specs.Numbering.{root-first}
 use Rattle.growing.specs.StoredTree.{stored-made}
 use Rattle.stores.specs.Stored.{sequences}
 use Rattle.store_nodes.specs.Beginnings.{begin-out}
@@ -94,6 +95,6 @@ module _ (w : List ℕ) (yes : isTimetable w ≡ true) (a : ℕ) (some : 1 ≤ a
   pub sequenced : (v : ℕ) → v < length (rooted (sequences w a)) → Sequenced w a (nodeAt (sequences w a) v)
   sequenced v h =
       cons-cases
-      (subst (λ l. nodeAt (sequences w a) v ∈ l) (root-first (sequences w a)) (getD-in (rooted (sequences w a)) v h))
+      (subst (λ l. nodeAt (sequences w a) v ∈ l) (root-first (sequences w a)) (getD-in (rooted (sequences w a)) v [] h))
       (λ e. subst (Sequenced w a) (sym e) root)
       (λ m. node (nodeAt (sequences w a) v) m)

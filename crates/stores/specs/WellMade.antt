@@ -10,7 +10,7 @@ use lib.Dec.{T, ltb→lt, not-T}
 use lib.ListN.{length, getD, length-append}
 use Rattle.timetable.specs.Timetable.{stationsMost}
 use Rattle.lists.specs.Lists.{_∈_, any, before, Rising}
-use Rattle.lists.specs.Tests.{both, writes}
+use Rattle.lists.specs.Tests.{T-both, writes}
 use Rattle.lists.specs.Members.{any-out, concatMap-out}
 use Rattle.lists.specs.Pigeonhole.{Within}
 use Rattle.stores.specs.Words.{beginnings, front, final, nodes, place, entry, arcs, encode, nodePairs, arcPairs}
@@ -22,7 +22,7 @@ use Rattle.stores.specs.RoundTrip.{node-words, arc-words, arc-out, arcs-
 arcs-rise : (l : List (List ℕ)) → Rising l → T (arcsRise l)
 arcs-rise [] h = tt
 arcs-rise (x ∷ []) h = tt
-arcs-rise (x ∷ y ∷ l) h = both (before x y) (arcsRise (y ∷ l)) (h .0 y (here refl)) (arcs-rise (y ∷ l) (h .1))
+arcs-rise (x ∷ y ∷ l) h = T-both (before x y) (arcsRise (y ∷ l)) (h .0 y (here refl)) (arcs-rise (y ∷ l) (h .1))
 
 module _ (k : ℕ) (ps : List (List ℕ)) (full : (p : List ℕ) → p ∈ ps → p ≢ []) where
   module _ (within : (p : List ℕ) → p ∈ ps → Within k p) where

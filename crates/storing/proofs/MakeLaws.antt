@@ -8,8 +8,8 @@ use native.Mathlib.Omega.{arith}
 use borrow.Author.Tests.{le-leb, lt-leb, not-true, not-false}
 use lib.Dec.{leb}
 use lib.ListN.{length}
-use Rattle.questions.specs.Question.{and-false}
 use Rattle.words.specs.Put.{put}
+use Rattle.lists.specs.Tests.{and-false}
 use Rattle.replies.specs.declared.Reply.the-variants.{Done, Refused}
 use Rattle.replies.specs.Replies.{reply-done, reply-refused, words-done, words-kept}
 use Rattle.timetable.specs.Words.{stationCount, isTimetable}

@@ -9,7 +9,8 @@ use borrow.Author.Tests.{leb-true, not-true, not-false}
 use lib.Dec.{leb}
 use lib.ListN.{length, take}
 use lib.Seq.{length-take-le}
-use Rattle.questions.specs.Question.{ask, firstNo, yes-here, yes-later, and-left, and-right}
+use Rattle.questions.specs.Question.{ask, firstNo, yes-here, yes-later}
+use Rattle.lists.specs.Tests.{and-left, and-right}
 use Rattle.replies.specs.declared.Reply.{Reply}
 use Rattle.replies.specs.declared.Reply.the-variants.{Refused}
 use Rattle.replies.specs.Replies.{replyOf, wordsAfter, reply-refused, words-kept}

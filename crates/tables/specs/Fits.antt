@@ -11,6 +11,7 @@ use native.Mathlib.Omega.{arith}
 use borrow.Author.Tests.{eq-eqb, ne-eqb}
 use lib.ListN.{length, length-append, length-map}
 use Rattle.lists.specs.Lists.{range}
+use Rattle.lists.specs.Ranges.{length-range}
 use Rattle.timetable.specs.Timetable.{Trip}
 use Rattle.timetable.specs.Words.{stationCount, tripCount, stopCount, startAt, timetableOf, isTimetable}
 use Rattle.timetable.specs.Check.{length-trips}
@@ -26,7 +27,6 @@ use Rattle.tables.specs.Sums.{
   sum-ones,
   sum-more,
   sum-lengths,
-  range-long,
   sum-distinct,
 }
 use Rattle.tables.specs.Model.{
@@ -52,6 +52,7 @@ use Rattle.tables.specs.Model.{
   pairPlaces,
   indexAt,
   tableAt,
+  rest-lines,
 }
 
 -- ---- the lines of a timetable
@@ -88,7 +89,7 @@ module _ (w : List ℕ) (yes : isTimetable w ≡ true) where
         on-once (λ z. 1),
         sum-ones (onLines (linesAt w)),
         sum-ones (range 0 (tripCount w)),
-        range-long 0 (tripCount w),
+        length-range 0 (tripCount w),
       )
 
   pub stops-once : sumOf (callsOf w) (onLines (linesAt w)) ≤ stopCount w
@@ -158,9 +159,6 @@ block-most w line is =
     )
 
 -- ---- the words of all lines
-rest-lines : (w l : List ℕ) (ls : List (List ℕ)) → AllLines w (l ∷ ls) → AllLines w ls
-rest-lines w l ls all = record { at = (λ i h. all .at (suc i) (omega arith)) }
-
 lines-most : (w : List ℕ) (ls : List (List ℕ)) → AllLines w ls → length ls ≤ length (onLines ls)
 lines-most w [] all = omega arith
 lines-most w (l ∷ ls) all =

@@ -4,6 +4,7 @@ use mathlib.Core.Path.{_≡_}
 use mathlib.Core.Bool.{Bool, true, false, cond}
 use mathlib.Core.List.{List, [], _∷_, _++_, map}
 use Prim.Native.Nat.{ℕ, zero, suc, _+_, _-_, _≤_, _<_}
+use native.Mathlib.Omega.{arith}
 use lib.Dec.{eqb}
 use lib.ListN.{length, getD, take, drop}
 use Rattle.lists.specs.Lists.{concatMap, range}
@@ -101,6 +102,9 @@ pub record Holds (numbers ends : List ℕ) (ls : List (List ℕ)) : Type 0 where
 -- each of them is a line of the timetable
 pub record AllLines (w : List ℕ) (ls : List (List ℕ)) : Type 0 where
   pub at : (i : ℕ) → i < length ls → LineOf w (getD ls i [])
+
+pub rest-lines : (w l : List ℕ) (ls : List (List ℕ)) → AllLines w (l ∷ ls) → AllLines w ls
+rest-lines w l ls all = record { at = (λ i h. all .at (suc i) (omega arith)) }
 
 -- ---- where lines call at a station: line and position, from 1
 abbrev pub callWords : (found station line position : ℕ) → List ℕ

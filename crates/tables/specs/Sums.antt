@@ -1,15 +1,15 @@
 -- Sums over lists. Distinct numbers of n from i on sum to at most what all of these do: leave out i, and the others are
 -- of those from i + 1 on.
-use mathlib.Core.Path.{_≡_, refl, sym, ap}
-use mathlib.Core.Bool.{Bool, true, false, not}
-use mathlib.Core.List.{List, [], _∷_, _++_, List·Memᴰ·head as here, List·Memᴰ·tail as there, Memᴰ·cast}
+use mathlib.Core.Path.{_≡_, refl, ap}
+use mathlib.Core.List.{List, [], _∷_, _++_, List·Memᴰ·head as here, Memᴰ·cast}
 use Prim.Native.Nat.{ℕ, zero, suc, _+_, _≤_, _<_}
 use native.Mathlib.Omega.{arith}
 use lib.Dec.{eqb, eqb→eq, T-not}
 use lib.ListN.{length, getD, length-append}
-use Rattle.lists.specs.Lists.{_∈_, keep, filter, range, Distinct}
+use Rattle.lists.specs.Lists.{_∈_, filter, range, Distinct}
 use Rattle.lists.specs.Tests.{either, T-true, T-false, eq→eqb}
 use Rattle.lists.specs.Members.{filter-out}
+use Rattle.lists.specs.Pigeonhole.{other, other-all, distinct-filter}
 
 unfoldable pub sumOf : (ℕ → ℕ) → List ℕ → ℕ
 sumOf f [] = 0
@@ -49,30 +49,7 @@ unfolding sumOf
 sum-lengths a b [] = refl
 sum-lengths a b (x ∷ l) = omega (arith, length-append (a x) (b x), sum-lengths a b l)
 
-pub range-long : (i n : ℕ) → length (range i n) ≡ n
-range-long i zero = refl
-range-long i (suc n) = ap suc (range-long (suc i) n)
-
 -- ---- distinct numbers
-abbrev other : ℕ → ℕ → Bool
-other k x = not (eqb x k)
-
-other-all : (k : ℕ) (l : List ℕ) → ¬ (k ∈ l) → filter (other k) l ≡ l
-other-all k [] h = refl
-other-all k (x ∷ l) h =
-    either
-    (eqb x k)
-    (λ t. absurd (h (here (sym (eqb→eq x k t)))))
-    (λ t. rw (T-false (eqb x k) t, other-all k l (λ m. h (there m))))
-
-distinct-filter : (p : ℕ → Bool) (l : List ℕ) → Distinct l → Distinct (filter p l)
-distinct-filter p [] d = tt
-distinct-filter p (x ∷ l) d = go (p x) (distinct-filter p l (d .1))
-  where
-    go : (b : Bool) → Distinct (filter p l) → Distinct (keep b x (filter p l))
-    go true ih = (λ m. d .0 (filter-out p l m .0), ih)
-    go false ih = ih
-
 sum-other : (f : ℕ → ℕ) (k : ℕ) (l : List ℕ) → Distinct l → sumOf f l ≤ f k + sumOf f (filter (other k) l)
 unfolding sumOf
 sum-other f k [] d = omega arith

@@ -9,7 +9,7 @@ use native.Mathlib.Omega.{arith}
 use borrow.Author.Tests.{eq-eqb, ne-eqb, le-leb, lt-leb, le-ltb, lt-ltb}
 use lib.ListN.{length, getD, drop, drop-of-length-le}
 use lib.Seq.{drop-cons}
-use Rattle.questions.specs.Question.{and-false}
+use Rattle.lists.specs.Tests.{and-false}
 use Rattle.text.specs.Piece.{pieces}
 
 -- The values of an empty field and of a field that is neither empty nor a number stand above every number.

@@ -7,7 +7,7 @@ use Prim.Native.Nat.{ℕ, _≤_}
 use native.Mathlib.Omega.{arith}
 use borrow.Author.Tests.{leb-true}
 use lib.Dec.{leb, eqb}
-use Rattle.questions.specs.Question.{and-left, and-right}
+use Rattle.lists.specs.Tests.{and-left, and-right}
 
 abbrev pub within : ℕ → ℕ → ℕ → Bool
 within low high v = leb low v && leb v high

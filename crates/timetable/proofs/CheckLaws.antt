@@ -1,12 +1,12 @@
 -- The ways out of the functions that decide question 9.
 use mathlib.Core.Path.{_≡_, refl, sym, ap, _∙_}
 use mathlib.Core.Bool.{Bool, true, false, not, _&&_}
-use mathlib.Core.List.{List, [], _∷_}
+use mathlib.Core.List.{List, _∷_}
 use Prim.Native.Nat.{ℕ, _+_, _≤_, _<_}
 use native.Mathlib.Omega.{arith}
-use borrow.Author.Tests.{le-leb, lt-leb, eq-eqb, ne-eqb, leb-true, eqb-true, not-true, not-false}
+use borrow.Author.Tests.{le-leb, lt-leb, eq-eqb, ne-eqb, not-true, not-false}
 use lib.Dec.{leb, eqb}
-use Rattle.questions.specs.Question.{and-left, and-right, and-true, and-false}
+use Rattle.lists.specs.Tests.{and-true, and-false}
 use Rattle.timetable.specs.Timetable.{
   Station,
   Stop,
@@ -32,6 +32,7 @@ use Rattle.timetable.specs.Check.{
   between,
   between-more,
   between-none,
+  rise-most,
 }
 
 -- ---- a first stop
@@ -143,15 +144,6 @@ module _ (w : List ℕ) (n first end : ℕ) where
     trip-begun y u e = e ∙ sym (begun ∙ rw (not-false t y))
 
 -- ---- trips, one by one
--- starts that rise to n are at most n
-rise-most : (b : ℕ) (l : List ℕ) (n : ℕ) → rise b l n ≡ true → b ≤ n
-unfolding rise
-rise-most b [] n e = omega (arith, eqb-true b n e)
-rise-most b (c ∷ l) n e =
-    let here = leb-true b c (and-left (leb b c) (rise c l n) e) in
-    let later = rise-most c l n (and-right (leb b c) (rise c l n) e) in
-    omega (arith, here, later)
-
 rise-beyond : (b : ℕ) (l : List ℕ) (n : ℕ) → n < b → rise b l n ≡ false
 rise-beyond b l n h = by-test (rise b l n) (rise-most b l n)
   where

@@ -1,7 +1,7 @@
 -- From words with a yes to question 9 to the timetable that they spell: its bounds, and each of its stations, trips and
 -- stops. Callers use these laws, never the places of words.
 use mathlib.Core.Path.{_≡_, sym, ap, _∙_}
-use mathlib.Core.Bool.{Bool, true, false, _&&_}
+use mathlib.Core.Bool.{Bool, true, false, _&&_, false≢true}
 use mathlib.Core.List.{List, [], _∷_, map}
 use Prim.Native.Nat.{ℕ, zero, suc, _+_, _-_, _≤_, _<_}
 use native.Mathlib.Numerals.{add-one}
@@ -10,7 +10,7 @@ use borrow.Author.Tests.{leb-true, eqb-true}
 use lib.Dec.{leb, eqb}
 use lib.ListN.{length, getD}
 use Rattle.lists.specs.Lists.{range}
-use Rattle.questions.specs.Question.{and-left, and-right}
+use Rattle.lists.specs.Tests.{and-left, and-right}
 use Rattle.timetable.specs.Timetable.{
   Station,
   Stop,
@@ -76,13 +76,10 @@ module _ (w : List ℕ) where
   stop-is k p d h = map-numbers (stopAt w) (startAt w k) (startAt w (k + 1) - startAt w k) p d h
 
 -- ---- trips of a valid timetable have two stops at least
-no-truth : false ≡ true → ⊥
-no-truth e = let z : _≡_ {A = ℕ} 0 1 = cc in omega arith
-
 two-stops : (n : ℕ) (t : Trip) → validTrip n t ≡ true → 2 ≤ length t
 unfolding validTrip runs
-two-stops n [] e = absurd (no-truth e)
-two-stops n (s ∷ []) e = absurd (no-truth (and-right (listed n s && eqb (s .arrive) 0 && leaves s) false e))
+two-stops n [] e = absurd (false≢true e)
+two-stops n (s ∷ []) e = absurd (false≢true (and-right (listed n s && eqb (s .arrive) 0 && leaves s) false e))
 two-stops n (s ∷ u ∷ l) e = omega arith
 
 pub trip-valid : (n : ℕ) (l : List Trip) (k : ℕ) (d : Trip) → validTrips n l ≡ true → k < length l
@@ -185,7 +182,7 @@ module _ (w : List ℕ) (yes : isTimetable w ≡ true) where
   unfolding isTimetable
   spelled-valid = and-right (chained w) (valid (timetableOf w)) yes
 
-  is-chained : chained w ≡ true
+  pub is-chained : chained w ≡ true
   unfolding isTimetable
   is-chained = and-left (chained w) (valid (timetableOf w)) yes
 

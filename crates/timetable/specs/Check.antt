@@ -1,6 +1,6 @@
 -- How the code decides question 9, part by part. No reader of the promise needs this file: `decided` shows that the
 -- parts come to `isTimetable`.
-use mathlib.Core.Path.{_≡_, refl, sym, ap, _∙_}
+use mathlib.Core.Path.{_≡_, sym, ap, _∙_}
 use mathlib.Core.Bool.{Bool, true, _&&_}
 use mathlib.Core.List.{List, [], _∷_, map}
 use Prim.Native.Nat.{ℕ, zero, suc, _+_, _-_, _≤_, _<_}
@@ -11,7 +11,8 @@ use borrow.Author.Tests.{leb-true, eqb-true}
 use lib.Dec.{leb, eqb}
 use lib.ListN.{length, length-append, length-map}
 use Rattle.lists.specs.Lists.{range}
-use Rattle.questions.specs.Question.{and-left, and-right, and-both, same-tests}
+use Rattle.lists.specs.Ranges.{length-range}
+use Rattle.lists.specs.Tests.{and-left, and-right, and-both, same-tests}
 use Rattle.timetable.specs.Timetable.{
   Station,
   Stop,
@@ -84,10 +85,6 @@ module _ {A : Type 0} (f : ℕ → A) (i n : ℕ) where
       rw none
 
 -- ---- the parts come to question 9
-pub length-range : (i n : ℕ) → length (range i n) ≡ n
-length-range i zero = refl
-length-range i (suc n) = ap suc (length-range (suc i) n)
-
 pub length-trip : (w : List ℕ) (k : ℕ) → length (tripAt w k) ≡ startAt w (suc k) - startAt w k
 unfolding tripAt
 length-trip w k =
@@ -95,7 +92,16 @@ length-trip w k =
     ∙ length-range (startAt w k) (startAt w (k + 1) - startAt w k)
     ∙ ap (λ j. startAt w j - startAt w k) (add-one k)
 
--- trips that stand one behind the other have as many stops as lie between the first's beginning and the last's end
+-- starts that rise to n are at most n
+pub rise-most : (b : ℕ) (l : List ℕ) (n : ℕ) → rise b l n ≡ true → b ≤ n
+unfolding rise
+rise-most b [] n e = omega (arith, eqb-true b n e)
+rise-most b (c ∷ l) n e =
+    let here = leb-true b c (and-left (leb b c) (rise c l n) e) in
+    let later = rise-most c l n (and-right (leb b c) (rise c l n) e) in
+    omega (arith, here, later)
+
+-- trips that stand one after the other have as many stops as lie between the first's beginning and the last's end
 stops-between : (w : List ℕ) (k m n : ℕ) → rise (startAt w k) (map (startAt w) (range (suc k) m)) n ≡ true
     → startAt w k + length (stopsOf (map (tripAt w) (range k m))) ≡ n
 unfolding rise

@@ -1,19 +1,19 @@
 -- What question 13 grants: a well-made store is one that can be read, its sequences are of listed stations, none is
 -- empty or too long, each ends at its arc's target, and arcs with one target stand together.
-use mathlib.Core.Path.{_≡_, refl, sym, subst, _∙_}
+use mathlib.Core.Path.{_≡_, sym, subst, _∙_}
 use mathlib.Core.Bool.{Bool, true, not, _&&_}
-use mathlib.Core.List.{List, [], _∷_, _++_, List·Memᴰ·head as here, List·Memᴰ·tail as there}
+use mathlib.Core.List.{List, [], _∷_, _++_}
 use Prim.Native.Nat.{ℕ, zero, suc, _+_, _≤_, _<_}
 use native.Mathlib.Nat.{le-refl}
 use native.Mathlib.Numerals.{add-one}
 use native.Mathlib.Omega.{arith}
 use lib.Dec.{T, nltb→le}
-use lib.ListN.{length, getD}
-use Rattle.questions.specs.Question.{and-left, and-right}
+use lib.ListN.{length}
 use Rattle.lists.specs.Lists.{_∈_}
-use Rattle.lists.specs.Tests.{reads}
+use Rattle.lists.specs.Tests.{reads, and-left, and-right}
 use Rattle.lists.specs.Members.{none, cons-cases, append-cases}
 use Rattle.lists.specs.Pigeonhole.{Within}
+use Rattle.lists.specs.Places.{getD-in}
 use Rattle.stores.specs.Words.{readable, long, wellMade}
 use Rattle.wellmade.specs.Entries.{nodeCount, arcCount, nodeStation, nodeParent, arcTarget, arcBefore}
 use Rattle.wellmade.specs.Paths.{nodePath, arcPath, root-path, next-path, arc-path, length-readable}
@@ -27,14 +27,9 @@ passed b e = subst T (sym e) tt
 -- ---- sequences of any store
 -- the sequences that can be read are those of the arcs
 module _ (s : List ℕ) where
-  at-in : (l : List (List ℕ)) (i : ℕ) → i < length l → getD l i [] ∈ l
-  at-in [] i h = absurd (omega arith)
-  at-in (p ∷ l) zero h = here refl
-  at-in (p ∷ l) (suc i) h = there (at-in l i (omega arith))
-
   pub readable-in : (i : ℕ) → i < arcCount s → arcPath s i ∈ readable s
   unfolding arcPath
-  readable-in i h = at-in (readable s) i (omega (arith, length-readable s))
+  readable-in i h = getD-in (readable s) i [] (omega (arith, length-readable s))
 
 -- ---- what was tested of each node and arc
 module _ (k : ℕ) (s : List ℕ) (yes : wellMade k s ≡ true) where
@@ -162,4 +157,3 @@ module _ (k : ℕ) (s : List ℕ) (yes : wellMade k s ≡ true) where
       (arcTarget s i)
       (node-within (arcBefore s i) (arc-known i h))
       (arc-listed i h))
-  -- ---- targets rise

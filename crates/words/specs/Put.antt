@@ -29,6 +29,11 @@ pub length-put : (at : ℕ) (ws old : List ℕ) → at + length ws ≤ length ol
 unfolding put
 length-put at ws old h = simp (length-append, length-take, length-drop) (omega arith)
 
+-- at the front
+pub put-front : (ws old : List ℕ) → put 0 ws old ≡ ws ++ drop (length ws) old
+unfolding put
+put-front ws old = rw zero-add
+
 pub put-none : (at : ℕ) (old : List ℕ) → put at [] old ≡ old
 unfolding put
 put-none at old = simp (add-zero, append-nil, take-append-drop)

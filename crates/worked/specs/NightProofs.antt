@@ -8,7 +8,7 @@ use native.Mathlib.Omega.{arith}
 use borrow.Author.Tests.{leb-true, eqb-false}
 use lib.Dec.{leb, eqb}
 use lib.ListN.{length, getD, drop, length-map}
-use Rattle.questions.specs.Question.{and-left, and-right}
+use Rattle.lists.specs.Tests.{and-left, and-right}
 use Rattle.timetable.specs.Timetable.{lastMinute}
 use Rattle.reading.specs.Reading.{Accepted, reading}
 use Rattle.accepted.specs.Taken.{valid-accepted}

@@ -9,7 +9,7 @@ use native.Mathlib.Omega.{arith}
 use borrow.Author.Tests.{le-leb, lt-leb}
 use lib.Dec.{leb}
 use lib.ListN.{length, getD, drop}
-use Rattle.words.specs.Put.{put, length-put}
+use Rattle.words.specs.Put.{put, length-put, put-front}
 use Rattle.replies.specs.declared.Reply.the-variants.{Done}
 use Rattle.replies.specs.Replies.{numberOf, replyOf}
 use Rattle.timetable.specs.Timetable.{Timetable}
@@ -38,7 +38,6 @@ use Rattle.promises.specs.Packed.{packedReply, packedCount}
 use Rattle.promises.specs.Query.{rowWords}
 use Rattle.promises.specs.Promises.{Loaded, Made, StoreFits, wordCount, shownWords}
 use Rattle.promises.specs.Promises.{Shows as Shown, Stores as Stored}
-use Rattle.promises.specs.Shown.{put-front}
 use Rattle.promises.specs.Proved.{promises}
 use Rattle.worked.specs.Calls.{
   Slices,

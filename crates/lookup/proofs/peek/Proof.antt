@@ -1,5 +1,5 @@
 use borrow.Author.Needs.{needs}
-use Rattle.lookup.proofs.LookupLaws.{past}
+use Rattle.lists.specs.Places.{past}
 use Rattle.lookup.proofs.peek.Statement.{statement}
 use Rattle.lookup.proofs.peek.Tie as tie
 use Rattle.lookup.proofs.peek.Reads as reads

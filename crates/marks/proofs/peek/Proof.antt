@@ -1,6 +1,6 @@
 -- Past the end the word is 0.
 use borrow.Author.Needs.{needs}
-use Rattle.marks.proofs.WordLaws.{past}
+use Rattle.lists.specs.Places.{past}
 use Rattle.marks.proofs.peek.Statement.{statement}
 use Rattle.marks.proofs.peek.Tie as tie
 
