@@ -63,11 +63,11 @@ module _ (w v : List ℕ) (n a b u number : ℕ) (is : number ≡ tablesNumber w
       pub not-named : not r ≡ true → 11 ≡ queryNumber w v n a b u
       not-named h = sym (on ∙ simp (← asked, not-true r h))
 
-      pub minute-late : not r ≡ false → 2879 < u → 12 ≡ queryNumber w v n a b u
-      minute-late h g = sym (on ∙ simp (← asked, not-false r h, lt-leb u 2879 g))
+      pub minute-late : not r ≡ false → lastMinute < u → 12 ≡ queryNumber w v n a b u
+      minute-late h g = sym (on ∙ simp (← asked, not-false r h, lt-leb u lastMinute g))
 
-      pub all-asked : not r ≡ false → u ≤ 2879 → 0 ≡ queryNumber w v n a b u
-      all-asked h g = sym (on ∙ simp (← asked, not-false r h, le-leb u 2879 g))
+      pub all-asked : not r ≡ false → u ≤ lastMinute → 0 ≡ queryNumber w v n a b u
+      all-asked h g = sym (on ∙ simp (← asked, not-false r h, le-leb u lastMinute g))
 
 -- ---- where the questions about the tables have no refusal, each has its yes
 module _ (w v : List ℕ) (n number : ℕ) (is : number ≡ tablesNumber w v n) (none : number ≡ 0) where

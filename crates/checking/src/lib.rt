@@ -11,7 +11,7 @@ ghost use Rattle.checking.specs.Asked.{listed, named, queryNumber};
 ghost use Rattle.timetable.specs.Words.{timetableOf};
 
 // The last minute of the two days that a timetable has.
-const LAST_MINUTE: u32 = 2879;
+const LAST_MINUTE: u32 = timetable::LAST_MINUTE;
 
 // Whether the first count words of both are the same.
 fn same_words(lines: &[u16], work: &[u32], count: usize) -> bool

@@ -21,7 +21,7 @@ const NO_TRIP: u32 = 65536;
 // The words of a ride that is kept for a minute, and of those of all minutes.
 const RIDE_WORDS: usize = 4;
 
-pub const KEPT_WORDS: usize = 11520;
+pub const KEPT_WORDS: usize = RIDE_WORDS * MINUTES;
 
 // A ride that may be shown.
 pub struct Found {

@@ -11,7 +11,7 @@ ghost use Rattle.growing.specs.Laid.{arcWords, hitsTo, nodeHits, total, 
 ghost use Rattle.growing.specs.Taking.{Next, Takes, Taken, Whole};
 
 // The most nodes, and the most arcs, of a store.
-pub const ENTRIES_MOST: usize = 16383;
+const ENTRIES_MOST: usize = stores::ENTRIES_MOST;
 
 // The word of a node that has not been taken: its station and its parent's number.
 pub fn node_word(station: u32, parent: u32) -> u32

@@ -17,9 +17,9 @@ ghost use Rattle.lookup.specs.Lookup.{
 };
 
 // The words of a position on a line, and the values that one word has.
-const POSITION_WORDS: usize = 3;
+const POSITION_WORDS: usize = tables::POSITION_WORDS;
 
-const WORD_VALUES: usize = 65536;
+const WORD_VALUES: usize = tables::WORD_VALUES as usize;
 
 // A line: where its words begin, its positions and its trips.
 pub struct Line {

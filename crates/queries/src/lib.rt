@@ -4,9 +4,9 @@ ghost use Rattle.queries.specs.Query.{askedOf, queryOf};
 
 const QUERY: u8 = 81;
 
-const COMMA: u8 = 44;
+const COMMA: u8 = text::COMMA;
 
-const NUMBER_MOST: u32 = 9999;
+const NUMBER_MOST: u32 = text::NUMBER_MOST;
 
 // How many bytes the longest query has, its line end left aside.
 pub const BYTES_MOST: usize = 16;

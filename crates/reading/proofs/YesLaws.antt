@@ -12,6 +12,7 @@ use Rattle.lists.specs.Tests.{and-left, and-right}
 use Rattle.text.specs.Range.{inRange, minutes-bound, points-bound, time-bound, ride-bound}
 use Rattle.text.specs.declared.StationLine.{StationLine}
 use Rattle.text.specs.declared.StopLine.{StopLine}
+use Rattle.timetable.specs.Timetable.{lastMinute}
 use Rattle.reading.specs.Draft.{stationInRange, stopInRange}
 use Rattle.reading.specs.Progress.{
   stationNumberAt,
@@ -81,8 +82,8 @@ module _ (p : Progress) (l : StationLine) (n : ℕ) (is : n ≡ stationNumberAt 
   points-word = omega (arith, station-yes p l n is e)
 
 pub record StopYes (p : Progress) (l : StopLine) : Type 0 where
-  pub arrive : l .arrive ≤ 2879
-  pub depart : l .depart ≤ 2879
+  pub arrive : l .arrive ≤ lastMinute
+  pub depart : l .depart ≤ lastMinute
   pub points : l .points ≤ 100
   pub trip : l .trip ≡ p .trips + 1
   pub stop : l .stop ≡ p .begun + 1

@@ -10,6 +10,7 @@ use Rattle.connections.specs.Connections.{net}
 use Rattle.connections.specs.Sound.{sound, ride-cheap, change-priced}
 use Rattle.reckoning.specs.Along.{Along, Reaches}
 
+-- 2,879 * 1,100: for each minute 100 points of a ride and 1,000 of a change at most
 abbrev pub penaltyMost : ℕ
 penaltyMost = 3166900
 

@@ -6,6 +6,7 @@ use mathlib.Core.List.{List}
 use Prim.Native.Nat.{ℕ, suc, _+_, _≤_, _<_}
 use lib.ListN.{getD}
 use Rattle.timetable.specs.Words.{stationCount, stopCount}
+use Rattle.timetable.specs.Timetable.{lastMinute}
 use Rattle.stopwise.specs.Stopwise.{
   station,
   arrive,
@@ -53,8 +54,8 @@ pub record Timely (w : List ℕ) : Type 0 where
   pub few : (i : ℕ) → Goes w i → suc i < stopCount w
   pub before : (i : ℕ) → Goes w i → depart w i < arrive w (suc i)
   pub waits : (i : ℕ) → Goes w i → Goes w (suc i) → arrive w (suc i) ≤ depart w (suc i)
-  pub minute : (i : ℕ) → Goes w i → arrive w (suc i) ≤ 2879
-  pub leaves : (i : ℕ) → Goes w i → depart w i ≤ 2879
+  pub minute : (i : ℕ) → Goes w i → arrive w (suc i) ≤ lastMinute
+  pub leaves : (i : ℕ) → Goes w i → depart w i ≤ lastMinute
   pub cheap : (i : ℕ) → Goes w i → points w i ≤ 100
   pub first : (i : ℕ) → Goes w i → 1 ≤ station w i
   pub listed : (i : ℕ) → Goes w i → station w i ≤ stationCount w

@@ -5,7 +5,7 @@ use mathlib.Core.List.{List}
 use Prim.Native.Nat.{ℕ, zero, suc, _+_, _-_, _≤_, _<_}
 use Rattle.timetable.specs.Words.{tripCount, stationAt, stopAt, startAt}
 
--- no one who is on the way has paid as much: the laws of reckoning/Bounds
+-- 2,879 * 1,100 + 1: no one who is on the way has paid as much, by the laws of reckoning/Bounds
 abbrev pub unreached : ℕ
 unreached = 3166901
 

@@ -10,6 +10,7 @@ use lib.ListN.{length, take, drop, length-append}
 use lib.Seq.{take-add}
 use Rattle.lists.specs.Lists.{concatMap}
 use Rattle.timetable.specs.Words.{stationCount}
+use Rattle.stores.specs.Words.{entriesMost}
 use Rattle.prospects.specs.Routes.{Routes}
 use Rattle.growing.specs.declared.Counts.{Counts}
 use Rattle.growing.specs.Tree.{hasArc, hasKid, children, rooted, nodeAt, Made, Grown, TooMany, Flags}
@@ -211,7 +212,7 @@ module _ (w order : List ℕ) (k : ℕ) (caught : List ℕ) (routes : Routes w o
 
 -- ---- chunk after chunk
 module _ (ps : List (List ℕ)) (source : ℕ) (work targets : List ℕ) where
-  pub few-nodes : (n m lo : ℕ) → Grown ps source work targets n m lo → n ≤ 16383
+  pub few-nodes : (n m lo : ℕ) → Grown ps source work targets n m lo → n ≤ entriesMost
   few-nodes n m lo g = g .few-nodes
 
   pub less-left : (n m lo hi : ℕ) → Grown ps source work targets n m lo → lo ≤ n → lo < hi → 16384 - hi < 16384 - lo

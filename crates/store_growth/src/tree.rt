@@ -11,7 +11,7 @@ ghost use Rattle.stores.specs.Stored.{sequences};
 use growing::Counts;
 
 // A timetable has at most so many stops.
-pub const STOPS_MOST: usize = 2048;
+pub const STOPS_MOST: usize = timetable::STOPS_MOST as usize;
 
 // The arcs and kids of so many nodes are found in one go.
 const CHUNK: usize = 48;

@@ -65,10 +65,10 @@ module _ (w : List ℕ) (a : ℕ) (work targets : List ℕ) (r : Counts)
       grown : Grown (sequences w a) a work targets (r .n) (r .m) (suc (r .n))
       grown = whole .taken (not-false (r .fits) fit)
 
-      pub nodes-few : r .n ≤ 16383
+      pub nodes-few : r .n ≤ entriesMost
       nodes-few = grown .few-nodes
 
-      pub arcs-few : r .m ≤ 16383
+      pub arcs-few : r .m ≤ entriesMost
       arcs-few = grown .few-arcs
 
       pub count-small : 2 + 2 * r .n + 2 * r .m < 2 ^ 32

@@ -10,7 +10,7 @@ ghost use Rattle.text.specs.Shape.{stationOf, stopOf, arriveFits, depart
 ghost use Rattle.text.specs.Values.{valueAt, lineValues};
 ghost use Rattle.text.specs.Range.{rangeNumber};
 
-const COMMA: u8 = 44;
+pub const COMMA: u8 = 44;
 
 const ZERO: u8 = 48;
 
@@ -27,7 +27,7 @@ pub const EMPTY: u32 = 10000;
 
 pub const NO_NUMBER: u32 = 10001;
 
-const NUMBER_MOST: u32 = 9999;
+pub const NUMBER_MOST: u32 = 9999;
 
 const DIGITS_MOST: usize = 4;
 

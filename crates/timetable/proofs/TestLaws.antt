@@ -4,7 +4,7 @@ use mathlib.Core.Bool.{Bool, true, false, not}
 use Prim.Native.Nat.{ℕ, _≤_, _<_}
 use borrow.Author.Tests.{lt-ltb, le-ltb, le-leb, lt-leb, eq-eqb, ne-eqb, not-true, not-false}
 use lib.Dec.{leb, eqb}
-use Rattle.timetable.specs.Timetable.{Station, Stop, validStation, listed, leaves, ends, follows}
+use Rattle.timetable.specs.Timetable.{Station, Stop, validStation, listed, leaves, ends, follows, lastMinute}
 
 module _ (s : Station) where
   pub minutes-above : 240 < s .minutes → false ≡ validStation s
@@ -30,13 +30,13 @@ module _ (s : Stop) where
     unfolding listed
     station-decides h = simp (le-leb 1 (s .station) h)
 
-  pub depart-above : 2879 < s .depart → false ≡ leaves s
+  pub depart-above : lastMinute < s .depart → false ≡ leaves s
   unfolding leaves
-  depart-above h = simp (lt-leb (s .depart) 2879 h)
+  depart-above h = simp (lt-leb (s .depart) lastMinute h)
 
-  pub ride-decides : s .depart ≤ 2879 → leb (s .points) 100 ≡ leaves s
+  pub ride-decides : s .depart ≤ lastMinute → leb (s .points) 100 ≡ leaves s
   unfolding leaves
-  ride-decides h = simp (le-leb (s .depart) 2879 h)
+  ride-decides h = simp (le-leb (s .depart) lastMinute h)
 
   pub depart-some : (s .depart ≡ 0 → ⊥) → false ≡ ends s
   unfolding ends
@@ -67,7 +67,7 @@ module _ (n : ℕ) (b s : Stop) (t : Bool) (is : t ≡ listed n s) where
             le-ltb (b .depart) (s .arrive) h,
           )
 
-      pub arrive-decides : b .depart < s .arrive → leb (s .arrive) 2879 ≡ follows n b s
+      pub arrive-decides : b .depart < s .arrive → leb (s .arrive) lastMinute ≡ follows n b s
       unfolding follows
       arrive-decides h =
           simp (

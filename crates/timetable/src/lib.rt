@@ -43,7 +43,7 @@ const CHANGE_MINUTES_MOST: u32 = 240;
 
 const CHANGE_PENALTY_MOST: u32 = 1000;
 
-const LAST_MINUTE: u32 = 2879;
+pub const LAST_MINUTE: u32 = 2879;
 
 const RIDE_PENALTY_MOST: u32 = 100;
 

@@ -8,7 +8,7 @@ use borrow.Author.Tests.{le-leb, lt-leb, lt-ltb, le-ltb, eq-eqb, ne-eqb, not-tru
 use lib.Dec.{T, leb, ltb, eqb, leb→le, nleb→lt}
 use lib.ListN.{length, getD, set, length-append, length-set}
 use Rattle.lists.specs.Tests.{either}
-use Rattle.stores.specs.Words.{long, wellMade}
+use Rattle.stores.specs.Words.{long, wellMade, entriesMost}
 use Rattle.wellmade.specs.Entries.{nodeCount, arcCount, nodeStation, nodeParent, arcTarget, arcBefore}
 use Rattle.wellmade.specs.Paths.{nodePath, arcPath, arc-path}
 use Rattle.wellmade.specs.Depths.{Depths, depths-start, depths-more}
@@ -40,17 +40,17 @@ module _ (s : List ℕ) where
         rw e
 
     module _ (there : 2 + 2 * n + 2 * m ≤ length s) where
-      counts : presentTest s ≡ (leb n 16383 && leb m 16383)
+      counts : presentTest s ≡ (leb n entriesMost && leb m entriesMost)
       unfolding presentTest
       counts =
           let e : leb (2 + 2 * nodeCount s + 2 * arcCount s) (length s) ≡ true = omega (arith, le-leb) in
           rw (e, is-n, is-m)
 
-      pub many-nodes : 16383 < n → false ≡ presentTest s
-      many-nodes h = sym (counts ∙ rw (lt-leb n 16383 h))
+      pub many-nodes : entriesMost < n → false ≡ presentTest s
+      many-nodes h = sym (counts ∙ rw (lt-leb n entriesMost h))
 
-      pub arcs-decide : n ≤ 16383 → leb m 16383 ≡ presentTest s
-      arcs-decide h = sym (counts ∙ rw (le-leb n 16383 h))
+      pub arcs-decide : n ≤ entriesMost → leb m entriesMost ≡ presentTest s
+      arcs-decide h = sym (counts ∙ rw (le-leb n entriesMost h))
 
 -- ---- the nodes, one by one
 module _ (k : ℕ) (s : List ℕ) (n v : ℕ) (is-n : n ≡ nodeCount s) (so-far : nodesTest k s 0 ≡ nodesTest k s v) where
@@ -84,7 +84,7 @@ module _ (w x : List ℕ) (kept : length x ≡ length (set w 0 0)) where
   pub same-length : length x ≡ length w
   same-length = kept ∙ length-set w 0 0
 
-  module _ (room : 16384 ≤ length w) (s : List ℕ) (n v : ℕ) (more : v < n) (few : nodeCount s ≤ 16383)
+  module _ (room : 16384 ≤ length w) (s : List ℕ) (n v : ℕ) (more : v < n) (few : nodeCount s ≤ entriesMost)
       (is-n : n ≡ nodeCount s) where
     pub node-inside : v + 1 < length x
     node-inside = omega (arith, same-length)
@@ -223,7 +223,7 @@ module _ (k : ℕ) (s : List ℕ) (t : Bool) (is-t : t ≡ presentTest s) where
     pub all-there : 2 + 2 * nodeCount s + 2 * arcCount s ≤ length s
     all-there = present-words s yes
 
-    pub few-nodes : nodeCount s ≤ 16383
+    pub few-nodes : nodeCount s ≤ entriesMost
     few-nodes = present-nodes s yes
 
     module _ (u : Bool) (is-u : u ≡ nodesTest k s 0) where

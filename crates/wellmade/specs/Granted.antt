@@ -14,7 +14,7 @@ use Rattle.lists.specs.Tests.{reads, and-left, and-right}
 use Rattle.lists.specs.Members.{none, cons-cases, append-cases}
 use Rattle.lists.specs.Pigeonhole.{Within}
 use Rattle.lists.specs.Places.{getD-in}
-use Rattle.stores.specs.Words.{readable, long, wellMade}
+use Rattle.stores.specs.Words.{readable, long, wellMade, entriesMost}
 use Rattle.wellmade.specs.Entries.{nodeCount, arcCount, nodeStation, nodeParent, arcTarget, arcBefore}
 use Rattle.wellmade.specs.Paths.{nodePath, arcPath, root-path, next-path, arc-path, length-readable}
 use Rattle.wellmade.specs.Tests.{presentTest, nodeTest, nodesTest, arcTest, risesTest, arcsTest}
@@ -106,7 +106,7 @@ module _ (k : ℕ) (s : List ℕ) (yes : wellMade k s ≡ true) where
   present : presentTest s ≡ true
   present = and-left (presentTest s) (nodesTest k s 0) first-tests
 
-  pub few-arcs : arcCount s ≤ 16383
+  pub few-arcs : arcCount s ≤ entriesMost
   few-arcs = present-arcs s present
 
   pub made : Made s

@@ -19,7 +19,7 @@ ghost use Rattle.wellmade.specs.Tests.{presentTest, nodesTest, arcTest, 
 ghost use Rattle.wellmade.specs.Made.{Made};
 
 // The most nodes, and the most arcs.
-const ENTRIES_MOST: usize = 16383;
+const ENTRIES_MOST: usize = stores::ENTRIES_MOST;
 
 // A pattern has at most 64 stations: its source, its target, and these between them.
 const BETWEEN_MOST: u32 = 62;

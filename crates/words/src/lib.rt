@@ -2,7 +2,7 @@
 // serve every width.
 ghost use mathlib.Core.Path.{_≡_};
 ghost use mathlib.Core.List.{[], _∷_};
-ghost use Prim.Native.Nat.{_+_, _≤_, _<_, min};
+ghost use Prim.Native.Nat.{_+_, _≤_, _<_};
 ghost use lib.ListN.{length, getD, take};
 ghost use Rattle.words.specs.Put.{put};
 ghost use Rattle.words.specs.Below.{Below};
@@ -13,16 +13,6 @@ pub fn word(s: &[u16], i: usize) -> u32
     ensures { λ r. ⌜ (r ≡ getD (now (s .entry)) i 0) × (r < 65536) ⌝ }
 {
     s[i] as u32
-}
-
-// The lesser of two numbers.
-pub fn lesser(a: u32, b: u32) -> u32
-    ensures { λ r. ⌜ r ≡ min a b ⌝ }
-{
-    if b < a {
-        return b;
-    }
-    a
 }
 
 // Copies the first n words of src into dst, from index at on.

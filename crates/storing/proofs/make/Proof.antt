@@ -2,6 +2,7 @@
 use Prim.Native.Nat.{_≤_}
 use native.Mathlib.Omega.{arith}
 use borrow.Author.Needs.{needs}
+use Rattle.stores.specs.Words.{entriesMost}
 use Rattle.storing.proofs.MakeLaws.{many-reply, many-words, short-reply, short-words, nodes-few, arcs-few}
 use Rattle.storing.proofs.MakeLaws.{finished, count-small, done-reply, done-words}
 use Rattle.storing.proofs.make.Statement.{statement}
@@ -13,26 +14,26 @@ returns c = (search many-reply, search many-words)
 mul-count : tie.Need-mul-count
 mul-count c =
     let tree = c .before .before .before .before .before .before .make-tree .result in
-    let few-n : tree .n ≤ 16383 = search nodes-few in
+    let few-n : tree .n ≤ entriesMost = search nodes-few in
     omega arith
 
 add-count : tie.Need-add-count
 add-count c =
     let tree = c .before .before .before .before .before .before .make-tree .result in
-    let few-n : tree .n ≤ 16383 = search nodes-few in
+    let few-n : tree .n ≤ entriesMost = search nodes-few in
     omega arith
 
 mul-count-2 : tie.Need-mul-count-2
 mul-count-2 c =
     let tree = c .before .before .before .before .before .before .before .make-tree .result in
-    let few-m : tree .m ≤ 16383 = search arcs-few in
+    let few-m : tree .m ≤ entriesMost = search arcs-few in
     omega arith
 
 add-count-2 : tie.Need-add-count-2
 add-count-2 c =
     let tree = c .before .before .before .before .before .before .before .make-tree .result in
-    let few-n : tree .n ≤ 16383 = search nodes-few in
-    let few-m : tree .m ≤ 16383 = search arcs-few in
+    let few-n : tree .n ≤ entriesMost = search nodes-few in
+    let few-m : tree .m ≤ entriesMost = search arcs-few in
     omega arith
 
 returns-2 : tie.Need-returns-2
