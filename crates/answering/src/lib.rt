@@ -213,7 +213,8 @@ fn show(
     }
 }
 
-// The same, with an answer of zeros.
+// Writes the lines of a query that has passed its own questions and whose store was made, or its 14 or 15, from an
+// answer slice of its own. Returns their length.
 fn show_fresh(
     timetable: &[u16],
     lines: &[u16],

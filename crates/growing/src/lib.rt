@@ -81,7 +81,7 @@ fn mark_count(flags: &[u8]) -> usize
     count
 }
 
-// Lists target b at index m, if its flag is 1. Answers the index behind it.
+// Lists target b at index m, if its flag is 1. Returns the index after it.
 fn put_target(targets: &mut [u8], m: usize, flag: u8, b: u8) -> usize
     requires { ⌜ m + length (marked flag b) ≤ length (now targets) ⌝ }
     ensures { λ _. ⌜ now (targets .exit) ≡ put m (marked flag b) (now (targets .entry)) ⌝ }
@@ -109,7 +109,7 @@ fn put_targets(targets: &mut [u8], m: usize, arcs: &[u8])
     }
 }
 
-// The word of the kid of v that ends with b, at index n, if its flag is 1. Answers the index behind it.
+// The word of the kid of v that ends with b, at index n, if its flag is 1. Returns the index after it.
 fn put_kid(work: &mut [u32], n: usize, flag: u8, b: u32, v: u32) -> usize
     requires { ⌜ (b ≤ 64) × (v < 16384) × (n + length (marked flag b) ≤ length (now work)) ⌝ }
     ensures { λ _. ⌜ now (work .exit) ≡ put n (kidWords v (marked flag b)) (now (work .entry)) ⌝ }
@@ -185,7 +185,7 @@ fn write_nodes(work: &[u32], n: usize, store: &mut [u16])
     }
 }
 
-// An arc of node v, if its target is b. Answers the index behind it.
+// An arc of node v, if its target is b. Returns the index after it.
 fn write_arc(store: &mut [u16], at: usize, target: u8, b: u32, v: u32) -> usize
     requires { ⌜ (b < 65536) × (v < 65536) × (at + length (arcWords target b v) ≤ length (now store)) ⌝ }
     ensures { λ _. ⌜ now (store .exit) ≡ put at (arcWords target b v) (now (store .entry)) ⌝ }
@@ -199,7 +199,7 @@ fn write_arc(store: &mut [u16], at: usize, target: u8, b: u32, v: u32) -> usize
     at
 }
 
-// The arcs of node v to b, among the targets from index first to end. Answers the index behind them.
+// The arcs of node v to b, among the targets from index first to end. Returns the index after them.
 fn write_hits(
     targets: &[u8],
     first: usize,
@@ -227,7 +227,7 @@ fn write_hits(
     here
 }
 
-// The arcs of all nodes to b. Answers the index behind them.
+// The arcs of all nodes to b. Returns the index after them.
 fn write_arcs_to(
     work: &[u32],
     targets: &[u8],

@@ -1,4 +1,4 @@
-// What a call answers: a count, or the number of the first question that it had to answer with no.
+// What a call returns: a count, or the number of the first question that has a no.
 
 // The answer of a call that writes a result.
 pub enum Reply {

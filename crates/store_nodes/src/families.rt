@@ -206,7 +206,8 @@ fn mark_hoped(
     );
 }
 
-// The same for a kid of the parent. Returns whether the next node is below hi and one as well.
+// Raises the flags of a node that is a kid of the parent, from the parent's labels. Returns whether the next node is
+// below hi and a kid of it as well.
 fn mark_sibling(
     words: &[u16],
     chain: &[u16],
@@ -274,8 +275,8 @@ fn mark_sibling(
     is_kid(work, parent, node + 1, hi)
 }
 
-// The same for the kids of the parent that stand after each other from node on, below hi. Returns the node after
-// them.
+// Raises the flags of the kids of the parent that stand after each other from node on, below hi. Returns the node
+// after them.
 fn mark_kids(
     words: &[u16],
     chain: &[u16],
@@ -430,7 +431,8 @@ fn mark_siblings(
     )
 }
 
-// The same where the node can be the root, which has neither parent nor siblings.
+// Raises the flags of a node and of its siblings after it, below hi, where the node can be the root, which has neither
+// parent nor siblings. Returns the node after them.
 fn mark_family(
     words: &[u16],
     chain: &[u16],

@@ -101,7 +101,7 @@ pub fn mark_node(
     c
 }
 
-// The same where the flags of the node stand among those of the nodes from lo on. What x holds is of no further use.
+// Raises the flags of a node at minute d, where they stand among those of the nodes from lo on. x is scratch.
 pub fn mark_at(
     words: &[u16],
     chain: &[u16],

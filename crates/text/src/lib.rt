@@ -41,12 +41,12 @@ const MINUTES_MOST: u32 = 59;
 // The value of a time of good form that is out of range: the first minute after the two days.
 const PAST_TIMES: u32 = 2880;
 
-// The fields behind the first of a station line and of a stop line.
+// The fields after the first of a station line and of a stop line.
 const STATION_FIELDS: usize = 3;
 
 const STOP_FIELDS: usize = 6;
 
-// Which of the fields behind the first of a stop line are times.
+// Which of the fields after the first of a stop line are times.
 const ARRIVE: usize = 3;
 
 const DEPART: usize = 4;
@@ -195,7 +195,7 @@ fn time_value(field: &[u8]) -> u32
     hours * 60 + minutes
 }
 
-// The value of field k behind the first of a line of a kind: arrive and depart of a stop are times.
+// The value of field k after the first of a line of a kind: arrive and depart of a stop are times.
 fn value_at(kind: u8, k: usize, field: &[u8]) -> u32
     ensures { λ r. ⌜ r ≡ valueAt kind k (now (field .entry)) ⌝ }
 {

@@ -104,7 +104,7 @@ pub fn start_at(words: &[u16], k: usize) -> usize
 }
 
 // Writes the words of a timetable of so many stations, trips and stops: the words of its stations and stops, which
-// body begins with, behind the three counts, and behind them where its trips begin.
+// body begins with, after the three counts, and after them where its trips begin.
 pub fn write_words(
     timetable: &mut [u16],
     stations: usize,
@@ -215,7 +215,7 @@ fn stop_passes(n: u32, b: Stop, s: Stop) -> bool
     stop_leaves(s)
 }
 
-// The stops behind the first of a trip, which stands at place first, to the trip's end.
+// The stops after the first of a trip, which stands at place first, to the trip's end.
 fn trip_runs(words: &[u16], n: u32, first: usize, end: usize) -> bool
     requires { ⌜ (16384 ≤ length (now words)) × (stationCount (now words) ≤ 64) × (first < end) × (end ≤ 2048) ⌝ }
     ensures { λ r. ⌜ r ≡ runs n (stopAt (now (words .entry)) first) (stopsAt (now (words .entry)) (first + 1) end) ⌝ }
@@ -269,7 +269,7 @@ fn stations_are_valid(words: &[u16], n: usize) -> bool
     true
 }
 
-// The trips stand one behind the other, from stop 0 to the last of all stops, and each is valid.
+// The trips stand one after the other, from stop 0 to the last of all stops, and each is valid.
 fn trips_are_valid(words: &[u16], n: u32, trips: usize, stops: usize) -> bool
     requires { ⌜ (16384 ≤ length (now words))
         × (stationCount (now words) ≤ 64)

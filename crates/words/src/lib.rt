@@ -28,7 +28,7 @@ pub fn copy(dst: &mut [u16], at: usize, src: &[u16], n: usize)
     }
 }
 
-// The same for words of 32 bits.
+// Copies the first n words of 32 bits of src into dst, from index at on.
 pub fn copy_long(dst: &mut [u32], at: usize, src: &[u32], n: usize)
     requires { ⌜ (at + n ≤ length (now dst)) × (n ≤ length (now src)) ⌝ }
     ensures { λ _. ⌜ now (dst .exit) ≡ put at (take n (now (src .entry))) (now (dst .entry)) ⌝ }
