@@ -1,11 +1,11 @@
 use Rattle.promises.specs.Packed.{count-same}
 use borrow.Author.Needs.{needs}
-use Rattle.host.proofs.dairyepoch_query.Statement.{statement}
-use Rattle.host.proofs.dairyepoch_query.Tie as tie
-use Rattle.host.proofs.dairyepoch_query.Reads as reads
-use Rattle.host.proofs.dairyepoch_query.Lts as lts
+use Rattle.dairyepoch.proofs.dairyepoch_query.Statement.{statement}
+use Rattle.dairyepoch.proofs.dairyepoch_query.Tie as tie
+use Rattle.dairyepoch.proofs.dairyepoch_query.Reads as reads
+use Rattle.dairyepoch.proofs.dairyepoch_query.Lts as lts
 use Rattle.asking.proofs.query.Reads as query-reads
-use Rattle.host.proofs.pack_count.Reads as pack-count-reads
+use Rattle.dairyepoch.proofs.pack_count.Reads as pack-count-reads
 
 query-requires : tie.Need-query-requires
 query-requires c κs = search needs

@@ -1,11 +1,11 @@
 use Rattle.promises.specs.Packed.{count-same}
 use borrow.Author.Needs.{needs}
-use Rattle.host.proofs.dairyepoch_direct.Statement.{statement}
-use Rattle.host.proofs.dairyepoch_direct.Tie as tie
-use Rattle.host.proofs.dairyepoch_direct.Reads as reads
-use Rattle.host.proofs.dairyepoch_direct.Lts as lts
+use Rattle.dairyepoch.proofs.dairyepoch_direct.Statement.{statement}
+use Rattle.dairyepoch.proofs.dairyepoch_direct.Tie as tie
+use Rattle.dairyepoch.proofs.dairyepoch_direct.Reads as reads
+use Rattle.dairyepoch.proofs.dairyepoch_direct.Lts as lts
 use Rattle.direct.proofs.direct.Reads as direct-reads
-use Rattle.host.proofs.pack_count.Reads as pack-count-reads
+use Rattle.dairyepoch.proofs.pack_count.Reads as pack-count-reads
 
 direct-requires : tie.Need-direct-requires
 direct-requires c κs = search needs

@@ -11,7 +11,7 @@ ghost use Rattle.promises.specs.DirectQuery.{directReply, directWords};
 ghost use Rattle.promises.specs.StoreCall.{storeReply, storeAfter};
 ghost use Rattle.promises.specs.Query.{askReply, askWords};
 ghost use Rattle.promises.specs.Packed.{packed, packedReply, packedCount};
-ghost use Rattle.host.specs.Packed.{packedPlace};
+ghost use Rattle.dairyepoch.specs.Packed.{packedPlace};
 use reading::Reply;
 
 // What 1 in the upper half of a reply counts.

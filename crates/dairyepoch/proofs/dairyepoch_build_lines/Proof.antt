@@ -1,10 +1,10 @@
 use Rattle.promises.specs.Packed.{count-same}
 use borrow.Author.Needs.{needs}
-use Rattle.host.proofs.dairyepoch_build_lines.Statement.{statement}
-use Rattle.host.proofs.dairyepoch_build_lines.Tie as tie
-use Rattle.host.proofs.dairyepoch_build_lines.Reads as reads
-use Rattle.host.proofs.dairyepoch_build_lines.Lts as lts
-use Rattle.host.proofs.pack_count.Reads as pack-count-reads
+use Rattle.dairyepoch.proofs.dairyepoch_build_lines.Statement.{statement}
+use Rattle.dairyepoch.proofs.dairyepoch_build_lines.Tie as tie
+use Rattle.dairyepoch.proofs.dairyepoch_build_lines.Reads as reads
+use Rattle.dairyepoch.proofs.dairyepoch_build_lines.Lts as lts
+use Rattle.dairyepoch.proofs.pack_count.Reads as pack-count-reads
 use Rattle.tables.proofs.build.Reads as build-reads
 
 build-requires : tie.Need-build-requires

@@ -1,10 +1,10 @@
 use Rattle.promises.specs.Packed.{count-same}
 use borrow.Author.Needs.{needs}
-use Rattle.host.proofs.dairyepoch_make_store.Statement.{statement}
-use Rattle.host.proofs.dairyepoch_make_store.Tie as tie
-use Rattle.host.proofs.dairyepoch_make_store.Reads as reads
-use Rattle.host.proofs.dairyepoch_make_store.Lts as lts
-use Rattle.host.proofs.pack_count.Reads as pack-count-reads
+use Rattle.dairyepoch.proofs.dairyepoch_make_store.Statement.{statement}
+use Rattle.dairyepoch.proofs.dairyepoch_make_store.Tie as tie
+use Rattle.dairyepoch.proofs.dairyepoch_make_store.Reads as reads
+use Rattle.dairyepoch.proofs.dairyepoch_make_store.Lts as lts
+use Rattle.dairyepoch.proofs.pack_count.Reads as pack-count-reads
 use Rattle.storing.proofs.make_store.Reads as make-store-reads
 
 make-store-requires : tie.Need-make-store-requires

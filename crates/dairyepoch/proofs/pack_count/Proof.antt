@@ -1,10 +1,10 @@
 use Rattle.promises.specs.Packed.{count-done, count-refused}
 use borrow.Author.Needs.{needs}
-use Rattle.host.proofs.pack_count.Statement.{statement}
-use Rattle.host.proofs.pack_count.Tie as tie
-use Rattle.host.proofs.pack_count.Reads as reads
-use Rattle.host.proofs.pack_count.Lts as lts
-use Rattle.host.proofs.pack.Reads as pack-reads
+use Rattle.dairyepoch.proofs.pack_count.Statement.{statement}
+use Rattle.dairyepoch.proofs.pack_count.Tie as tie
+use Rattle.dairyepoch.proofs.pack_count.Reads as reads
+use Rattle.dairyepoch.proofs.pack_count.Lts as lts
+use Rattle.dairyepoch.proofs.pack.Reads as pack-reads
 
 enum-known-reply : tie.Need-enum-known-reply
 enum-known-reply c = search needs

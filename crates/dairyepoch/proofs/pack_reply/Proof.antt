@@ -1,8 +1,8 @@
 -- Two cases: number 0 with a count and no line, or a number with its line and no count.
 use borrow.Author.Needs.{needs}
 use Rattle.promises.specs.Packed.{packed-done, packed-refused}
-use Rattle.host.proofs.pack_reply.Statement.{statement}
-use Rattle.host.proofs.pack_reply.Tie as tie
+use Rattle.dairyepoch.proofs.pack_reply.Statement.{statement}
+use Rattle.dairyepoch.proofs.pack_reply.Tie as tie
 
 pub pack-reply-spec : {M : Type 1} → statement M
 pack-reply-spec =
