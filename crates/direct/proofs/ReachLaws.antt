@@ -1,15 +1,25 @@
 -- From call to call in front of a list: those of the line are noted, until one is of another.
 use mathlib.Core.Path.{_≡_, sym, ap, _∙_}
 use mathlib.Core.List.{List, [], _∷_, map}
-use Prim.Native.Nat.{ℕ, _+_, _≤_, _<_}
+use Prim.Native.Nat.{ℕ, _+_, _-_, _≤_, _<_}
+use native.Mathlib.Omega.{arith}
 use lib.ListN.{length}
 use borrow.Author.Tests.{eq-eqb, ne-eqb}
 use Rattle.results.specs.declared.Points.{Points}
-use Rattle.lookup.specs.Lookup.{Line, pointsBetween, arriveAt}
+use Rattle.lookup.specs.Lookup.{Line, totalAt, pointsBetween, arriveAt}
 use Rattle.lookup.specs.Calls.{Call, Piece, callAt, callsIn}
 use Rattle.lookup.proofs.LookupLaws.{pairs-more, pairs-none}
 use Rattle.direct.specs.Candidates.{Reach, reachOf, rideOn}
 use Rattle.minutes.specs.Minutes.{noteAll, lowered}
+
+-- ---- the penalty, by two totals
+module _ (v : List ℕ) (l : Line) (x y here there : ℕ) (is-here : here ≡ totalAt v l x) (is : there ≡ totalAt v l y)
+  where
+    pub totals-fall : there < here → 0 ≡ pointsBetween v l x y
+    totals-fall h = omega (arith, is, is-here)
+
+    pub totals-rise : there - here ≡ pointsBetween v l x y
+    totals-rise = λ i. is i - is-here i
 
 -- a piece from index k on
 abbrev pub from : (k end : ℕ) → Piece

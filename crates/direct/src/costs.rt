@@ -9,16 +9,15 @@ ghost use Rattle.minutes.specs.Minutes.{noteAll, blank};
 ghost use Rattle.direct.specs.Candidates.{rideOn, reachBy, firstRead};
 ghost use Rattle.direct.specs.Shown.{bestOf, leadsOf};
 use lookup::Boarding;
-use lookup::Line;
 use results::Points;
 
-// The penalty of the ride from place x of a line to place y: the difference of two totals.
-pub fn ride_points(v: &[u16], l: Line, x: usize, y: usize) -> Points
-    requires { ⌜ (l .at < 65536) × (l .trips < 65536) × (x < 65536) × (y < 65536) ⌝ }
-    ensures { λ r. ⌜ r .0 ≡ pointsBetween (now (v .entry)) l x y ⌝ }
+// The penalty of the ride to place y of the line that is boarded: the difference of two totals.
+pub fn ride_points(v: &[u16], g: Boarding, y: usize) -> Points
+    requires { ⌜ Within (now v) g × (y < 65536) ⌝ }
+    ensures { λ r. ⌜ r .0 ≡ pointsBetween (now (v .entry)) (g .line) (g .call .place) y ⌝ }
 {
-    let here = lookup::total_at(v, l, x);
-    let there = lookup::total_at(v, l, y);
+    let here = g.total;
+    let there = lookup::total_at(v, g.line, y);
     if there < here {
         return Points(0);
     }
@@ -40,7 +39,7 @@ fn note_reach(v: &[u16], g: Boarding, j: usize, best: &mut [u32])
         if d.line != g.call.line {
             break;
         }
-        let points = ride_points(v, g.line, g.call.place, d.place);
+        let points = ride_points(v, g, d.place);
         minutes::note(best, lookup::arrive_at(v, g.line, d.place, j), points);
         k += 2;
     }

@@ -206,7 +206,7 @@ fn keep_reach(v: &[u16], g: Boarding, first: usize, best: &[u32], kept: &mut [u3
         if d.line != g.call.line {
             break;
         }
-        let points = costs::ride_points(v, g.line, g.call.place, d.place);
+        let points = costs::ride_points(v, g, d.place);
         keep_trips(v, g.line, g.call.place, d.place, first, points, best, kept);
         k += 2;
     }

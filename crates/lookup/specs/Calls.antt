@@ -10,7 +10,7 @@ use lib.Seq.{slice}
 use Rattle.lookup.specs.declared.Call.{Call as CallStruct}
 use Rattle.lookup.specs.declared.Piece.{Piece as PieceStruct}
 use Rattle.lookup.specs.declared.Boarding.{Boarding as BoardingStruct}
-use Rattle.lookup.specs.Lookup.{lineAt, listOf}
+use Rattle.lookup.specs.Lookup.{lineAt, totalAt, listOf}
 
 -- the structs of src/: a call is the place of its line, and the place on it
 abbrev pub Call : Type 0
@@ -62,8 +62,9 @@ pub record BoardsAt (v : List ℕ) (k : ℕ) (rest : Piece) (g : Boarding) : Typ
   pub line : g .line ≡ lineAt v (g .call .line)
   pub left : callsIn v (g .rest) ≡ after (g .call) (callsIn v rest)
 
--- how large its numbers get
+-- how large its numbers get, and that its total is the one where it boards
 pub record Within (v : List ℕ) (g : Boarding) : Type 0 where
+  pub total : g .total ≡ totalAt v (g .line) (g .call .place)
   pub at-few : g .line .at < 65536
   pub positions-few : g .line .positions < 65536
   pub trips-few : g .line .trips < 65536

@@ -40,10 +40,11 @@ pub struct Call {
     pub place: usize,
 }
 
-// A call to board at, its line, and the calls that are left to alight at.
+// A call to board at, its line, the total there, and the calls that are left to alight at.
 pub struct Boarding {
     pub call: Call,
     pub line: Line,
+    pub total: usize,
     pub rest: Piece,
 }
 
@@ -213,8 +214,14 @@ pub fn boarding_at(v: &[u16], k: usize, rest: Piece) -> Boarding
 {
     let call = call_at(v, k);
     let line = line_at(v, call.line);
+    let total = total_at(v, line, call.place);
     let rest = calls_after(v, call, rest);
-    Boarding { call, line, rest }
+    Boarding {
+        call,
+        line,
+        total,
+        rest,
+    }
 }
 
 // The first trip of a line that leaves place x at the minute or later; the number of its trips if none does.

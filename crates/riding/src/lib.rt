@@ -75,7 +75,7 @@ fn seek_place(v: &[u16], g: Boarding, k: usize) -> Place
     Place {
         found: true,
         place: d.place,
-        points: direct::ride_points(v, g.line, g.call.place, d.place),
+        points: direct::ride_points(v, g, d.place),
         next: k + 2,
     }
 }
@@ -110,16 +110,18 @@ fn seek_call(v: &[u16], minute: usize, calls: Piece, others: Piece) -> Cursor
             };
         }
     }
+    let line = Line {
+        at: 0,
+        positions: 0,
+        trips: 0,
+    };
     Cursor {
         more: false,
         calls: Piece { from: k, end },
         boarding: Boarding {
             call: Call { line: 0, place: 0 },
-            line: Line {
-                at: 0,
-                positions: 0,
-                trips: 0,
-            },
+            line,
+            total: lookup::total_at(v, line, 0),
             rest,
         },
         first: 0,

@@ -36,7 +36,7 @@ loop-again-2 c = (search needs, search needs, search needs, search needs, search
 
 returns-2 : tie.Need-returns-2 Inv-loop μ-loop
 returns-2 c =
-    let test = c .before in
+    let test = c .before .before in
     (calls-none _ _ _ _ _ _ (test .before .loop .inv .4) (test .loop-test .left) _ refl, search needs)
 
 pub seek-call-spec : {M : Type 1} → statement M
@@ -56,5 +56,6 @@ seek-call-spec =
     returns
     (λ c. search needs)
     loop-again-2
+    (λ c. search needs)
     (λ c. search needs)
     returns-2)

@@ -9,7 +9,6 @@ ride-points-spec =
     tie.close
     (tie.spec
     (λ c. search needs)
-    (λ c. search needs)
     (λ c. search totals-fall)
     (λ c. search needs)
     (λ c. search totals-rise))
