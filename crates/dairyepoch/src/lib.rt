@@ -4,9 +4,9 @@ ghost use mathlib.Core.Path.{_≡_};
 ghost use lib.ListN.{length};
 ghost use Rattle.timetable.specs.Words.{timetableNumber};
 ghost use Rattle.reading.specs.Reading.{readReply, readWords};
-ghost use Rattle.tables.specs.Building.{buildReply, buildWords};
-ghost use Rattle.checking.specs.Question10.{tablesNumber};
-ghost use Rattle.alone.specs.Drawn.{aloneNumber};
+ghost use Rattle.lines_tables.specs.Building.{buildReply, buildWords};
+ghost use Rattle.lines_check.specs.Question10.{tablesNumber};
+ghost use Rattle.lines_alone.specs.Drawn.{aloneNumber};
 ghost use Rattle.promises.specs.DirectQuery.{directReply, directWords};
 ghost use Rattle.promises.specs.StoreCall.{storeReply, storeAfter};
 ghost use Rattle.promises.specs.Query.{askReply, askWords};
@@ -83,7 +83,7 @@ pub extern "C" fn dairyepoch_build_lines(
     ensures words { λ _. ⌜ now (lines .exit)
         ≡ buildWords (now (timetable .entry)) (now (lines .entry)) (length (now (work .entry))) ⌝ }
 {
-    pack_count(tables::build(timetable, lines, work))
+    pack_count(lines_tables::build(timetable, lines, work))
 }
 
 // Questions 8, 9 and 10 to a timetable and line tables lent with it.
@@ -94,7 +94,7 @@ pub extern "C" fn dairyepoch_check_lines(timetable: &[u16], lines: &[u16], work:
         (tablesNumber (now (timetable .entry)) (now (lines .entry)) (length (now (work .entry))))
         0 ⌝ }
 {
-    pack(checking::tables_number(timetable, lines, work), 0)
+    pack(lines_check::tables_number(timetable, lines, work), 0)
 }
 
 // The direct rides from one station to another at a minute, row by row in the lent answer.
@@ -128,7 +128,7 @@ pub extern "C" fn dairyepoch_direct(
         minute
         (now (answer .entry)) ⌝ }
 {
-    pack_count(direct::direct(timetable, lines, work, from, to, minute, answer))
+    pack_count(query_direct::direct(timetable, lines, work, from, to, minute, answer))
 }
 
 // Questions 8 and 10 to line tables lent without a timetable.
@@ -136,7 +136,7 @@ pub extern "C" fn dairyepoch_direct(
 pub extern "C" fn dairyepoch_check_lines_alone(lines: &[u16], work: &mut [u32]) -> u64
     ensures { λ r. ⌜ r ≡ packed (aloneNumber (now (lines .entry)) (length (now (work .entry)))) 0 ⌝ }
 {
-    pack(alone::alone_number(lines, work), 0)
+    pack(lines_alone::alone_number(lines, work), 0)
 }
 
 // Where in the lent line tables the numbers of a line's trips stand: the index of the first, and how many there are.
@@ -144,8 +144,8 @@ pub extern "C" fn dairyepoch_check_lines_alone(lines: &[u16], work: &mut [u32]) 
 pub extern "C" fn dairyepoch_line_trips(lines: &[u16], work: &mut [u32], line: u32) -> u64
     ensures { λ r. ⌜ r ≡ packedPlace (now (lines .entry)) (length (now (work .entry))) line ⌝ }
 {
-    let place = alone::line_place(lines, work, line);
-    let trips = alone::line_trips(lines, work, line);
+    let place = lines_alone::line_place(lines, work, line);
+    let trips = lines_alone::line_trips(lines, work, line);
     let count = trips.len();
     pack(place.number, place.start * PIECE + count as u32)
 }
@@ -175,7 +175,7 @@ pub extern "C" fn dairyepoch_make_store(
         source
         (now (store .entry)) ⌝ }
 {
-    pack_count(storing::make_store(timetable, lines, work, source, store))
+    pack_count(store_call::make_store(timetable, lines, work, source, store))
 }
 
 // Answers a query from a store, row by row in the lent answer.
@@ -212,5 +212,5 @@ pub extern "C" fn dairyepoch_query(
         minute
         (now (answer .entry)) ⌝ }
 {
-    pack_count(asking::query(timetable, lines, store, work, from, to, minute, answer))
+    pack_count(query_call::query(timetable, lines, store, work, from, to, minute, answer))
 }

@@ -19,7 +19,7 @@ use Rattle.reading.specs.Reading.{readReply, readWords}
 use Rattle.accepted.specs.WrittenOut.{linesOf, textOf}
 use Rattle.accepted.specs.Sound.{accepted-yes, lines-valid}
 use Rattle.accepted.specs.Taken.{valid-accepted}
-use Rattle.tables.specs.Building.{buildReply, buildWords}
+use Rattle.lines_tables.specs.Building.{buildReply, buildWords}
 use Rattle.former.specs.Former.{formerReading, formerReply, formerWords, formerText}
 use Rattle.former.specs.Lines.{some-pieces, pieces-free, lines-shorter, outcome-stays}
 

@@ -1,19 +1,19 @@
 // The listing: reads `timetable.txt` and queries from standard input, and writes what they print. It only moves bytes;
-// which ones it writes is said and proved in the crate answering.
+// which ones it writes is said and proved in the crate listing_answers.
 mod input;
 
 ghost use mathlib.Core.Path.{_≡_};
 ghost use Prim.Native.Nat.{_≤_};
 ghost use lib.ListN.{length};
-use answering::LINE_BYTES;
-use answering::OUT_BYTES;
-use answering::STORE_WORDS;
-use answering::TABLE_WORDS;
 use input::CHUNK_BYTES;
 use input::Kept;
 use input::Unread;
 use libc::STDIN_FILENO;
 use libc::STDOUT_FILENO;
+use listing_answers::LINE_BYTES;
+use listing_answers::OUT_BYTES;
+use listing_answers::STORE_WORDS;
+use listing_answers::TABLE_WORDS;
 
 // One byte more than a text may have shows a text that is too long.
 const TEXT_BYTES: usize = 65537;
@@ -58,7 +58,7 @@ fn load(timetable: &mut [u16], lines: &mut [u16], work: &mut [u32], out: &mut [u
         return false;
     }
     let len = kept.len;
-    let count = answering::load(&text[0..len], timetable, lines, work, out);
+    let count = listing_answers::load(&text[0..len], timetable, lines, work, out);
     write(out, count);
     count == 0
 }
@@ -71,7 +71,7 @@ fn end_input(bytes: &[u8], failed: bool, out: &mut [u8])
         os::fail(b"standard input");
         return;
     }
-    let count = answering::answer_end(bytes, out);
+    let count = listing_answers::answer_end(bytes, out);
     write(out, count);
 }
 
@@ -88,7 +88,7 @@ fn answer_input(timetable: &[u16], lines: &[u16], work: &mut [u32], out: &mut [u
         end: 0,
         failed: false,
     };
-    let mut made = answering::make(timetable, lines, work, NO_SOURCE, &mut store);
+    let mut made = listing_answers::make(timetable, lines, work, NO_SOURCE, &mut store);
     let mut turns = u64::MAX;
     while turns > 0 {
         unread = input::refill(STDIN_FILENO, &mut chunk, unread);
@@ -98,7 +98,7 @@ fn answer_input(timetable: &[u16], lines: &[u16], work: &mut [u32], out: &mut [u
             end_input(&line[0..kept], unread.failed, out);
             break;
         }
-        let taken = answering::answer_bytes(
+        let taken = listing_answers::answer_bytes(
             timetable,
             lines,
             &mut store,

@@ -12,7 +12,7 @@ use Rattle.replies.specs.Replies.{replyOf, valuesOf, valuesFor, wordsAfter, rep
 use Rattle.timetable.specs.Words.{timetableOf}
 use Rattle.connections.specs.Connections.{net, Connection}
 use Rattle.lines.specs.DirectRides.{directs, directRows}
-use Rattle.checking.specs.Asked.{queryQuestions}
+use Rattle.lines_check.specs.Asked.{queryQuestions}
 use Rattle.promises.specs.Query.{rowWords}
 
 -- the direct rides, and their rows

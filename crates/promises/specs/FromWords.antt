@@ -28,11 +28,11 @@ use Rattle.stores.specs.Stored.{stored, Sequence}
 use Rattle.stores.specs.Words.{nodes, arcs, entriesMost, storeWords, readable, wellMade, keptList, answer}
 use Rattle.stores.specs.RoundTrip.{encode-length}
 use Rattle.lines.specs.DirectRides.{directs, directRows}
-use Rattle.tables.specs.Building.{slicesLeast, buildReply, buildWords}
-use Rattle.checking.specs.Question10.{areTables, tablesQuestions, tablesNumber}
-use Rattle.checking.specs.Asked.{listed, named, queryQuestions}
-use Rattle.checking.specs.Yes.{Long, long, long-all, tables-asked, query-asked}
-use Rattle.checking.specs.Built.{built-asked}
+use Rattle.lines_tables.specs.Building.{slicesLeast, buildReply, buildWords}
+use Rattle.lines_check.specs.Question10.{areTables, tablesQuestions, tablesNumber}
+use Rattle.lines_check.specs.Asked.{listed, named, queryQuestions}
+use Rattle.lines_check.specs.Yes.{Long, long, long-all, tables-asked, query-asked}
+use Rattle.lines_check.specs.Built.{built-asked}
 use Rattle.demands.specs.Demands.{Query, DemandTwo, DemandThree}
 use Rattle.demands.specs.Proofs.{demand-two, demand-three}
 use Rattle.promises.specs.Packed.{packedCount}

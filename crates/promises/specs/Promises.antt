@@ -18,8 +18,8 @@ use Rattle.connections.specs.Planner.{plannerList, measure, rideCount, numbers,
 use Rattle.stores.specs.Stored.{stored, Sequence}
 use Rattle.stores.specs.Words.{nodes, arcs, entriesMost, storeWords, readable, wellMade, keptList}
 use Rattle.lines.specs.DirectRides.{directs, firstRides}
-use Rattle.tables.specs.Building.{slicesLeast, lineCount, buildReply, buildWords, tablesOf}
-use Rattle.checking.specs.Question10.{areTables}
+use Rattle.lines_tables.specs.Building.{slicesLeast, lineCount, buildReply, buildWords, tablesOf}
+use Rattle.lines_check.specs.Question10.{areTables}
 use Rattle.demands.specs.Demands.{Query}
 use Rattle.promises.specs.Packed.{packedReply, packedCount}
 use Rattle.promises.specs.DirectQuery.{directReply, directWords}

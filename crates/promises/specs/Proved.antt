@@ -24,10 +24,10 @@ use Rattle.connections.specs.Planner.{plannerList, row-says}
 use Rattle.stores.specs.Stored.{Sequence}
 use Rattle.stores.specs.Words.{readable, wellMade, keptList}
 use Rattle.lines.specs.DirectRides.{directs}
-use Rattle.tables.specs.Building.{slicesLeast, lineCount, buildReply, tablesOf}
-use Rattle.checking.specs.Question10.{areTables}
-use Rattle.checking.specs.Yes.{Long, long}
-use Rattle.checking.specs.Built.{built-number, built-words, built-yes-9, built-has-yes}
+use Rattle.lines_tables.specs.Building.{slicesLeast, lineCount, buildReply, tablesOf}
+use Rattle.lines_check.specs.Question10.{areTables}
+use Rattle.lines_check.specs.Yes.{Long, long}
+use Rattle.lines_check.specs.Built.{built-number, built-words, built-yes-9, built-has-yes}
 use Rattle.demands.specs.Demands.{Query, DemandTwo, DemandThree}
 use Rattle.demands.specs.Proofs.{demand-two, demand-three}
 use Rattle.promises.specs.Packed.{packedReply, packedCount, succeeds-reply, succeeds-count}

@@ -13,7 +13,7 @@ use Rattle.replies.specs.Replies.{replyOf, valuesOf, valuesFor, wordsAfter, rep
 use Rattle.timetable.specs.Words.{timetableOf}
 use Rattle.connections.specs.Connections.{net, Connection}
 use Rattle.stores.specs.Words.{wellMade, keptList, answer}
-use Rattle.checking.specs.Asked.{queryQuestions}
+use Rattle.lines_check.specs.Asked.{queryQuestions}
 
 -- the planner's list, of which those connections are kept whose pattern can be read from the store, and its rows
 abbrev pub kept : (timetable store : List ℕ) (from to minute : ℕ) → List Connection

@@ -13,8 +13,8 @@ use Rattle.timetable.specs.Words.{timetableOf}
 use Rattle.connections.specs.Connections.{net}
 use Rattle.stores.specs.Stored.{sequences}
 use Rattle.stores.specs.Words.{nodes, arcs, entriesMost, storeWords}
-use Rattle.checking.specs.Question10.{tablesQuestions}
-use Rattle.checking.specs.Asked.{listed}
+use Rattle.lines_check.specs.Question10.{tablesQuestions}
+use Rattle.lines_check.specs.Asked.{listed}
 
 -- the words of the store
 abbrev pub storeOf : (timetable : List ℕ) (source : ℕ) → List ℕ

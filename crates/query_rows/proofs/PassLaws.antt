@@ -16,9 +16,9 @@ use Rattle.lists.specs.Members.{none, cons-cases, append-cases}
 use Rattle.results.specs.Results.{Cost}
 use Rattle.connections.specs.Planner.{rowsOf}
 use Rattle.stores.specs.Words.{answer}
-use Rattle.minutes.specs.Minutes.{noPoints, leads}
-use Rattle.minutes.specs.Noted.{getD-any}
-use Rattle.minutes.proofs.LeadLaws.{leads-here, leads-not}
+use Rattle.query_minutes.specs.Minutes.{noPoints, leads}
+use Rattle.query_minutes.specs.Noted.{getD-any}
+use Rattle.query_minutes.proofs.LeadLaws.{leads-here, leads-not}
 use Rattle.promises.specs.Query.{kept, rows, rowWords}
 use Rattle.query_rows.specs.Rowed.{LeastKept, RowFor}
 use Rattle.query_rows.specs.Leading.{noCost, leads-count, lead-row}

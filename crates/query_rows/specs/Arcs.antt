@@ -12,15 +12,15 @@ use Rattle.timetable.specs.Check.{length-stations}
 use Rattle.connections.specs.Connections.{net}
 use Rattle.connections.specs.Sound.{Sound}
 use Rattle.stores.specs.Words.{readable}
-use Rattle.tables.specs.Spelled.{within}
-use Rattle.wellmade.specs.Entries.{nodeCount, arcCount, arcTarget, arcBefore}
-use Rattle.wellmade.specs.Paths.{nodePath, arcPath, arc-path, length-readable}
-use Rattle.wellmade.specs.Made.{Made}
-use Rattle.wellmade.specs.Granted.{arc-within, few-arcs, made}
-use Rattle.minutes.specs.Minutes.{blank}
-use Rattle.layers.specs.Lowered.{Lowered}
-use Rattle.layers.specs.Patterns.{changesTo}
-use Rattle.layers.specs.Onward.{Listed, Stations}
+use Rattle.lines_tables.specs.Spelled.{within}
+use Rattle.query_store.specs.Entries.{nodeCount, arcCount, arcTarget, arcBefore}
+use Rattle.query_store.specs.Paths.{nodePath, arcPath, arc-path, length-readable}
+use Rattle.query_store.specs.Made.{Made}
+use Rattle.query_store.specs.Granted.{arc-within, few-arcs, made}
+use Rattle.query_minutes.specs.Minutes.{blank}
+use Rattle.query_costs.specs.Lowered.{Lowered}
+use Rattle.query_costs.specs.Patterns.{changesTo}
+use Rattle.query_costs.specs.Onward.{Listed, Stations}
 use Rattle.promises.specs.Query.{kept}
 use Rattle.query_rows.specs.Rowed.{LeastKept}
 use Rattle.query_rows.specs.Collected.{Collected, collected-first, collected-skip, collected-more, collected-all}

@@ -12,13 +12,13 @@ use Rattle.lists.specs.Members.{none, append-cases, cons-cases}
 use Rattle.connections.specs.Connections.{Net, Connection, direct, onward, Feasible, ready, arrival, penalty, stations}
 use Rattle.connections.specs.Sound.{Sound}
 use Rattle.connections.specs.Feasibility.{takes-time}
-use Rattle.reckoning.specs.Along.{Ends}
-use Rattle.reckoning.specs.AlongLaws.{Sequenced, sequence-ends, sequence-end}
+use Rattle.optimality.specs.Along.{Ends}
+use Rattle.optimality.specs.AlongLaws.{Sequenced, sequence-ends, sequence-end}
 use Rattle.stores.specs.Words.{readable, keptList}
 use Rattle.stores.specs.KeptLaws.{kept-exactly}
-use Rattle.minutes.specs.Minutes.{noPoints, blank}
-use Rattle.minutes.specs.Noted.{getD-any}
-use Rattle.layers.specs.Lowered.{Lowered}
+use Rattle.query_minutes.specs.Minutes.{noPoints, blank}
+use Rattle.query_minutes.specs.Noted.{getD-any}
+use Rattle.query_costs.specs.Lowered.{Lowered}
 use Rattle.query_rows.specs.Rowed.{At, LeastKept, Bounds}
 
 pub arrives-in-time : (n : Net) → Sound n → (x u b : ℕ) (c : Connection) → Feasible n x u b c → arrival c < 2880

@@ -11,11 +11,11 @@ use Rattle.connections.specs.Connections.{net, Connection}
 use Rattle.connections.specs.Sound.{Sound}
 use Rattle.connections.specs.Named.{named}
 use Rattle.connections.specs.Feasibility.{departs-in-time}
-use Rattle.wellmade.specs.Entries.{arcCount, arcTarget}
-use Rattle.wellmade.specs.Paths.{arcPath}
-use Rattle.wellmade.specs.Granted.{readable-in}
-use Rattle.showing.specs.Showing.{Listed, Given, Shown, Found, FoundAt}
-use Rattle.showing.specs.declared.First.{First}
+use Rattle.query_store.specs.Entries.{arcCount, arcTarget}
+use Rattle.query_store.specs.Paths.{arcPath}
+use Rattle.query_store.specs.Granted.{readable-in}
+use Rattle.query_shown.specs.Showing.{Listed, Given, Shown, Found, FoundAt}
+use Rattle.query_shown.specs.declared.First.{First}
 use Rattle.query_rows.specs.Won.{By, found-own, found-none}
 use Rattle.query_rows.specs.Leading.{numbers-long}
 use Rattle.query_rows.specs.Arcs.{path-long, target-is, stations-are}

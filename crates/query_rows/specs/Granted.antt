@@ -18,8 +18,8 @@ use Rattle.connections.specs.Planner.{rideCount, numbers}
 use Rattle.connections.specs.Sound.{Sound, sound}
 use Rattle.connections.specs.Feasibility.{penalty-most}
 use Rattle.stores.specs.Words.{wellMade}
-use Rattle.checking.specs.Question10.{areTables}
-use Rattle.minutes.specs.Minutes.{noPoints, leads}
+use Rattle.lines_check.specs.Question10.{areTables}
+use Rattle.query_minutes.specs.Minutes.{noPoints, leads}
 use Rattle.promises.specs.Query.{kept}
 use Rattle.query_rows.specs.Rowed.{Bounds, LeastKept, Shows, RowFor}
 use Rattle.query_rows.specs.Collected.{kept-bounds}

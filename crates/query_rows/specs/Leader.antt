@@ -17,12 +17,12 @@ use Rattle.connections.specs.Planner.{tieKey, measure, row-says}
 use Rattle.connections.specs.Sound.{Sound}
 use Rattle.stores.specs.Words.{readable}
 use Rattle.stores.specs.KeptLaws.{kept-exactly}
-use Rattle.wellmade.specs.Entries.{arcCount, arcTarget}
-use Rattle.wellmade.specs.Paths.{arcPath, length-readable}
-use Rattle.wellmade.specs.Granted.{readable-in}
-use Rattle.minutes.specs.Minutes.{noPoints, leads}
-use Rattle.minutes.specs.Noted.{getD-any, led-exactly}
-use Rattle.reckoning.specs.Greedy.{count-stations}
+use Rattle.query_store.specs.Entries.{arcCount, arcTarget}
+use Rattle.query_store.specs.Paths.{arcPath, length-readable}
+use Rattle.query_store.specs.Granted.{readable-in}
+use Rattle.query_minutes.specs.Minutes.{noPoints, leads}
+use Rattle.query_minutes.specs.Noted.{getD-any, led-exactly}
+use Rattle.optimality.specs.Greedy.{count-stations}
 use Rattle.promises.specs.Query.{kept}
 use Rattle.query_rows.specs.Rowed.{Shows}
 use Rattle.query_rows.specs.Won.{By, won-all, none-never}

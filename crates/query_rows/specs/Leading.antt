@@ -13,7 +13,7 @@ use Rattle.results.specs.Picks.{lead, pick}
 use Rattle.results.specs.Answered.{result-none}
 use Rattle.connections.specs.Connections.{Connection, direct, onward, arrival, duration, penalty}
 use Rattle.connections.specs.Planner.{rideCount, numbers, measure, rowsOf}
-use Rattle.minutes.specs.Minutes.{noPoints, leads}
+use Rattle.query_minutes.specs.Minutes.{noPoints, leads}
 use Rattle.query_rows.specs.Rowed.{Bounds, LeastKept, RowFor, Rowed, led-leads, led-cost, rowed}
 
 abbrev pub noCost : Cost

@@ -12,12 +12,12 @@ use lib.ListN.{length, getD, set, replicate, length-replicate}
 use lib.Seq.{getD-set-same, getD-set-other, ext-getD}
 use Rattle.lists.specs.Tests.{either}
 use Rattle.connections.specs.Connections.{Net}
-use Rattle.reckoning.specs.Along.{Ends}
-use Rattle.minutes.specs.Minutes.{noPoints, blank}
-use Rattle.minutes.specs.Noted.{getD-any, getD-blank}
-use Rattle.layers.specs.Lowered.{Lowered}
-use Rattle.layers.specs.Spans.{Within}
-use Rattle.layers.specs.declared.Span.{Span}
+use Rattle.optimality.specs.Along.{Ends}
+use Rattle.query_minutes.specs.Minutes.{noPoints, blank}
+use Rattle.query_minutes.specs.Noted.{getD-any, getD-blank}
+use Rattle.query_costs.specs.Lowered.{Lowered}
+use Rattle.query_costs.specs.Spans.{Within}
+use Rattle.query_costs.specs.declared.Span.{Span}
 
 -- no minute has an arc yet
 abbrev pub unnamed : List ℕ

@@ -15,8 +15,8 @@ use Rattle.results.specs.Picks.{lead, undominated-cost}
 use Rattle.results.specs.Answered.{result-is}
 use Rattle.connections.specs.Connections.{Connection, arrival, duration, penalty, cost}
 use Rattle.connections.specs.Planner.{tieKey, measure, rowsOf}
-use Rattle.minutes.specs.Minutes.{noPoints, leads}
-use Rattle.minutes.specs.Noted.{Led, led-exactly, Rises, leads-rise}
+use Rattle.query_minutes.specs.Minutes.{noPoints, leads}
+use Rattle.query_minutes.specs.Noted.{Led, led-exactly, Rises, leads-rise}
 
 -- for a query at minute u, over the list d
 module _ (u : ℕ) (d : List Connection) where

@@ -10,14 +10,14 @@ use lib.Seq.{take-all}
 use Rattle.lists.specs.Lists.{_∈_}
 use Rattle.connections.specs.Connections.{Net, Connection, Feasible, arrival, penalty, stations}
 use Rattle.connections.specs.Sound.{Sound}
-use Rattle.reckoning.specs.AlongLaws.{sequence-ends, sequence-end}
+use Rattle.optimality.specs.AlongLaws.{sequence-ends, sequence-end}
 use Rattle.stores.specs.Words.{readable, keptList}
 use Rattle.stores.specs.KeptLaws.{kept-exactly}
-use Rattle.wellmade.specs.Entries.{arcTarget}
-use Rattle.wellmade.specs.Paths.{arcPath}
-use Rattle.minutes.specs.Minutes.{noPoints, blank}
-use Rattle.minutes.specs.Noted.{getD-any, getD-blank}
-use Rattle.layers.specs.Lowered.{Lowered}
+use Rattle.query_store.specs.Entries.{arcTarget}
+use Rattle.query_store.specs.Paths.{arcPath}
+use Rattle.query_minutes.specs.Minutes.{noPoints, blank}
+use Rattle.query_minutes.specs.Noted.{getD-any, getD-blank}
+use Rattle.query_costs.specs.Lowered.{Lowered}
 use Rattle.query_rows.specs.Collected.{Collected, sequence-cases, arrives-in-time}
 use Rattle.query_rows.specs.Merged.{unnamed, Merged}
 

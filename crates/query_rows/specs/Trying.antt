@@ -18,8 +18,8 @@ use Rattle.connections.specs.Connections.{Net, net, Connection, stations}
 use Rattle.connections.specs.Planner.{tieKey}
 use Rattle.connections.specs.Sound.{Sound}
 use Rattle.stores.specs.Words.{readable}
-use Rattle.wellmade.specs.Entries.{arcCount, arcTarget, arcBefore}
-use Rattle.wellmade.specs.Paths.{nodePath, arcPath, length-readable}
+use Rattle.query_store.specs.Entries.{arcCount, arcTarget, arcBefore}
+use Rattle.query_store.specs.Paths.{nodePath, arcPath, length-readable}
 use Rattle.query_rows.specs.Keys.{keyWords, key-is}
 use Rattle.query_rows.specs.Won.{By, Own, Won, None, none-first}
 use Rattle.query_rows.specs.Won.{none-more, won-skip, won-new, won-better, won-keep}

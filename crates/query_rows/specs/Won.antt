@@ -15,13 +15,13 @@ use Rattle.results.specs.Results.{Cost}
 use Rattle.connections.specs.Connections.{Net, Connection, Feasible, arrival, penalty, stations}
 use Rattle.connections.specs.Planner.{tieKey}
 use Rattle.connections.specs.Sound.{Sound}
-use Rattle.reckoning.specs.Greedy.{Fits}
+use Rattle.optimality.specs.Greedy.{Fits}
 use Rattle.connections.specs.Named.{Named}
 use Rattle.stores.specs.Words.{readable, keptList}
 use Rattle.stores.specs.KeptLaws.{kept-exactly}
-use Rattle.minutes.specs.Minutes.{noPoints, leads}
-use Rattle.minutes.specs.Noted.{Led, led-exactly}
-use Rattle.reckoning.specs.AlongLaws.{sequence-end}
+use Rattle.query_minutes.specs.Minutes.{noPoints, leads}
+use Rattle.query_minutes.specs.Noted.{Led, led-exactly}
+use Rattle.optimality.specs.AlongLaws.{sequence-end}
 use Rattle.query_rows.specs.Rowed.{LeastKept, Shows}
 
 -- for a query from a at minute u to b, and an arrival minute and penalty

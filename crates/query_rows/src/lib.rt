@@ -11,20 +11,20 @@ ghost use Prim.Native.Nat.{_+_, _-_, _*_, _≤_, _<_, min};
 ghost use lib.ListN.{length, getD, take, set};
 ghost use Rattle.words.specs.Put.{put};
 ghost use Rattle.lists.specs.Lists.{before};
-ghost use Rattle.wellmade.specs.Entries.{arcCount, arcTarget};
-ghost use Rattle.wellmade.specs.Paths.{arcPath};
-ghost use Rattle.wellmade.specs.Made.{Made};
+ghost use Rattle.query_store.specs.Entries.{arcCount, arcTarget};
+ghost use Rattle.query_store.specs.Paths.{arcPath};
+ghost use Rattle.query_store.specs.Made.{Made};
 ghost use Rattle.promises.specs.Query.{kept, rows, rowWords};
 ghost use Rattle.query_rows.specs.Keys.{keyWords};
 ghost use Rattle.query_rows.specs.Rowed.{LeastKept};
-ghost use Rattle.minutes.specs.Minutes.{noPoints, blank};
+ghost use Rattle.query_minutes.specs.Minutes.{noPoints, blank};
 ghost use Rattle.query_rows.specs.Merged.{unnamed, soleOf, Bound, Outside, Merged};
 ghost use Rattle.query_rows.specs.Arcs.{NotedAll};
 ghost use Rattle.query_rows.specs.Leader.{Leader, Named, NamedRow, AllNamed, AllLed};
 ghost use Rattle.query_rows.specs.Granted.{Granted, Leading, Winning, Written, Room};
 ghost use Rattle.query_rows.specs.Trying.{Sized, winsTest, ArcTried, Tried};
-use minutes::MINUTES;
-use minutes::NO_POINTS;
+use query_minutes::MINUTES;
+use query_minutes::NO_POINTS;
 use results::Cost;
 use results::Points;
 
@@ -122,13 +122,13 @@ fn merge_minute(k: usize, m: usize, mine: &mut [u32], best: &mut [u32], who: &mu
         m
         (soleOf k (getD (now (best .entry)) m 0) (getD (now (who .entry)) m 0) (getD (now (mine .entry)) m 0))) ⌝ }
 {
-    let points = minutes::points_at(mine, m);
-    let least = minutes::points_at(best, m);
+    let points = query_minutes::points_at(mine, m);
+    let least = query_minutes::points_at(best, m);
     let named = who[m];
     who[m] = sole_arc(k, least, named, points);
-    let low = minutes::lesser(least, points);
-    minutes::set_points(best, m, low);
-    minutes::set_points(mine, m, Points(NO_POINTS));
+    let low = query_minutes::lesser(least, points);
+    query_minutes::set_points(best, m, low);
+    query_minutes::set_points(mine, m, Points(NO_POINTS));
 }
 
 // Merges the least penalties of arc k alone into those of the arcs before it, and blanks them. The arc reaches no
@@ -157,7 +157,7 @@ fn merge(k: usize, from: usize, to: usize, mine: &mut [u32], best: &mut [u32], w
     while m < to {
         let here = m;
         m += 1;
-        if minutes::points_at(mine, here).0 == NO_POINTS {
+        if query_minutes::points_at(mine, here).0 == NO_POINTS {
             continue;
         }
         merge_minute(k, here, mine, best, who);
@@ -203,8 +203,8 @@ fn note_arc(
         × (length (now (who .exit)) ≡ length (now (who .entry))) ⌝ }
 {
     let mut path = [0u16; STATIONS_MOST];
-    let r = wellmade::arc_pattern(store, k, &mut path);
-    let reached = layers::note_pattern(words, lines, from, minute, &path, r, mine);
+    let r = query_store::arc_pattern(store, k, &mut path);
+    let reached = query_costs::note_pattern(words, lines, from, minute, &path, r, mine);
     merge(k, reached.from, reached.to, mine, best, who);
 }
 
@@ -229,14 +229,14 @@ pub fn note_arcs(
         × (length (now (best .exit)) ≡ 2880)
         × (length (now (who .exit)) ≡ 2880) ⌝ }
 {
-    minutes::fill_blank(best);
+    query_minutes::fill_blank(best);
     let mut mine = [NO_POINTS; MINUTES];
-    let arcs = wellmade::arc_count(store);
+    let arcs = query_store::arc_count(store);
     let mut k = 0;
     while k < arcs {
         let arc = k;
         k += 1;
-        if wellmade::arc_target(store, arc) != to {
+        if query_store::arc_target(store, arc) != to {
             continue;
         }
         note_arc(
@@ -289,8 +289,18 @@ fn find_arc(
     ensures { λ _. ⌜ length (now (tried .exit)) ≡ length (now (tried .entry)) ⌝ }
 {
     let mut path = [0u16; STATIONS_MOST];
-    let r = wellmade::arc_pattern(store, k, &mut path);
-    let f = showing::first_of_pattern(words, lines, from, minute, &path, r, arrive, points, tried);
+    let r = query_store::arc_pattern(store, k, &mut path);
+    let f = query_shown::first_of_pattern(
+        words,
+        lines,
+        from,
+        minute,
+        &path,
+        r,
+        arrive,
+        points,
+        tried,
+    );
     Winner {
         found: f.found,
         arc: k,
@@ -395,12 +405,12 @@ fn choose(
         depart: 0,
         rides: 0,
     };
-    let arcs = wellmade::arc_count(store);
+    let arcs = query_store::arc_count(store);
     let mut k = 0;
     while k < arcs {
         let arc = k;
         k += 1;
-        if wellmade::arc_target(store, arc) != to {
+        if query_store::arc_target(store, arc) != to {
             continue;
         }
         x = try_arc(
@@ -454,7 +464,7 @@ fn row_length(store: &[u16], k: usize) -> usize
     ensures { λ r. ⌜ (r ≡ 3 + 3 * length (arcPath (now (store .entry)) k)) × (r ≤ 192) ⌝ }
 {
     let mut path = [0u16; STATIONS_MOST];
-    let r = wellmade::arc_pattern(store, k, &mut path);
+    let r = query_store::arc_pattern(store, k, &mut path);
     ROW_WORDS + 3 * r
 }
 
@@ -522,7 +532,7 @@ pub fn measure(
     let mut m = minute;
     while m < MINUTES {
         let arrive = m;
-        let points = minutes::points_at(best, m);
+        let points = query_minutes::points_at(best, m);
         m += 1;
         if least.0 <= points.0 {
             continue;
@@ -542,7 +552,7 @@ fn put_row(answer: &mut [u32], at: usize, cost: Cost, rides: usize, shown: &[u32
         (now (answer .entry)) ⌝ }
     ensures { λ r. ⌜ (length (now (answer .exit)) ≡ length (now (answer .entry))) × (r ≡ at + (3 + 3 * rides)) ⌝ }
 {
-    minutes::write_cost(answer, at, cost);
+    query_minutes::write_cost(answer, at, cost);
     answer[at + 2] = rides as u32;
     words::copy_long(answer, at + ROW_WORDS, shown, 3 * rides);
     at + (ROW_WORDS + 3 * rides)
@@ -643,7 +653,7 @@ fn write_row(
         &mut shown,
     );
     let cost = Cost {
-        minutes: minutes::minutes_between(minute, arrive),
+        minutes: query_minutes::minutes_between(minute, arrive),
         points,
     };
     put_row(answer, at, cost, x.rides, &shown)
@@ -678,7 +688,7 @@ pub fn write_rows(
     let mut m = minute;
     while m < MINUTES {
         let arrive = m;
-        let points = minutes::points_at(best, m);
+        let points = query_minutes::points_at(best, m);
         m += 1;
         if least.0 <= points.0 {
             continue;

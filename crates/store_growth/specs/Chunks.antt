@@ -11,11 +11,11 @@ use lib.Seq.{take-add}
 use Rattle.lists.specs.Lists.{concatMap}
 use Rattle.timetable.specs.Words.{stationCount}
 use Rattle.stores.specs.Words.{entriesMost}
-use Rattle.prospects.specs.Routes.{Routes}
-use Rattle.growing.specs.declared.Counts.{Counts}
-use Rattle.growing.specs.Tree.{hasArc, hasKid, children, rooted, nodeAt, Made, Grown, TooMany, Flags}
-use Rattle.growing.specs.Held.{concatMap-append}
-use Rattle.growing.specs.Taking.{Next, Takes, Taken, grown-end}
+use Rattle.store_frontier.specs.Routes.{Routes}
+use Rattle.store_tree.specs.declared.Counts.{Counts}
+use Rattle.store_tree.specs.Tree.{hasArc, hasKid, children, rooted, nodeAt, Made, Grown, TooMany, Flags}
+use Rattle.store_tree.specs.Held.{concatMap-append}
+use Rattle.store_tree.specs.Taking.{Next, Takes, Taken, grown-end}
 use Rattle.stores.specs.Stored.{sequences}
 use Rattle.store_nodes.specs.Nodes.{made}
 use Rattle.store_nodes.specs.Standing.{StandingTo}

@@ -7,12 +7,12 @@ ghost use mathlib.Core.Bool.{true};
 ghost use Prim.Native.Nat.{_≤_};
 ghost use lib.ListN.{length};
 ghost use Rattle.timetable.specs.Words.{stationCount, isTimetable};
-ghost use Rattle.marks.specs.Held.{Departures};
-ghost use Rattle.prospects.specs.Routes.{Routes};
-ghost use Rattle.prospects.specs.Arrivals.{Arrivals};
+ghost use Rattle.store_marks.specs.Held.{Departures};
+ghost use Rattle.store_frontier.specs.Routes.{Routes};
+ghost use Rattle.store_frontier.specs.Arrivals.{Arrivals};
 ghost use Rattle.stores.specs.Stored.{sequences};
 ghost use Rattle.store_growth.specs.Chunks.{Whole};
-use growing::Counts;
+use store_tree::Counts;
 use tree::STOPS_MOST;
 
 // Stations count from 1, 64 at most, and the departures of each end where those of the next one begin.
@@ -37,9 +37,9 @@ fn list_departures(
     ensures { λ r. ⌜ Routes (now (words .entry)) (now (order .exit)) r (now (catch .exit))
         × Departures (now (words .entry)) (now (chain .exit)) (now (first .exit)) ⌝ }
 {
-    let n = chains::order_departures(words, work, order);
-    chains::chain_departures(words, order, n, chain, first);
-    chains::find_catches(words, chain, first, catch);
+    let n = store_departures::order_departures(words, work, order);
+    store_departures::chain_departures(words, order, n, chain, first);
+    store_departures::find_catches(words, chain, first, catch);
     n
 }
 
@@ -52,7 +52,7 @@ fn list_arrivals(words: &[u16], work: &mut [u32], arrivals: &mut [u16], begins: 
         × (length (now begins) ≡ 66) ⌝ }
     ensures { λ _. ⌜ Arrivals (now (words .entry)) (now (arrivals .exit)) (now (begins .exit)) ⌝ }
 {
-    chains::chain_arrivals(words, work, arrivals, begins);
+    store_departures::chain_arrivals(words, work, arrivals, begins);
 }
 
 // Plants and grows the tree, the departures having been listed. Returns the numbers of nodes and arcs, if they fit.
@@ -79,7 +79,7 @@ fn grow_tree(
     let mut arrivals = [0u16; STOPS_MOST];
     let mut begins = [0u32; BEGINS];
     list_arrivals(words, work, &mut arrivals, &mut begins);
-    growing::plant_root(work, source as u32);
+    store_tree::plant_root(work, source as u32);
     tree::grow(
         words,
         order,

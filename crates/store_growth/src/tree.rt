@@ -2,13 +2,13 @@
 // the arcs and kids that its marks tell.
 ghost use Prim.Native.Nat.{_+_, _≤_, _<_};
 ghost use Rattle.timetable.specs.Words.{stationCount};
-ghost use Rattle.marks.specs.Held.{Departures};
-ghost use Rattle.prospects.specs.Routes.{Routes};
-ghost use Rattle.prospects.specs.Arrivals.{Arrivals};
+ghost use Rattle.store_marks.specs.Held.{Departures};
+ghost use Rattle.store_frontier.specs.Routes.{Routes};
+ghost use Rattle.store_frontier.specs.Arrivals.{Arrivals};
 ghost use Rattle.store_growth.specs.Chunks.{SomeChunk, AllReached, Reached, Whole};
-ghost use Rattle.growing.specs.Tree.{Grown};
+ghost use Rattle.store_tree.specs.Tree.{Grown};
 ghost use Rattle.stores.specs.Stored.{sequences};
-use growing::Counts;
+use store_tree::Counts;
 
 // A timetable has at most so many stops.
 pub const STOPS_MOST: usize = timetable::STOPS_MOST as usize;
@@ -39,7 +39,15 @@ fn take_chunk(
     let mut v = lo;
     while v < hi {
         let o = 64 * (v - lo);
-        let taken = growing::take_node(work, targets, v, n, m, &arcs[o..o + 64], &kids[o..o + 64]);
+        let taken = store_tree::take_node(
+            work,
+            targets,
+            v,
+            n,
+            m,
+            &arcs[o..o + 64],
+            &kids[o..o + 64],
+        );
         if !taken.fits {
             return taken;
         }

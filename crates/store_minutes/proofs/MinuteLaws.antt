@@ -5,7 +5,7 @@ use Prim.Native.Nat.{ℕ}
 use lib.ListN.{getD}
 use Rattle.timetable.specs.declared.Stop.{Stop}
 use Rattle.timetable.specs.Words.{stopAt}
-use Rattle.stopwise.specs.Stopwise.{depart}
+use Rattle.store_stops.specs.Stopwise.{depart}
 
 pub minute-is : (w l : List ℕ) (p j : ℕ) (s : Stop) → j ≡ getD l p 0 → s ≡ stopAt w j
     → s .depart ≡ depart w (getD l p 0)

@@ -12,19 +12,27 @@ use Rattle.words.specs.Put.{put, take-put}
 use Rattle.lists.specs.Lists.{_∈_, Distinct}
 use Rattle.timetable.specs.Words.{stationCount, isTimetable}
 use Rattle.timetable.specs.Access.{stations-few}
-use Rattle.stopwise.specs.Stopwise.{station}
-use Rattle.stopwise.specs.TimelyLaws.{timely}
-use Rattle.chains.specs.Order.{beginOf, order, chain, arrivals, stationKeys, byKey}
-use Rattle.chains.specs.Keys.{Begins}
-use Rattle.chains.specs.Legs.{byArrival}
-use Rattle.chains.specs.Catches.{Caught}
-use Rattle.chains.specs.InOrderLaws.{in-order}
-use Rattle.chains.specs.Parts.{begin-next, begin-is, arrived, arriving, arrivals-part, arriving-out, arriving-in}
-use Rattle.chains.specs.Parts.{arriving-distinct, arriving-behind, leaving-few, order-length}
-use Rattle.penalties.specs.Arranged.{Arranged}
-use Rattle.prospects.specs.Arrivals.{Arrivals, part}
-use Rattle.prospects.specs.Routes.{Routes}
-use Rattle.marks.specs.Held.{Departures, Changes}
+use Rattle.store_stops.specs.Stopwise.{station}
+use Rattle.store_stops.specs.TimelyLaws.{timely}
+use Rattle.store_departures.specs.Order.{beginOf, order, chain, arrivals, stationKeys, byKey}
+use Rattle.store_departures.specs.Keys.{Begins}
+use Rattle.store_departures.specs.Legs.{byArrival}
+use Rattle.store_departures.specs.Catches.{Caught}
+use Rattle.store_departures.specs.InOrderLaws.{in-order}
+use Rattle.store_departures.specs.Parts.{
+  begin-next,
+  begin-is,
+  arrived,
+  arriving,
+  arrivals-part,
+  arriving-out,
+  arriving-in,
+}
+use Rattle.store_departures.specs.Parts.{arriving-distinct, arriving-behind, leaving-few, order-length}
+use Rattle.store_penalties.specs.Arranged.{Arranged}
+use Rattle.store_frontier.specs.Arrivals.{Arrivals, part}
+use Rattle.store_frontier.specs.Routes.{Routes}
+use Rattle.store_marks.specs.Held.{Departures, Changes}
 
 -- ---- the departures by minute
 pub chain-front : (w chained old : List ℕ) → chained ≡ put 0 (chain w) old → take (length (chain w)) chained ≡ chain w

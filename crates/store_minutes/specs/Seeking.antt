@@ -12,14 +12,14 @@ use Rattle.lists.specs.Lists.{_∈_}
 use Rattle.lists.specs.Tests.{either}
 use Rattle.timetable.specs.Words.{stationCount, isTimetable}
 use Rattle.timetable.specs.Access.{stations-few}
-use Rattle.stopwise.specs.Stopwise.{station, depart, Goes}
-use Rattle.stopwise.specs.TimelyLaws.{timely}
-use Rattle.chains.specs.Order.{waiting}
-use Rattle.chains.specs.Parts.{waiting-in, waiting-out}
-use Rattle.prospects.specs.Routes.{Routes}
-use Rattle.prospects.specs.Arrivals.{placed}
-use Rattle.marks.specs.Held.{Departures, goes-few, part-ordered, part-most, part-is, part-in}
-use Rattle.growing.specs.Tree.{hasArc, hasKid, nodeAt}
+use Rattle.store_stops.specs.Stopwise.{station, depart, Goes}
+use Rattle.store_stops.specs.TimelyLaws.{timely}
+use Rattle.store_departures.specs.Order.{waiting}
+use Rattle.store_departures.specs.Parts.{waiting-in, waiting-out}
+use Rattle.store_frontier.specs.Routes.{Routes}
+use Rattle.store_frontier.specs.Arrivals.{placed}
+use Rattle.store_marks.specs.Held.{Departures, goes-few, part-ordered, part-most, part-is, part-in}
+use Rattle.store_tree.specs.Tree.{hasArc, hasKid, nodeAt}
 use Rattle.stores.specs.Stored.{sequences}
 use Rattle.store_nodes.specs.Minutes.{Once, arc-stored, kid-stored}
 use Rattle.store_nodes.specs.Standing.{ArcsAt, KidsAt}

@@ -4,10 +4,10 @@ ghost use mathlib.Core.Bool.{true};
 ghost use Prim.Native.Nat.{_+_, _≤_, _<_};
 ghost use lib.ListN.{length, getD};
 ghost use Rattle.timetable.specs.Words.{stationCount, isTimetable};
-ghost use Rattle.stopwise.specs.Stopwise.{depart};
-ghost use Rattle.marks.specs.Held.{Departures};
-ghost use Rattle.prospects.specs.Routes.{Routes};
-ghost use Rattle.prospects.specs.Arrivals.{Arrivals};
+ghost use Rattle.store_stops.specs.Stopwise.{depart};
+ghost use Rattle.store_marks.specs.Held.{Departures};
+ghost use Rattle.store_frontier.specs.Routes.{Routes};
+ghost use Rattle.store_frontier.specs.Arrivals.{Arrivals};
 ghost use Rattle.store_nodes.specs.Standing.{StandingTo, Judged, ArcsAt, KidsAt};
 ghost use Rattle.store_nodes.specs.Chunk.{Down, Raised};
 ghost use Rattle.store_minutes.specs.Seeking.{Sought, Chunked};
@@ -39,9 +39,9 @@ fn judge(
         × (length (now (q .exit)) ≡ 2048)
         × (length (now (x .exit)) ≡ 2048) ⌝ }
 {
-    penalties::least_penalties(words, order, n, catch, source, d, v, q);
-    prospects::allow(words, arrivals, begins, source, v);
-    prospects::prospects(words, order, n, catch, d, v, q, x);
+    store_penalties::least_penalties(words, order, n, catch, source, d, v, q);
+    store_frontier::allow(words, arrivals, begins, source, v);
+    store_frontier::prospects(words, order, n, catch, d, v, q, x);
 }
 
 // Raises the flags of the nodes from lo up to hi for minute d. What v, q and x hold is of no further use.

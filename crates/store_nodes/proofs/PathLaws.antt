@@ -5,7 +5,7 @@ use Prim.Native.Nat.{ℕ, _+_, _<_}
 use native.Mathlib.Omega.{arith}
 use lib.ListN.{length, getD, set}
 use Rattle.words.specs.Put.{put, put-none, put-next}
-use Rattle.growing.specs.Tree.{stationIn, parentIn}
+use Rattle.store_tree.specs.Tree.{stationIn, parentIn}
 use Rattle.store_nodes.specs.Paths.{pathTo, Rooted, path-root, path-step, path-longer, path-room}
 use Rattle.store_nodes.specs.Paths.{parent-falls, parent-rooted}
 

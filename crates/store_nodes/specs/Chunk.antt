@@ -10,9 +10,9 @@ use lib.Dec.{T, ltb, ltb→lt, nltb→le}
 use lib.ListN.{length, getD, take, drop, replicate, length-take, length-drop, length-append, List·getD-append}
 use lib.Seq.{length-take-le, getD-take, getD-drop, getD-append-add}
 use Rattle.lists.specs.Tests.{either}
-use Rattle.prospects.specs.Zeros.{ZeroTo, zero-all, zero-each, zero-replicate}
-use Rattle.marks.specs.Marking.{Marked}
-use Rattle.growing.specs.Tree.{Flags}
+use Rattle.store_frontier.specs.Zeros.{ZeroTo, zero-all, zero-each, zero-replicate}
+use Rattle.store_marks.specs.Marking.{Marked}
+use Rattle.store_tree.specs.Tree.{Flags}
 
 -- no flag is up
 pub record Down (flags : List ℕ) : Type 0 where

@@ -13,15 +13,15 @@ use lib.ListN.{length, getD, length-append}
 use lib.Seq.{getD-append-add}
 use Rattle.timetable.specs.Words.{stationCount, isTimetable}
 use Rattle.timetable.specs.Access.{stations-few}
-use Rattle.reckoning.specs.Ways.{Way}
+use Rattle.optimality.specs.Ways.{Way}
 use Rattle.stores.specs.Words.{final}
-use Rattle.stopwise.specs.Paid.{Labelled}
-use Rattle.stopwise.specs.RideStops.{netOf}
-use Rattle.marks.specs.Reaching.{boardsAt}
-use Rattle.marks.specs.Stepping.{Steps}
-use Rattle.marks.specs.Marking.{Marked, ArcsMarked, KidsMarked}
-use Rattle.growing.specs.Tree.{rooted, nodeAt, stationIn, parentIn}
-use Rattle.growing.specs.Says.{says-below, says-node, says-station}
+use Rattle.store_stops.specs.Paid.{Labelled}
+use Rattle.store_stops.specs.RideStops.{netOf}
+use Rattle.store_marks.specs.Reaching.{boardsAt}
+use Rattle.store_marks.specs.Stepping.{Steps}
+use Rattle.store_marks.specs.Marking.{Marked, ArcsMarked, KidsMarked}
+use Rattle.store_tree.specs.Tree.{rooted, nodeAt, stationIn, parentIn}
+use Rattle.store_tree.specs.Says.{says-below, says-node, says-station}
 use Rattle.stores.specs.Stored.{sequences}
 use Rattle.store_nodes.specs.Minutes.{backwards, backwards-more}
 use Rattle.store_nodes.specs.Nodes.{made}

@@ -12,17 +12,17 @@ use Rattle.lists.specs.Lists.{_∈_}
 use Rattle.lists.specs.Members.{concatMap-in, concatMap-out}
 use Rattle.timetable.specs.Words.{isTimetable}
 use Rattle.stores.specs.Words.{beginnings}
-use Rattle.reckoning.specs.Ways.{Way}
-use Rattle.reckoning.specs.Continuing.{closing-exactly}
-use Rattle.reckoning.specs.AlongLaws.{sequence-end}
-use Rattle.stopwise.specs.Paid.{LeastArrivals}
-use Rattle.stopwise.specs.Prospects.{Allows, Ends, GoesOn}
-use Rattle.stopwise.specs.Settled.{Timely}
-use Rattle.stopwise.specs.RideStops.{netOf, spelled-sound}
-use Rattle.stopwise.specs.Marks.{ends-closing, goes-on-way}
-use Rattle.stopwise.specs.StoredMarks.{Source, way-stored, stored-way}
-use Rattle.growing.specs.Tree.{hasArc, hasKid}
-use Rattle.growing.specs.Numbering.{arc-out, arc-in, kid-out, kid-in}
+use Rattle.optimality.specs.Ways.{Way}
+use Rattle.optimality.specs.Continuing.{closing-exactly}
+use Rattle.optimality.specs.AlongLaws.{sequence-end}
+use Rattle.store_stops.specs.Paid.{LeastArrivals}
+use Rattle.store_stops.specs.Prospects.{Allows, Ends, GoesOn}
+use Rattle.store_stops.specs.Settled.{Timely}
+use Rattle.store_stops.specs.RideStops.{netOf, spelled-sound}
+use Rattle.store_stops.specs.Marks.{ends-closing, goes-on-way}
+use Rattle.store_stops.specs.StoredMarks.{Source, way-stored, stored-way}
+use Rattle.store_tree.specs.Tree.{hasArc, hasKid}
+use Rattle.store_tree.specs.Numbering.{arc-out, arc-in, kid-out, kid-in}
 use Rattle.stores.specs.Stored.{sequences}
 use Rattle.store_nodes.specs.Beginnings.{begin-out, begin-in}
 

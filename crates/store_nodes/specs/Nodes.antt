@@ -16,10 +16,10 @@ use Rattle.connections.specs.OptimalLaws.{pattern-distinct}
 use Rattle.stores.specs.Words.{beginnings, nodes}
 use Rattle.stores.specs.Nodes.{node-out}
 use Rattle.stores.specs.StoredLaws.{stored-out, stored-short}
-use Rattle.stopwise.specs.RideStops.{netOf, spelled-sound}
-use Rattle.growing.specs.Tree.{rooted, nodeAt, Made}
-use Rattle.growing.specs.Numbering.{root-first}
-use Rattle.growing.specs.StoredTree.{stored-made}
+use Rattle.store_stops.specs.RideStops.{netOf, spelled-sound}
+use Rattle.store_tree.specs.Tree.{rooted, nodeAt, Made}
+use Rattle.store_tree.specs.Numbering.{root-first}
+use Rattle.store_tree.specs.StoredTree.{stored-made}
 use Rattle.stores.specs.Stored.{sequences}
 use Rattle.store_nodes.specs.Beginnings.{begin-out}
 

@@ -5,8 +5,8 @@ use mathlib.Core.List.{List, [], _∷_, _++_}
 use Prim.Native.Nat.{ℕ, zero, suc, _+_, _≤_, _<_}
 use native.Mathlib.Omega.{arith}
 use lib.ListN.{length, getD, length-append}
-use Rattle.growing.specs.Tree.{rooted, nodeAt, stationIn, parentIn, Made, Grown}
-use Rattle.growing.specs.Says.{says-below, says-node}
+use Rattle.store_tree.specs.Tree.{rooted, nodeAt, stationIn, parentIn, Made, Grown}
+use Rattle.store_tree.specs.Says.{says-below, says-node}
 
 -- as long as numbers of nodes fall, they can do so at most as often as the number says
 unfoldable pub pathIn : (fuel : ℕ) (work : List ℕ) (v : ℕ) → List ℕ

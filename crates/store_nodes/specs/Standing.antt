@@ -9,18 +9,18 @@ use lib.ListN.{length, getD, take, length-take}
 use Rattle.words.specs.Put.{put, take-put, getD-put}
 use Rattle.timetable.specs.Words.{stationCount, isTimetable}
 use Rattle.stores.specs.Words.{final}
-use Rattle.stopwise.specs.Paid.{LeastArrivals, Labelled}
-use Rattle.stopwise.specs.Prospects.{Allows, Bounded, Ends, GoesOn}
-use Rattle.stopwise.specs.Settled.{Settled}
-use Rattle.stopwise.specs.TimelyLaws.{timely}
-use Rattle.stopwise.specs.LeastSettled.{least-settled}
-use Rattle.prospects.specs.Routes.{Routes}
-use Rattle.marks.specs.Reaching.{boardsAt}
-use Rattle.marks.specs.Marking.{Marked, ArcsMarked, KidsMarked}
-use Rattle.marks.specs.Paths.{changed, reached, Path, boards-reached, reached-none, reached-more}
-use Rattle.growing.specs.Tree.{nodeAt, stationIn, Grown}
-use Rattle.growing.specs.Says.{says-station}
-use Rattle.growing.specs.Growth.{grown-listed}
+use Rattle.store_stops.specs.Paid.{LeastArrivals, Labelled}
+use Rattle.store_stops.specs.Prospects.{Allows, Bounded, Ends, GoesOn}
+use Rattle.store_stops.specs.Settled.{Settled}
+use Rattle.store_stops.specs.TimelyLaws.{timely}
+use Rattle.store_stops.specs.LeastSettled.{least-settled}
+use Rattle.store_frontier.specs.Routes.{Routes}
+use Rattle.store_marks.specs.Reaching.{boardsAt}
+use Rattle.store_marks.specs.Marking.{Marked, ArcsMarked, KidsMarked}
+use Rattle.store_marks.specs.Paths.{changed, reached, Path, boards-reached, reached-none, reached-more}
+use Rattle.store_tree.specs.Tree.{nodeAt, stationIn, Grown}
+use Rattle.store_tree.specs.Says.{says-station}
+use Rattle.store_tree.specs.Growth.{grown-listed}
 use Rattle.stores.specs.Stored.{sequences}
 use Rattle.store_nodes.specs.Minutes.{ArcAt, KidAt, backwards, arc-ends, kid-goes-on}
 use Rattle.store_nodes.specs.Paths.{pathTo, Rooted, path-is, grown-rooted}

@@ -5,13 +5,13 @@ ghost use mathlib.Core.Logic.{_≢_};
 ghost use Prim.Native.Nat.{_+_, _≤_, _<_};
 ghost use lib.ListN.{length, getD};
 ghost use Rattle.timetable.specs.Words.{stationCount, isTimetable};
-ghost use Rattle.marks.specs.Held.{Departures, Changes};
-ghost use Rattle.marks.specs.Stepping.{Steps};
-ghost use Rattle.marks.specs.Marking.{ArcsMarked, KidsMarked};
+ghost use Rattle.store_marks.specs.Held.{Departures, Changes};
+ghost use Rattle.store_marks.specs.Stepping.{Steps};
+ghost use Rattle.store_marks.specs.Marking.{ArcsMarked, KidsMarked};
 ghost use Rattle.store_nodes.specs.Standing.{Standing, StandingTo, Judged, ArcsAt, KidsAt};
 ghost use Rattle.store_nodes.specs.Chunk.{Down, Raised, RaisedOn};
 ghost use Rattle.store_nodes.specs.Hope.{Stationed, Family, Told, Stays, Siblings, ToldOn, Sure};
-ghost use Rattle.growing.specs.Tree.{stationIn, parentIn};
+ghost use Rattle.store_tree.specs.Tree.{stationIn, parentIn};
 use crate::nodes;
 
 // Each node has a flag for each station that there can be.
@@ -22,7 +22,7 @@ fn parent_of(work: &[u32], node: usize) -> usize
     requires { ⌜ node < length (now work) ⌝ }
     ensures { λ r. ⌜ r ≡ parentIn (getD (now (work .entry)) node 0) ⌝ }
 {
-    growing::node_parent(work[node]) as usize
+    store_tree::node_parent(work[node]) as usize
 }
 
 // The station of a node.
@@ -30,7 +30,7 @@ fn station_of(work: &[u32], node: usize) -> usize
     requires { ⌜ node < length (now work) ⌝ }
     ensures { λ r. ⌜ r ≡ stationIn (getD (now (work .entry)) node 0) ⌝ }
 {
-    growing::node_station(work[node]) as usize
+    store_tree::node_station(work[node]) as usize
 }
 
 // Whether a node is below hi and a kid of the parent.
@@ -136,8 +136,8 @@ fn mark_kid(
         × (length (now (arcs .exit)) ≡ 64)
         × (length (now (kids .exit)) ≡ 64) ⌝ }
 {
-    marks::label_step(words, chain, first, catch, c, e, x);
-    marks::mark(words, chain, first, catch, allowed, q, x, e, arcs, kids);
+    store_marks::label_step(words, chain, first, catch, c, e, x);
+    store_marks::mark(words, chain, first, catch, allowed, q, x, e, arcs, kids);
 }
 
 // Raises the flags of a node at station e, its flags standing among those of the nodes from lo on. Its parent's labels

@@ -6,8 +6,8 @@ ghost use Prim.Native.Nat.{_+_, _≤_, _<_};
 ghost use lib.ListN.{length};
 ghost use Rattle.words.specs.Put.{put};
 ghost use Rattle.timetable.specs.Words.{stationCount, isTimetable};
-ghost use Rattle.marks.specs.Held.{Departures, Changes};
-ghost use Rattle.marks.specs.Marking.{Marked};
+ghost use Rattle.store_marks.specs.Held.{Departures, Changes};
+ghost use Rattle.store_marks.specs.Marking.{Marked};
 ghost use Rattle.store_nodes.specs.Paths.{pathTo, Rooted};
 ghost use Rattle.store_nodes.specs.Standing.{Standing, NodeLabels, Judged, ArcsAt, KidsAt};
 ghost use Rattle.store_nodes.specs.Chunk.{MarkedAt};
@@ -22,8 +22,8 @@ fn path_of(work: &[u32], node: usize, path: &mut [u16]) -> usize
         return 0;
     }
     let x = work[node];
-    let k = path_of(work, growing::node_parent(x) as usize, path);
-    path[k] = growing::node_station(x) as u16;
+    let k = path_of(work, store_tree::node_parent(x) as usize, path);
+    path[k] = store_tree::node_station(x) as u16;
     k + 1
 }
 
@@ -54,8 +54,8 @@ fn label_node(
 {
     let mut path = [0u16; 64];
     let k = path_of(work, node, &mut path);
-    marks::label_path(words, chain, first, catch, source, d, &path, k, x);
-    growing::node_station(work[node]) as usize
+    store_marks::label_path(words, chain, first, catch, source, d, &path, k, x);
+    store_tree::node_station(work[node]) as usize
 }
 
 // Raises in arcs the flag of each station to which an optimal connection at minute d has the sequence of the node, and
@@ -97,7 +97,7 @@ pub fn mark_node(
         × (r ≤ stationCount (now (words .entry))) ⌝ }
 {
     let c = label_node(words, chain, first, catch, work, node, source, d, x);
-    marks::mark(words, chain, first, catch, allowed, q, x, c, arcs, kids);
+    store_marks::mark(words, chain, first, catch, allowed, q, x, c, arcs, kids);
     c
 }
 

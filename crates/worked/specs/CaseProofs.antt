@@ -28,9 +28,9 @@ use Rattle.stores.specs.Worked.{case-b, case-c, case-d, case-i}
 use Rattle.lines.specs.Lines.{inOrder, lines, calls}
 use Rattle.lines.specs.DirectRides.{directs, directRows}
 use Rattle.lines.specs.Worked.{case-e, case-f}
-use Rattle.tables.specs.Tables.{timeRow, lineTimes, courseWords, lineWords, linePlaces, allLineWords}
-use Rattle.tables.specs.Tables.{callPairs, allCallPairs, callPlaces, tableWords}
-use Rattle.tables.specs.Building.{lineCount, tablesOf}
+use Rattle.lines_tables.specs.Tables.{timeRow, lineTimes, courseWords, lineWords, linePlaces, allLineWords}
+use Rattle.lines_tables.specs.Tables.{callPairs, allCallPairs, callPlaces, tableWords}
+use Rattle.lines_tables.specs.Building.{lineCount, tablesOf}
 use Rattle.demands.specs.Cases.{from-1, from-2}
 use Rattle.demands.specs.Cases.{cases as defined}
 use Rattle.worked.specs.Calls.{Slices, Room, returned, read, timetableAfter, tablesAfter, tripsOf, storeSlice}

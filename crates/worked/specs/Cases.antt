@@ -13,7 +13,7 @@ use Rattle.timetable.specs.Worked.{M}
 use Rattle.accepted.specs.Cases.{bytes, textM}
 use Rattle.connections.specs.Worked.{oneRide, twoRides}
 use Rattle.stores.specs.Words.{wellMade}
-use Rattle.tables.specs.Building.{tablesOf}
+use Rattle.lines_tables.specs.Building.{tablesOf}
 use Rattle.worked.specs.Calls.{
   Slices,
   returned,

@@ -17,7 +17,7 @@ use Rattle.connections.specs.Planner.{plannerList, rowsOf}
 use Rattle.stores.specs.Words.{storeWords}
 use Rattle.lines.specs.Lines.{lines}
 use Rattle.lines.specs.DirectRides.{directs, directRows}
-use Rattle.tables.specs.Building.{lineCount}
+use Rattle.lines_tables.specs.Building.{lineCount}
 use Rattle.demands.specs.Demands.{Query}
 use Rattle.worked.specs.Calls.{Slices, tripsOf, Stores, Asks, AsksNone, Rides, RidesNone}
 use Rattle.worked.specs.Night.{textNight, night, NightCases}

@@ -23,9 +23,9 @@ use Rattle.stores.specs.Stored.{optimals, optimalStations, stored}
 use Rattle.stores.specs.Words.{nodes, arcs, encode, storeWords, readable, wellMade, keptList, answer}
 use Rattle.lines.specs.Lines.{inOrder, lines, lineNumbers, calls}
 use Rattle.lines.specs.DirectRides.{directs, directRows}
-use Rattle.tables.specs.Tables.{timeRow, lineTimes, courseWords, lineWords, linePlaces, allLineWords}
-use Rattle.tables.specs.Tables.{callPairs, allCallPairs, callPlaces, tableWords}
-use Rattle.tables.specs.Building.{tablesOf}
+use Rattle.lines_tables.specs.Tables.{timeRow, lineTimes, courseWords, lineWords, linePlaces, allLineWords}
+use Rattle.lines_tables.specs.Tables.{callPairs, allCallPairs, callPlaces, tableWords}
+use Rattle.lines_tables.specs.Building.{tablesOf}
 use Rattle.worked.specs.Night.{textNight, night, nightWords, nightTables, threeRides}
 
 -- ---- the text

@@ -24,15 +24,15 @@ use Rattle.connections.specs.Connections.{net, Connection}
 use Rattle.connections.specs.Planner.{plannerList, measure, rowsOf}
 use Rattle.stores.specs.Stored.{stored}
 use Rattle.stores.specs.Words.{nodes, arcs, encode, entriesMost, storeWords, wellMade, keptList, answer}
-use Rattle.tables.specs.Building.{buildNumber, buildReply, lineCount, tablesOf}
-use Rattle.checking.specs.Built.{built-words, built-long, built-holds}
+use Rattle.lines_tables.specs.Building.{buildNumber, buildReply, lineCount, tablesOf}
+use Rattle.lines_check.specs.Built.{built-words, built-long, built-holds}
 use Rattle.lines.specs.Lines.{lineNumbers}
 use Rattle.lines.specs.DirectRides.{directs, directRows}
-use Rattle.lookup.specs.Lookup.{lineCount as countedLines}
-use Rattle.lookup.specs.Holding.{holding}
-use Rattle.alone.specs.Piece.{pieceNumber}
-use Rattle.alone.specs.Alone.{building-has-yes-alone}
-use Rattle.alone.specs.Handed.{trips-handed as handed}
+use Rattle.lines_lookup.specs.Lookup.{lineCount as countedLines}
+use Rattle.lines_lookup.specs.Holding.{holding}
+use Rattle.lines_alone.specs.Piece.{pieceNumber}
+use Rattle.lines_alone.specs.Alone.{building-has-yes-alone}
+use Rattle.lines_alone.specs.Handed.{trips-handed as handed}
 use Rattle.demands.specs.Demands.{Query}
 use Rattle.promises.specs.Packed.{packedReply, packedCount}
 use Rattle.promises.specs.Query.{rowWords}

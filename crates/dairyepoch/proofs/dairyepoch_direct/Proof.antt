@@ -4,7 +4,7 @@ use Rattle.dairyepoch.proofs.dairyepoch_direct.Statement.{statement}
 use Rattle.dairyepoch.proofs.dairyepoch_direct.Tie as tie
 use Rattle.dairyepoch.proofs.dairyepoch_direct.Reads as reads
 use Rattle.dairyepoch.proofs.dairyepoch_direct.Lts as lts
-use Rattle.direct.proofs.direct.Reads as direct-reads
+use Rattle.query_direct.proofs.direct.Reads as direct-reads
 use Rattle.dairyepoch.proofs.pack_count.Reads as pack-count-reads
 
 direct-requires : tie.Need-direct-requires

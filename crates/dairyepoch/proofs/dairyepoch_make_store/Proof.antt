@@ -5,7 +5,7 @@ use Rattle.dairyepoch.proofs.dairyepoch_make_store.Tie as tie
 use Rattle.dairyepoch.proofs.dairyepoch_make_store.Reads as reads
 use Rattle.dairyepoch.proofs.dairyepoch_make_store.Lts as lts
 use Rattle.dairyepoch.proofs.pack_count.Reads as pack-count-reads
-use Rattle.storing.proofs.make_store.Reads as make-store-reads
+use Rattle.store_call.proofs.make_store.Reads as make-store-reads
 
 make-store-requires : tie.Need-make-store-requires
 make-store-requires c κs = search needs

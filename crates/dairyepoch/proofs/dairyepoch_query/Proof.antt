@@ -4,7 +4,7 @@ use Rattle.dairyepoch.proofs.dairyepoch_query.Statement.{statement}
 use Rattle.dairyepoch.proofs.dairyepoch_query.Tie as tie
 use Rattle.dairyepoch.proofs.dairyepoch_query.Reads as reads
 use Rattle.dairyepoch.proofs.dairyepoch_query.Lts as lts
-use Rattle.asking.proofs.query.Reads as query-reads
+use Rattle.query_call.proofs.query.Reads as query-reads
 use Rattle.dairyepoch.proofs.pack_count.Reads as pack-count-reads
 
 query-requires : tie.Need-query-requires

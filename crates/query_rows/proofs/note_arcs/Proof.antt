@@ -3,8 +3,8 @@
 use mathlib.Core.Path.{_≡_, refl}
 use Prim.Native.Nat.{_≤_, _-_}
 use lib.ListN.{length}
-use Rattle.wellmade.specs.Entries.{arcCount}
-use Rattle.minutes.specs.Minutes.{blank}
+use Rattle.query_store.specs.Entries.{arcCount}
+use Rattle.query_minutes.specs.Minutes.{blank}
 use Rattle.query_rows.specs.Merged.{Bound, bound-first}
 use Rattle.query_rows.specs.Arcs.{NotedAll, noted-first, noted-skip, noted-all}
 use Rattle.query_rows.specs.Arcs.{store-words, store-present}

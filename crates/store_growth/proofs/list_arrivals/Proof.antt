@@ -1,6 +1,6 @@
 -- What the order of arrivals is, part by part.
 use borrow.Author.Needs.{needs}
-use Rattle.stopwise.specs.TimelyLaws.{timely}
+use Rattle.store_stops.specs.TimelyLaws.{timely}
 use Rattle.store_minutes.specs.Prepared.{arrivals-of}
 use Rattle.store_growth.proofs.list_arrivals.Statement.{statement}
 use Rattle.store_growth.proofs.list_arrivals.Tie as tie

@@ -1,7 +1,7 @@
 -- The order of departures, by minute and by station, and the departures caught.
 use native.Mathlib.Omega.{arith}
 use borrow.Author.Needs.{needs}
-use Rattle.stopwise.specs.TimelyLaws.{timely}
+use Rattle.store_stops.specs.TimelyLaws.{timely}
 use Rattle.store_minutes.specs.Prepared.{chain-front, order-first, routes, departures-of}
 use Rattle.store_growth.proofs.list_departures.Statement.{statement}
 use Rattle.store_growth.proofs.list_departures.Tie as tie

@@ -3,7 +3,7 @@ use mathlib.Core.Path.{_≡_}
 use Prim.Native.Nat.{_≤_, _-_}
 use lib.ListN.{length}
 use borrow.Author.Needs.{needs}
-use Rattle.prospects.specs.Zeros.{ZeroTo, zero-none, zero-more}
+use Rattle.store_frontier.specs.Zeros.{ZeroTo, zero-none, zero-more}
 use Rattle.store_nodes.specs.Chunk.{down-all}
 use Rattle.store_minutes.proofs.clear.Statement.{statement}
 use Rattle.store_minutes.proofs.clear.Tie as tie

@@ -4,9 +4,9 @@ use Prim.Native.Nat.{_+_, _-_, _≤_}
 use lib.ListN.{length, getD}
 use borrow.Author.Needs.{needs}
 use Rattle.timetable.specs.Words.{stationCount}
-use Rattle.prospects.specs.Routes.{Routes}
-use Rattle.prospects.specs.Arrivals.{Arrivals}
-use Rattle.marks.specs.Held.{Departures}
+use Rattle.store_frontier.specs.Routes.{Routes}
+use Rattle.store_frontier.specs.Arrivals.{Arrivals}
+use Rattle.store_marks.specs.Held.{Departures}
 use Rattle.store_nodes.specs.Standing.{StandingTo}
 use Rattle.store_minutes.specs.Seeking.{Sought, sought-first, place-known, next-known, begins-before, chunked}
 use Rattle.store_minutes.proofs.mark_departures.Statement.{statement}

@@ -4,10 +4,10 @@ use Prim.Native.Nat.{_-_, _≤_}
 use lib.ListN.{length}
 use borrow.Author.Needs.{needs}
 use Rattle.timetable.specs.Words.{stationCount}
-use Rattle.prospects.specs.Routes.{Routes}
-use Rattle.prospects.specs.Arrivals.{Arrivals}
-use Rattle.marks.specs.Held.{Departures}
-use Rattle.growing.specs.Tree.{Grown}
+use Rattle.store_frontier.specs.Routes.{Routes}
+use Rattle.store_frontier.specs.Arrivals.{Arrivals}
+use Rattle.store_marks.specs.Held.{Departures}
+use Rattle.store_tree.specs.Tree.{Grown}
 use Rattle.stores.specs.Stored.{sequences}
 use Rattle.store_growth.specs.Chunks.{few-nodes, less-left, chunk-grown, whole-refused, whole-taken}
 use Rattle.store_growth.proofs.tree.grow.Statement.{statement}

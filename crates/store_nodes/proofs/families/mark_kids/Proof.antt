@@ -2,7 +2,7 @@
 use mathlib.Core.Path.{_≡_}
 use Prim.Native.Nat.{_-_, _≤_, _<_}
 use lib.ListN.{length, getD}
-use Rattle.growing.specs.Tree.{parentIn}
+use Rattle.store_tree.specs.Tree.{parentIn}
 use Rattle.store_nodes.specs.Standing.{ArcsAt, KidsAt}
 use Rattle.store_nodes.specs.Hope.{Stays, ToldOn, stays-same, stays-more, told-none, told-then, kin-under}
 use Rattle.store_nodes.specs.Hope.{kin-from}

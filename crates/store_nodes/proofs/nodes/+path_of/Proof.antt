@@ -9,8 +9,8 @@ use Rattle.store_nodes.proofs.PathLaws.{node-count, node-words}
 use Rattle.store_nodes.proofs.nodes.path_of.Reads as path-of
 use Rattle.store_nodes.proofs.nodes.path_of.Kinds as path-of-kinds
 use Rattle.store_nodes.proofs.nodes.+path_of.Lts-path_of as path-of-lts
-use Rattle.growing.proofs.node_parent.Reads as node-parent-reads
-use Rattle.growing.proofs.node_station.Reads as node-station-reads
+use Rattle.store_tree.proofs.node_parent.Reads as node-parent-reads
+use Rattle.store_tree.proofs.node_station.Reads as node-station-reads
 use Rattle.store_nodes.proofs.nodes.+path_of.{statement}
 use Rattle.store_nodes.proofs.nodes.+path_of.Tie.{close}
 

@@ -1,0 +1,176 @@
+-- The timetable that line tables tell is drawn within the limits, its words spell it, and it answers question 10.
+use mathlib.Core.Path.{_≡_, sym, ap, _∙_}
+use mathlib.Core.Bool.{Bool, true, false, not, _&&_}
+use mathlib.Core.List.{List, _++_}
+use Prim.Native.Nat.{ℕ, _+_, _*_, _≤_, _<_}
+use native.Mathlib.Nat.{zero-add}
+use native.Mathlib.Omega.{arith}
+use borrow.Author.Tests.{le-leb, lt-leb, not-true, not-false}
+use lib.Dec.{leb}
+use lib.ListN.{length, getD, drop, replicate, length-map, length-replicate}
+use Rattle.words.specs.Put.{put, put-append}
+use Rattle.lists.specs.Lists.{range}
+use Rattle.lists.specs.Ranges.{length-range}
+use Rattle.lists.specs.Tests.{and-false}
+use Rattle.timetable.specs.Timetable.{Timetable, stopsOf, counted, valid}
+use Rattle.timetable.specs.Words.{stationWords, stopWords, startWords, words, joined}
+use Rattle.timetable.specs.Words.{timetableOf, chained, isTimetable}
+use Rattle.timetable.specs.WordLaws.{length-stationWords, joined-words}
+use Rattle.accepted.specs.Spelled.{words-spell, words-chained}
+use Rattle.lines_check.specs.Question10.{begins, areTables}
+use Rattle.lines_alone.specs.Facts.{they-fit}
+use Rattle.lines_alone.specs.Drawn.{drawnTrip, drawnTrips, plainStation, drawn, countsFit, areSome, aloneNumber}
+
+-- ---- drawing within the limits
+module _ (v : List ℕ) (fit : countsFit v ≡ true) where
+  pub few-stations : (s : ℕ) → s ≡ getD v 0 0 → s ≤ 64
+  few-stations s is = omega (arith, they-fit v fit .stations)
+
+  pub few-trips : (t : ℕ) → t ≡ getD v 2 0 → t ≤ 256
+  few-trips t is = omega (arith, they-fit v fit .trips)
+
+  pub stations-room : (s : ℕ) → s ≡ getD v 0 0 → 2 * s ≤ 8320
+  stations-room s is = omega (arith, few-stations s is)
+
+  pub starts-room : (t : ℕ) → t ≡ getD v 2 0 → t < 257
+  starts-room t is = omega (arith, few-trips t is)
+
+  module _ (t : ℕ) (is-t : t ≡ getD v 2 0) (few : length (stopsOf (drawnTrips v 0 (getD v 2 0))) ≤ 2048) where
+    pub few-stops : length (stopsOf (drawnTrips v 0 t)) ≤ 2048
+    few-stops = omega (arith, few, ap (λ n. length (stopsOf (drawnTrips v 0 n))) is-t)
+
+    pub few-counted : (n : ℕ) → n ≡ length (stopsOf (drawnTrips v 0 t)) → n ≤ 2048
+    few-counted n e = omega (arith, few-stops)
+
+    pub stops-room : (s : ℕ) → s ≡ getD v 0 0 → (body : List ℕ) → length body ≡ 8320
+        → 2 * s + 4 * length (stopsOf (drawnTrips v 0 t)) ≤ length body
+    stops-room s is-s body long = omega (arith, few-stops, few-stations s is-s)
+
+-- ---- what is drawn
+module _ (v : List ℕ) (s t n : ℕ) (is-s : s ≡ getD v 0 0) (is-t : t ≡ getD v 2 0)
+    (counts : n ≡ length (stopsOf (drawnTrips v 0 t))) where
+  abbrev stations : List ℕ
+  stations = stationWords (replicate s plainStation)
+
+  abbrev stops : List ℕ
+  stops = stopWords (stopsOf (drawnTrips v 0 t))
+
+  pub drawn-written : (zeros mid body zeros₂ starts old out : List ℕ)
+      → 2 * s + 4 * length (stopsOf (drawnTrips v 0 t)) ≤ length zeros
+      → mid ≡ put 0 (stationWords (replicate s plainStation)) zeros
+      → body ≡ put (2 * s) (stopWords (stopsOf (drawnTrips v 0 t))) mid
+      → starts ≡ put 0 (startWords 0 (drawnTrips v 0 t)) zeros₂
+      → out ≡ put 0 (joined s t n body starts) old → out ≡ put 0 (words (drawn v)) old
+  unfolding drawn
+  drawn-written zeros mid body zeros₂ starts old out room first second third wrote =
+      let many : length stations ≡ 2 * s =
+      length-stationWords (replicate s plainStation) ∙ ap (λ k. 2 * k) (length-replicate s plainStation) in
+      let both : body ≡ put 0 (stations ++ stops) zeros =
+      second
+      ∙ (λ i. put (sym (zero-add (2 * s)) i) stops (first i))
+      ∙ put-append 0 (2 * s) stations stops zeros many (omega arith) in
+      let told : body
+      ≡ put 0 (stationWords (replicate (getD v 0 0) plainStation) ++ stopWords (stopsOf (drawnTrips v 0 (getD v 2 0))))
+      zeros =
+      both
+      ∙ (λ i. put 0
+      (stationWords (replicate (is-s i) plainStation) ++ stopWords (stopsOf (drawnTrips v 0 (is-t i))))
+      zeros) in
+      let begun : starts ≡ put 0 (startWords 0 (drawnTrips v 0 (getD v 2 0))) zeros₂ =
+      third ∙ (λ i. put 0 (startWords 0 (drawnTrips v 0 (is-t i))) zeros₂) in
+      let stations-are : s ≡ length (replicate (getD v 0 0) plainStation) =
+      is-s ∙ sym (length-replicate (getD v 0 0) plainStation) in
+      let trips-are : t ≡ length (drawnTrips v 0 (getD v 2 0)) =
+      is-t ∙ sym (length-map (range 0 (getD v 2 0)) (drawnTrip v) ∙ length-range 0 (getD v 2 0)) in
+      let stops-are : n ≡ length (stopsOf (drawnTrips v 0 (getD v 2 0))) =
+      counts ∙ ap (λ k. length (stopsOf (drawnTrips v 0 k))) is-t in
+      wrote
+      ∙ ap (λ w. put 0 w old)
+      (joined-words (drawn v) s t n stations-are trips-are stops-are body starts zeros zeros₂ told begun)
+
+-- ---- its words spell it, whatever stands behind them
+module _ (t : Timetable) (old w : List ℕ) (is : w ≡ put 0 (words t) old) where
+  begun : w ≡ words t ++ drop (0 + length (words t)) old
+  unfolding put
+  begun = is
+
+  spelled : timetableOf w ≡ t
+  spelled = ap timetableOf begun ∙ words-spell t (drop (0 + length (words t)) old)
+
+  tested : isTimetable w ≡ valid t
+  unfolding isTimetable
+  tested =
+      let linked : chained w ≡ true = ap chained begun ∙ words-chained t (drop (0 + length (words t)) old) in
+      rw (linked, spelled)
+
+-- ---- question 10
+many-uncounted : (t : Timetable) → 2048 < length (stopsOf (t .trips)) → counted t ≡ false
+unfolding counted
+many-uncounted t h =
+    and-false
+    (leb 1 (length (t .stations)) && leb (length (t .stations)) 64 && leb (length (t .trips)) 256)
+    (leb (length (stopsOf (t .trips))) 2048)
+    (lt-leb (length (stopsOf (t .trips))) 2048 h)
+
+many-invalid : (v : List ℕ) → 2048 < length (stopsOf (drawnTrips v 0 (getD v 2 0))) → valid (drawn v) ≡ false
+unfolding valid drawn
+many-invalid v h = rw (many-uncounted (drawn v) h)
+
+module _ (v : List ℕ) (r : Bool) (fits : r ≡ countsFit v) where
+  pub counts-no : not r ≡ true → false ≡ areSome v
+  unfolding areSome
+  counts-no denied = simp (← fits, not-true r denied)
+
+  module _ (fine : not r ≡ false) where
+    pub counts-yes : countsFit v ≡ true
+    counts-yes = sym fits ∙ not-false r fine
+
+    module _ (t n : ℕ) (is-t : t ≡ getD v 2 0) (counts : n ≡ length (stopsOf (drawnTrips v 0 t))) where
+      counted-all : n ≡ length (stopsOf (drawnTrips v 0 (getD v 2 0)))
+      counted-all = counts ∙ ap (λ k. length (stopsOf (drawnTrips v 0 k))) is-t
+
+      pub stops-few : n ≤ 2048 → length (stopsOf (drawnTrips v 0 (getD v 2 0))) ≤ 2048
+      stops-few h = omega (arith, counted-all)
+
+      pub stops-no : 2048 < n → false ≡ areSome v
+      unfolding areSome
+      stops-no h =
+          let many : 2048 < length (stopsOf (drawnTrips v 0 (getD v 2 0))) = omega (arith, counted-all) in
+          rw (counts-yes, many-invalid v many)
+
+    pub trips-few : (t : ℕ) → t ≡ getD v 2 0 → t ≤ 256
+    trips-few t is = few-trips v counts-yes t is
+
+    module _ (old w : List ℕ) (drawn-is : w ≡ put 0 (words (drawn v)) old) (q : Bool) (asked : q ≡ isTimetable w) where
+      pub drawn-no : not q ≡ true → false ≡ areSome v
+      unfolding areSome
+      drawn-no denied =
+          let invalid : valid (drawn v) ≡ false = sym (asked ∙ tested (drawn v) old w drawn-is) ∙ not-true q denied in
+          simp (counts-yes, invalid)
+
+      pub some-asked : not q ≡ false → (b : Bool) → b ≡ areTables w v → b ≡ areSome v
+      unfolding areSome
+      some-asked granted b e =
+          let sound : valid (drawn v) ≡ true =
+          sym (asked ∙ tested (drawn v) old w drawn-is) ∙ not-false q granted in
+          simp (counts-yes, sound) (e ∙ ap (begins v) (spelled (drawn v) old w drawn-is))
+
+-- ---- the ways out of the call that asks
+module _ (v : List ℕ) (n : ℕ) where
+  pub lines-short : length v < 16384 → 8 ≡ aloneNumber v n
+  unfolding aloneNumber
+  lines-short short = simp (lt-leb 16384 (length v) short)
+
+  module _ (long : 16384 ≤ length v) where
+    pub work-short : n < 16384 → 8 ≡ aloneNumber v n
+    unfolding aloneNumber
+    work-short short = simp (le-leb 16384 (length v) long, lt-leb 16384 n short)
+
+    module _ (space : 16384 ≤ n) (r : Bool) (asked : r ≡ areSome v) where
+      pub some-no : r ≡ false → 10 ≡ aloneNumber v n
+      unfolding aloneNumber
+      some-no denied = simp (le-leb 16384 (length v) long, le-leb 16384 n space, ← asked, denied)
+
+      pub some-yes : r ≡ true → 0 ≡ aloneNumber v n
+      unfolding aloneNumber
+      some-yes granted = simp (le-leb 16384 (length v) long, le-leb 16384 n space, ← asked, granted)

@@ -1,0 +1,171 @@
+-- Question 10 for line tables lent without a timetable: "could they come from an accepted timetable?" The test areSome
+-- has a yes exactly for the words that do, and what building wrote, with number 0, always has its yes. This is for a
+-- reader, as `question10-alone`, `building-has-yes-alone` and `building-asked-alone` say it.
+use mathlib.Core.Path.{_≡_, refl, sym, ap, subst, _∙_}
+use mathlib.Core.Bool.{Bool, true, _&&_}
+use mathlib.Core.Logic.{_↔_}
+use mathlib.Core.List.{List, [], _∷_}
+use Prim.Native.Nat.{ℕ, zero, suc, _+_, _≤_, _<_}
+use native.Mathlib.Omega.{arith}
+use borrow.Author.Tests.{le-leb}
+use lib.ListN.{length, getD, replicate, length-append, length-replicate}
+use Rattle.words.specs.Below.{Below}
+use Rattle.lists.specs.Tests.{and-left, and-right}
+use Rattle.timetable.specs.Timetable.{Timetable, Trip, validStation, validStations, validTrips, counted, valid}
+use Rattle.timetable.specs.Words.{timetableOf}
+use Rattle.timetable.specs.Access.{spelled-valid}
+use Rattle.reading.specs.Reading.{Accepted, reading, textMost}
+use Rattle.accepted.specs.Valid.{is-valid}
+use Rattle.accepted.specs.WrittenOut.{linesOf, textOf}
+use Rattle.accepted.specs.TextReadBack.{text-bytes, text-short}
+use Rattle.accepted.specs.Taken.{valid-accepted}
+use Rattle.accepted.specs.Sound.{accepted-valid}
+use Rattle.lines.specs.Lines.{lines}
+use Rattle.lines.specs.Once.{onLines}
+use Rattle.lines_found.specs.Bounds.{all-on-lines, no-more-lines}
+use Rattle.replies.specs.Replies.{numberOf}
+use Rattle.lines_tables.specs.Building.{slicesLeast, buildReply, buildWords}
+use Rattle.lines_lookup.specs.Lookup.{lineCount, lineAt}
+use Rattle.lines_lookup.specs.Told.{Told, Holds}
+use Rattle.lines_lookup.specs.Holding.{holding}
+use Rattle.lines_check.specs.Question10.{begins}
+use Rattle.lines_check.specs.Built.{
+  begins-holds,
+  built-yes-9,
+  built-room,
+  built-space,
+  built-long,
+  built-holds,
+}
+use Rattle.lines_alone.specs.Drawn.{plainStation, drawn, tripsFrom, countsFit, areSome, aloneNumber}
+use Rattle.lines_alone.specs.Redrawn.{plain, redrawn}
+
+-- Some text of at most 65,536 bytes is accepted by reading, and the words v begin with the line tables of its
+-- timetable: "no question judges the words past a table".
+pub record ComesFromTimetable (v : List ℕ) : Type 0 where
+  pub text : List ℕ
+  pub bytes : Below 256 text
+  pub short : length text ≤ textMost
+  pub timetable : Timetable
+  pub lines : ℕ
+  pub accepted : reading text ≡ Accepted timetable lines
+  pub holds : Holds v (length (timetable .stations)) (timetable .trips)
+
+-- a valid timetable has a text, the one that is written out from it
+valid-comes : (v : List ℕ) (t : Timetable) → valid t ≡ true → Holds v (length (t .stations)) (t .trips)
+    → ComesFromTimetable v
+valid-comes v t y holds =
+    record {
+      text = textOf t;
+      bytes = text-bytes t y;
+      short = text-short t y;
+      timetable = t;
+      lines = length (linesOf t);
+      accepted = valid-accepted t y;
+      holds = holds;
+    }
+
+-- ---- from the test to a timetable: the one that is drawn
+yes-comes : (v : List ℕ) → areSome v ≡ true → ComesFromTimetable v
+unfolding areSome
+yes-comes v y =
+    let fits : Bool = countsFit v in
+    let drawn-valid : Bool = valid (drawn v) in
+    let both = and-left (fits && drawn-valid) (begins v (drawn v)) y in
+    valid-comes v (drawn v) (and-right fits drawn-valid both)
+    (begins-holds v (drawn v) .0 (and-right (fits && drawn-valid) (begins v (drawn v)) y))
+
+-- ---- from a timetable to the test
+plain-stations : (n : ℕ) → validStations (replicate n plainStation) ≡ true
+unfolding validStations validStation
+plain-stations zero = refl
+plain-stations (suc n) = plain-stations n
+
+-- change values aside, a valid timetable is valid
+plain-valid : (t : Timetable) → valid t ≡ true → valid (plain (length (t .stations)) (t .trips)) ≡ true
+unfolding valid counted
+plain-valid t y =
+    let n = length (t .stations) in
+    let stations : Bool = validStations (t .stations) in
+    let trips : Bool = validTrips n (t .trips) in
+    let counts = and-left (counted t) stations (and-left (counted t && stations) trips y) in
+    rw (length-replicate n plainStation, counts, plain-stations n) (and-right (counted t && stations) trips y)
+
+plain-begins : (v : List ℕ) (n : ℕ) (t : List Trip) → Holds v n t → begins v (plain n t) ≡ true
+plain-begins v n t holds =
+    begins-holds v (plain n t) .1 (subst (λ k. Holds v k t) (sym (length-replicate n plainStation)) holds)
+
+-- the trips on the lines, by their counts
+counted-trips : (v : List ℕ) (i : ℕ) (ls : List (List ℕ))
+    → ((j : ℕ) → j < length ls → (lineAt v (i + j)) .trips ≡ length (getD ls j []))
+    → tripsFrom v i (length ls) ≡ length (onLines ls)
+unfolding tripsFrom
+counted-trips v i [] h = refl
+counted-trips v i (l ∷ ls) h =
+    let here : i + 0 ≡ i = omega arith in
+    let later : (j : ℕ) → i + 1 + j ≡ i + suc j = λ j. omega arith in
+    omega (
+      arith,
+      h 0 (omega arith),
+      ap (λ k. (lineAt v k) .trips) here,
+      counted-trips v (i + 1) ls (λ j g. ap (λ k. (lineAt v k) .trips) (later j) ∙ h (suc j) (omega arith)),
+      length-append l (onLines ls),
+    )
+
+-- no more lines than trips, and no more trips on them
+counts-fit : (v : List ℕ) (t : Timetable) → valid t ≡ true → Told v (length (t .stations)) (t .trips)
+    → countsFit v ≡ true
+unfolding countsFit
+counts-fit v t y told =
+    let bounds = is-valid t y in
+    let ls = lines (t .trips) in
+    let from-0 : (j : ℕ) → 0 + j ≡ j = λ j. omega arith in
+    let trips = counted-trips v 0 ls (λ j g. ap (λ k. (lineAt v k) .trips) (from-0 j) ∙ told .line j g .trips) in
+    let all = ap (tripsFrom v 0) (told .line-count) in
+    rw (
+      le-leb (getD v 0 0) 64 (omega (arith, told .stations, bounds .stations)),
+      le-leb (getD v 2 0) 256 (omega (arith, told .trip-count, bounds .trips)),
+      le-leb (lineCount v) 256 (omega (arith, told .line-count, no-more-lines (t .trips), bounds .trips)),
+      le-leb (tripsFrom v 0 (lineCount v)) 256 (omega (arith, all, trips, all-on-lines (t .trips), bounds .trips)),
+    )
+
+valid-trips : (t : Timetable) → valid t ≡ true → validTrips (length (t .stations)) (t .trips) ≡ true
+unfolding valid
+valid-trips t y =
+    and-right (counted t && validStations (t .stations)) (validTrips (length (t .stations)) (t .trips)) y
+
+holds-yes : (v : List ℕ) (t : Timetable) → valid t ≡ true → Holds v (length (t .stations)) (t .trips)
+    → areSome v ≡ true
+unfolding areSome
+holds-yes v t y holds =
+    let n = length (t .stations) in
+    let told = holding v n (t .trips) holds in
+    rw (redrawn v n (t .trips) told (valid-trips t y), counts-fit v t y told, plain-valid t y)
+    (plain-begins v n (t .trips) holds)
+
+comes-yes : (v : List ℕ) → ComesFromTimetable v → areSome v ≡ true
+comes-yes v c =
+    holds-yes v (c .timetable) (accepted-valid (c .text) (c .timetable) (c .lines) (c .accepted)) (c .holds)
+
+-- ---- the theorem
+pub question10-alone : (v : List ℕ) → areSome v ≡ true ↔ ComesFromTimetable v
+question10-alone v = (yes-comes v, comes-yes v)
+
+-- what building wrote, with number 0, has its yes: no premise but the reply
+pub building-has-yes-alone : (w old : List ℕ) (n : ℕ) → numberOf (buildReply w (length old) n) ≡ 0
+    → areSome (buildWords w old n) ≡ true
+building-has-yes-alone w old n done =
+    holds-yes (buildWords w old n) (timetableOf w) (spelled-valid w (built-yes-9 w old n done))
+    (built-holds w old n done)
+
+-- and so have both questions of the call
+pub building-asked-alone : (w old : List ℕ) (n : ℕ) → numberOf (buildReply w (length old) n) ≡ 0
+    → aloneNumber (buildWords w old n) n ≡ 0
+unfolding aloneNumber
+building-asked-alone w old n done =
+    rw (
+      built-long w old n done,
+      le-leb slicesLeast (length old) (built-room w old n done),
+      le-leb slicesLeast n (built-space w old n done),
+      building-has-yes-alone w old n done,
+    )

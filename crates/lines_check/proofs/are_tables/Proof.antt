@@ -1,0 +1,16 @@
+-- The tables of the timetable are written to working space, and compared with those lent.
+use borrow.Author.Needs.{needs}
+use Rattle.lines_tables.proofs.BuildLaws.{lines-room, work-room}
+use Rattle.lines_check.proofs.TableLaws.{compared}
+use Rattle.lines_check.proofs.are_tables.Statement.{statement}
+use Rattle.lines_check.proofs.are_tables.Tie as tie
+
+same-words-requires : tie.Need-same-words-requires
+same-words-requires c κs = (search lines-room, search work-room)
+
+returns : tie.Need-returns
+returns c = search compared
+
+pub are-tables-spec : {M : Type 1} → statement M
+are-tables-spec =
+    tie.close (tie.spec (λ c. search needs) same-words-requires (λ c. search needs) returns)

@@ -1,0 +1,115 @@
+// The questions that are put to a query before it is looked at: 8 to 12. Question 10 here is about line tables lent
+// with a timetable: are they its own?
+ghost use mathlib.Core.Path.{_≡_};
+ghost use mathlib.Core.Bool.{true};
+ghost use Prim.Native.Nat.{_≤_};
+ghost use lib.ListN.{length, take};
+ghost use Rattle.lists.specs.Lists.{same};
+ghost use Rattle.timetable.specs.Words.{isTimetable};
+ghost use Rattle.lines_check.specs.Question10.{areTables, tablesNumber};
+ghost use Rattle.lines_check.specs.Asked.{listed, named, queryNumber};
+ghost use Rattle.timetable.specs.Words.{timetableOf};
+
+// The last minute of the two days that a timetable has.
+const LAST_MINUTE: u32 = timetable::LAST_MINUTE;
+
+// Whether the first count words of both are the same.
+fn same_words(lines: &[u16], work: &[u32], count: usize) -> bool
+    requires { ⌜ (count ≤ length (now lines)) × (count ≤ length (now work)) ⌝ }
+    ensures { λ r. ⌜ r ≡ same (take count (now (work .entry))) (take count (now (lines .entry))) ⌝ }
+{
+    let mut i = 0;
+    while i < count {
+        if work[i] != words::word(lines, i) {
+            return false;
+        }
+        i += 1;
+    }
+    true
+}
+
+// Whether the line tables are those of the timetable. Working space may hold any words afterwards.
+pub fn are_tables(words: &[u16], lines: &[u16], work: &mut [u32]) -> bool
+    requires { ⌜ (16384 ≤ length (now words))
+        × (isTimetable (now words) ≡ true)
+        × (16384 ≤ length (now lines))
+        × (length (now work) ≡ 16384) ⌝ }
+    ensures { λ r. ⌜ r ≡ areTables (now (words .entry)) (now (lines .entry)) ⌝ }
+{
+    let count = lines_tables::write_tables(words, work);
+    same_words(lines, work, count)
+}
+
+// Questions 8, 9 and 10 to a timetable and line tables lent with it: 0, or the number of the first no. Working space
+// may hold any words afterwards.
+pub fn tables_number(words: &[u16], lines: &[u16], work: &mut [u32]) -> u32
+    ensures { λ r. ⌜ r
+        ≡ tablesNumber (now (words .entry)) (now (lines .entry)) (length (now (work .entry))) ⌝ }
+{
+    if words.len() < timetable::WORDS_LEAST {
+        return 8;
+    }
+    if lines.len() < lines_tables::WORDS_LEAST {
+        return 8;
+    }
+    if work.len() < lines_tables::WORDS_LEAST {
+        return 8;
+    }
+    if !timetable::is_timetable(words) {
+        return 9;
+    }
+    if are_tables(words, lines, &mut work[0..lines_tables::WORDS_LEAST]) {
+        return 0;
+    }
+    10
+}
+
+// Whether the timetable lists this station.
+pub fn is_listed(words: &[u16], station: u32) -> bool
+    requires { ⌜ 16384 ≤ length (now words) ⌝ }
+    ensures { λ r. ⌜ r ≡ listed (timetableOf (now (words .entry))) station ⌝ }
+{
+    if station < 1 {
+        return false;
+    }
+    station <= words::word(words, 0)
+}
+
+// Whether the timetable lists both stations, and they differ.
+fn are_named(words: &[u16], from: u32, to: u32) -> bool
+    requires { ⌜ 16384 ≤ length (now words) ⌝ }
+    ensures { λ r. ⌜ r ≡ named (timetableOf (now (words .entry))) from to ⌝ }
+{
+    if !is_listed(words, from) {
+        return false;
+    }
+    if !is_listed(words, to) {
+        return false;
+    }
+    from != to
+}
+
+// Questions 8 to 12 to a query: 0, or the number of the first no. Working space may hold any words afterwards.
+pub fn query_number(
+    words: &[u16],
+    lines: &[u16],
+    work: &mut [u32],
+    from: u32,
+    to: u32,
+    minute: u32,
+) -> u32
+    ensures { λ r. ⌜ r
+        ≡ queryNumber (now (words .entry)) (now (lines .entry)) (length (now (work .entry))) from to minute ⌝ }
+{
+    let number = tables_number(words, lines, work);
+    if number != 0 {
+        return number;
+    }
+    if !are_named(words, from, to) {
+        return 11;
+    }
+    if LAST_MINUTE < minute {
+        return 12;
+    }
+    0
+}

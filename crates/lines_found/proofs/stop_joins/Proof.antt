@@ -1,0 +1,19 @@
+-- One way out for each of the four tests, in their order.
+use Rattle.lines_found.proofs.TripLaws.{unlike-station, unlike-points, arrives-earlier, departure-decides}
+use Rattle.lines_found.proofs.stop_joins.Statement.{statement}
+use Rattle.lines_found.proofs.stop_joins.Tie as tie
+
+returns : tie.Need-returns
+returns c = search unlike-station
+
+returns-2 : tie.Need-returns-2
+returns-2 c = search unlike-points
+
+returns-3 : tie.Need-returns-3
+returns-3 c = search arrives-earlier
+
+returns-4 : tie.Need-returns-4
+returns-4 c = search departure-decides
+
+pub stop-joins-spec : {M : Type 1} → statement M
+stop-joins-spec = tie.close (tie.spec returns returns-2 returns-3 returns-4)

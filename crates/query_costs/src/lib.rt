@@ -1,0 +1,356 @@
+// The least penalties along one stored pattern, change by change: for each minute the least with which one is ready to
+// board at the present station by then.
+ghost use mathlib.Core.Path.{_≡_};
+ghost use mathlib.Core.Bool.{true, not};
+ghost use Prim.Native.Nat.{_+_, _-_, _≤_, _<_, min, max};
+ghost use lib.ListN.{length, getD};
+ghost use Rattle.timetable.specs.Words.{timetableOf, isTimetable};
+ghost use Rattle.connections.specs.Connections.{net};
+ghost use Rattle.lines_check.specs.Question10.{areTables};
+ghost use Rattle.query_direct.specs.Candidates.{allRead};
+ghost use Rattle.query_minutes.specs.Minutes.{noPoints, blank, lowered};
+ghost use Rattle.query_costs.specs.Lowest.{lowest};
+ghost use Rattle.query_costs.specs.Spans.{Within, widened};
+ghost use Rattle.query_costs.specs.Filling.{filled};
+ghost use Rattle.query_costs.specs.Layering.{takenAll, startOf, firstValue, NoneBefore};
+ghost use Rattle.query_costs.specs.Fitting.{Fits, Fitting};
+ghost use Rattle.query_costs.specs.Turning.{held};
+ghost use Rattle.query_costs.specs.Onward.{Listed, Stations, changeWords};
+ghost use Rattle.query_costs.specs.Patterns.{changesTo};
+ghost use Rattle.query_costs.specs.Lowered.{Lowered};
+use query_minutes::MINUTES;
+use query_minutes::NO_POINTS;
+use query_rides::Ride;
+use results::Cost;
+use results::Minutes;
+use results::Points;
+
+// The minutes from one up to another.
+pub struct Span {
+    pub from: usize,
+    pub to: usize,
+}
+
+// The span of no minutes.
+fn nothing() -> Span
+    ensures { λ r. ⌜ (r .from ≡ 2880) × (r .to ≡ 0) ⌝ }
+{
+    Span {
+        from: MINUTES,
+        to: 0,
+    }
+}
+
+// The earlier of two minutes.
+fn earlier(a: usize, b: usize) -> usize
+    ensures { λ r. ⌜ r ≡ min a b ⌝ }
+{
+    if b < a {
+        return b;
+    }
+    a
+}
+
+// The later of two minutes.
+fn later(a: usize, b: usize) -> usize
+    ensures { λ r. ⌜ r ≡ max a b ⌝ }
+{
+    if a < b {
+        return b;
+    }
+    a
+}
+
+// The span with a minute more. A minute after the two days is left out: nothing is noted for it.
+fn widen(s: Span, m: usize) -> Span
+    ensures { λ r. ⌜ r ≡ widened s m ⌝ }
+{
+    if MINUTES <= m {
+        return s;
+    }
+    Span {
+        from: earlier(s.from, m),
+        to: later(s.to, m + 1),
+    }
+}
+
+// The same penalty for all minutes from one up to another.
+fn fill(p: &mut [u32], from: usize, to: usize, points: Points)
+    requires { ⌜ (from ≤ to) × (to ≤ 2880) × (length (now p) ≡ 2880) ⌝ }
+    ensures { λ _. ⌜ now (p .exit) ≡ filled (now (p .entry)) from to (points .0) ⌝ }
+    ensures { λ _. ⌜ length (now (p .exit)) ≡ length (now (p .entry)) ⌝ }
+{
+    let mut m = from;
+    while m < to {
+        query_minutes::set_points(p, m, points);
+        m += 1;
+    }
+}
+
+// Who is ready at a minute is ready at each later one: each penalty is lowered to the least so far. Outside the span
+// there is none, so before it none changes, and after it all are the least of the span.
+fn lowest_so_far(p: &mut [u32], s: Span)
+    requires { ⌜ (length (now p) ≡ 2880) × (s .from ≤ 2880) × Within s blank (now p) ⌝ }
+    ensures { λ _. ⌜ now (p .exit) ≡ lowest noPoints (now (p .entry)) ⌝ }
+    ensures { λ _. ⌜ length (now (p .exit)) ≡ length (now (p .entry)) ⌝ }
+{
+    let mut least = Points(NO_POINTS);
+    let mut m = s.from;
+    while m < s.to {
+        least = query_minutes::lesser(least, query_minutes::points_at(p, m));
+        query_minutes::set_points(p, m, least);
+        m += 1;
+    }
+    fill(p, m, MINUTES, least);
+}
+
+// The first minute by which one is ready, where no one is before minute from; 2,880 if no one ever is.
+fn first_value(p: &[u32], from: usize) -> usize
+    requires { ⌜ (length (now p) ≡ 2880) × (from ≤ 2880) × NoneBefore from (now p) ⌝ }
+    ensures { λ r. ⌜ (r ≡ firstValue (now (p .entry))) × (r ≤ 2880) ⌝ }
+{
+    let mut m = from;
+    let first = loop {
+        if MINUTES <= m {
+            break m;
+        }
+        if query_minutes::less(query_minutes::points_at(p, m), Points(NO_POINTS)) {
+            break m;
+        }
+        m += 1;
+    };
+    first
+}
+
+// Before the first ride one is ready from the minute of the query on, and has paid nothing.
+fn start(minute: usize, p: &mut [u32])
+    requires { ⌜ (minute < 2880) × (length (now p) ≡ 2880) ⌝ }
+    ensures { λ _. ⌜ now (p .exit) ≡ startOf minute ⌝ }
+    ensures { λ _. ⌜ length (now (p .exit)) ≡ length (now (p .entry)) ⌝ }
+{
+    fill(p, 0, minute, Points(NO_POINTS));
+    fill(p, minute, MINUTES, Points(0));
+}
+
+// Notes a ride for one who has paid what p holds for its departure: when he can leave again, after a change that takes
+// and costs so much, and what he has paid by then. Returns the span noted so far with that minute.
+fn note_ride(p: &[u32], ride: Ride, change: Cost, best: &mut [u32], noted: Span) -> Span
+    requires { ⌜ (length (now p) ≡ 2880)
+        × Fits (now p) ride
+        × (change .minutes .0 ≤ 240)
+        × (change .points .0 ≤ 1000) ⌝ }
+    ensures { λ _. ⌜ now (best .exit)
+        ≡ lowered
+        (now (best .entry))
+        (ride .arrive + change .minutes .0)
+        (getD (now (p .entry)) (ride .depart) 0 + ride .points .0 + change .points .0) ⌝ }
+    ensures { λ _. ⌜ length (now (best .exit)) ≡ length (now (best .entry)) ⌝ }
+    ensures { λ r. ⌜ r ≡ widened noted (ride .arrive + change .minutes .0) ⌝ }
+{
+    let points = ride.points;
+    let price = change.points;
+    let wait = change.minutes;
+    let stood = query_minutes::points_at(p, ride.depart);
+    let paid = query_minutes::sum(query_minutes::sum(stood, points), price);
+    let ready = query_minutes::minute_after(ride.arrive, wait);
+    query_minutes::note(best, ready, paid);
+    widen(noted, ready)
+}
+
+// Notes all rides from one station to another that leave at a minute or later. Returns the span of the minutes noted.
+fn note_rides(
+    lines: &[u16],
+    from: usize,
+    to: usize,
+    earliest: usize,
+    p: &[u32],
+    change: Cost,
+    best: &mut [u32],
+) -> Span
+    requires { ⌜ (length (now p) ≡ 2880)
+        × (length (now best) ≡ 2880)
+        × Fitting (now p) (allRead (now lines) from earliest to)
+        × (change .minutes .0 ≤ 240)
+        × (change .points .0 ≤ 1000) ⌝ }
+    ensures { λ _. ⌜ now (best .exit)
+        ≡ takenAll
+        (now (p .entry))
+        (change .minutes .0)
+        (change .points .0)
+        (now (best .entry))
+        (allRead (now (lines .entry)) from earliest to) ⌝ }
+    ensures { λ _. ⌜ length (now (best .exit)) ≡ length (now (best .entry)) ⌝ }
+    ensures { λ r. ⌜ Within r (now (best .entry)) (now (best .exit)) × (r .from ≤ 2880) ⌝ }
+{
+    let mut noted = nothing();
+    let mut c = query_rides::begin(lines, from, to, earliest);
+    while c.more {
+        noted = note_ride(p, query_rides::tell(lines, c), change, best, noted);
+        c = query_rides::next(lines, earliest, c);
+    }
+    noted
+}
+
+// One ride and the change at its end: from the least penalties at station from to those at station to. Returns the
+// first minute by which one is ready there.
+fn step(
+    words: &[u16],
+    lines: &[u16],
+    from: usize,
+    to: usize,
+    earliest: usize,
+    p: &[u32],
+    q: &mut [u32],
+) -> usize
+    requires { ⌜ (16384 ≤ length (now words)) × (isTimetable (now words) ≡ true) × Listed (now words) to ⌝ }
+    requires { ⌜ (length (now p) ≡ 2880)
+        × (length (now q) ≡ 2880)
+        × Fitting (now p) (allRead (now lines) from earliest to) ⌝ }
+    ensures { λ _. ⌜ now (q .exit)
+        ≡ changeWords (now (words .entry)) (now (p .entry)) to (allRead (now (lines .entry)) from earliest to) ⌝ }
+    ensures { λ _. ⌜ length (now (q .exit)) ≡ length (now (q .entry)) ⌝ }
+    ensures { λ r. ⌜ (r ≡ firstValue (now (q .exit))) × (r ≤ 2880) ⌝ }
+{
+    let change = query_rides::change_at(words, to);
+    query_minutes::fill_blank(q);
+    let noted = note_rides(lines, from, to, earliest, p, change, q);
+    lowest_so_far(q, noted);
+    first_value(q, noted.from)
+}
+
+// The last ride: notes for each minute of arrival the least penalty. Returns the span of the minutes noted.
+fn finish(
+    lines: &[u16],
+    from: usize,
+    to: usize,
+    earliest: usize,
+    p: &[u32],
+    best: &mut [u32],
+) -> Span
+    requires { ⌜ (length (now p) ≡ 2880)
+        × (length (now best) ≡ 2880)
+        × Fitting (now p) (allRead (now lines) from earliest to) ⌝ }
+    ensures { λ _. ⌜ now (best .exit)
+        ≡ takenAll (now (p .entry)) 0 0 (now (best .entry)) (allRead (now (lines .entry)) from earliest to) ⌝ }
+    ensures { λ _. ⌜ length (now (best .exit)) ≡ length (now (best .entry)) ⌝ }
+    ensures { λ r. ⌜ Within r (now (best .entry)) (now (best .exit)) ⌝ }
+{
+    let none = Cost {
+        minutes: Minutes(0),
+        points: Points(0),
+    };
+    note_rides(lines, from, to, earliest, p, none, best)
+}
+
+// A step from the array that holds the present penalties, q if they have changed places, to the other.
+fn step_turned(
+    words: &[u16],
+    lines: &[u16],
+    from: usize,
+    to: usize,
+    earliest: usize,
+    turned: bool,
+    p: &mut [u32],
+    q: &mut [u32],
+) -> usize
+    requires { ⌜ (16384 ≤ length (now words)) × (isTimetable (now words) ≡ true) × Listed (now words) to ⌝ }
+    requires { ⌜ (length (now p) ≡ 2880)
+        × (length (now q) ≡ 2880)
+        × Fitting (held turned (now p) (now q)) (allRead (now lines) from earliest to) ⌝ }
+    ensures { λ _. ⌜ held (not turned) (now (p .exit)) (now (q .exit))
+        ≡ changeWords
+        (now (words .entry))
+        (held turned (now (p .entry)) (now (q .entry)))
+        to
+        (allRead (now (lines .entry)) from earliest to) ⌝ }
+    ensures { λ _. ⌜ (length (now (p .exit)) ≡ 2880) × (length (now (q .exit)) ≡ 2880) ⌝ }
+    ensures { λ r. ⌜ (r ≡ firstValue (held (not turned) (now (p .exit)) (now (q .exit)))) × (r ≤ 2880) ⌝ }
+{
+    if turned {
+        return step(words, lines, from, to, earliest, q, p);
+    }
+    step(words, lines, from, to, earliest, p, q)
+}
+
+// The last ride, likewise.
+fn finish_turned(
+    lines: &[u16],
+    from: usize,
+    to: usize,
+    earliest: usize,
+    turned: bool,
+    p: &[u32],
+    q: &[u32],
+    best: &mut [u32],
+) -> Span
+    requires { ⌜ (length (now p) ≡ 2880)
+        × (length (now q) ≡ 2880)
+        × (length (now best) ≡ 2880)
+        × Fitting (held turned (now p) (now q)) (allRead (now lines) from earliest to) ⌝ }
+    ensures { λ _. ⌜ now (best .exit)
+        ≡ takenAll
+        (held turned (now (p .entry)) (now (q .entry)))
+        0
+        0
+        (now (best .entry))
+        (allRead (now (lines .entry)) from earliest to) ⌝ }
+    ensures { λ _. ⌜ length (now (best .exit)) ≡ length (now (best .entry)) ⌝ }
+    ensures { λ r. ⌜ Within r (now (best .entry)) (now (best .exit)) ⌝ }
+{
+    if turned {
+        return finish(lines, from, to, earliest, q, best);
+    }
+    finish(lines, from, to, earliest, p, best)
+}
+
+// Lowers the penalties of the arrival minutes to those of the connections of one pattern: from the source at the minute
+// or later, with changes at the first r - 1 stations of the path, to the station after them. Returns the span of the
+// minutes noted: outside it no penalty changes.
+pub fn note_pattern(
+    words: &[u16],
+    lines: &[u16],
+    source: usize,
+    minute: usize,
+    path: &[u16],
+    r: usize,
+    best: &mut [u32],
+) -> Span
+    requires { ⌜ (16384 ≤ length (now words))
+        × (isTimetable (now words) ≡ true)
+        × (areTables (now words) (now lines) ≡ true) ⌝ }
+    requires { ⌜ Listed (now words) source × (minute < 2880) ⌝ }
+    requires { ⌜ (1 ≤ r) × (r ≤ length (now path)) × Stations (now words) (now path) r ⌝ }
+    requires { ⌜ length (now best) ≡ 2880 ⌝ }
+    ensures { λ _. ⌜ Lowered
+        (net (timetableOf (now (words .entry))))
+        source
+        minute
+        (changesTo (now (path .entry)) (r - 1))
+        (getD (now (path .entry)) (r - 1) 0)
+        (now (best .entry))
+        (now (best .exit)) ⌝ }
+    ensures { λ _. ⌜ length (now (best .exit)) ≡ length (now (best .entry)) ⌝ }
+    ensures { λ s. ⌜ Within s (now (best .entry)) (now (best .exit)) ⌝ }
+{
+    let mut p = [NO_POINTS; MINUTES];
+    let mut q = [NO_POINTS; MINUTES];
+    start(minute, &mut p);
+    let mut turned = false;
+    let mut from = source;
+    let mut earliest = minute;
+    let mut j = 0;
+    let noted = loop {
+        let to = words::word(path, j) as usize;
+        if j + 1 == r {
+            break finish_turned(lines, from, to, earliest, turned, &p, &q, best);
+        }
+        earliest = step_turned(words, lines, from, to, earliest, turned, &mut p, &mut q);
+        if MINUTES <= earliest {
+            break nothing();
+        }
+        turned = !turned;
+        from = to;
+        j += 1;
+    };
+    noted
+}

@@ -1,0 +1,77 @@
+-- From call to call in front of a list: those of the line are noted, until one is of another.
+use mathlib.Core.Path.{_≡_, sym, ap, _∙_}
+use mathlib.Core.List.{List, [], _∷_, map}
+use Prim.Native.Nat.{ℕ, _+_, _-_, _≤_, _<_}
+use native.Mathlib.Omega.{arith}
+use lib.ListN.{length}
+use borrow.Author.Tests.{eq-eqb, ne-eqb}
+use Rattle.results.specs.declared.Points.{Points}
+use Rattle.lines_lookup.specs.Lookup.{Line, totalAt, pointsBetween, arriveAt}
+use Rattle.lines_lookup.specs.Calls.{Call, Piece, callAt, callsIn}
+use Rattle.lines_lookup.proofs.LookupLaws.{pairs-more, pairs-none}
+use Rattle.query_direct.specs.Candidates.{Reach, reachOf, rideOn}
+use Rattle.query_minutes.specs.Minutes.{noteAll, lowered}
+
+-- ---- the penalty, by two totals
+module _ (v : List ℕ) (l : Line) (x y here there : ℕ) (is-here : here ≡ totalAt v l x) (is : there ≡ totalAt v l y)
+  where
+    pub totals-fall : there < here → 0 ≡ pointsBetween v l x y
+    totals-fall h = omega (arith, is, is-here)
+
+    pub totals-rise : there - here ≡ pointsBetween v l x y
+    totals-rise = λ i. is i - is-here i
+
+-- a piece from index k on
+abbrev pub from : (k end : ℕ) → Piece
+from k end = record { from = k; end = end }
+
+-- ---- what is left of the places to ride to
+module _ (v : List ℕ) (l : Line) (c : Call) (k end : ℕ) where
+  pub reach-none : end ≤ k + 1 → reachOf v l c (callsIn v (from k end)) ≡ []
+  unfolding reachOf
+  reach-none h = ap (reachOf v l c) (pairs-none v k end h)
+
+  module _ (more : k + 1 < end) (inside : end ≤ length v) (d : Call) (is-d : d ≡ callAt v k) where
+    front : callsIn v (from k end) ≡ d ∷ callsIn v (from (k + 2) end)
+    front = pairs-more v k end more inside ∙ ap (λ d. d ∷ callsIn v (from (k + 2) end)) (sym is-d)
+
+    pub reach-other : (d .line ≡ c .line → ⊥) → reachOf v l c (callsIn v (from k end)) ≡ []
+    unfolding reachOf
+    reach-other h = ap (reachOf v l c) front ∙ rw (ne-eqb (d .line) (c .line) h)
+
+    pub reach-next : d .line ≡ c .line
+        → reachOf v l c (callsIn v (from k end))
+        ≡ record { place = d .place; points = pointsBetween v l (c .place) (d .place) }
+        ∷ reachOf v l c (callsIn v (from (k + 2) end))
+    unfolding reachOf
+    reach-next h = ap (reachOf v l c) front ∙ rw (eq-eqb (d .line) (c .line) h)
+
+-- ---- noting them
+module _ (v : List ℕ) (l : Line) (c : Call) (j k end : ℕ) (best old : List ℕ) (all : List Reach)
+    (so-far : noteAll old (map (rideOn v l (c .place) j) all)
+    ≡ noteAll best (map (rideOn v l (c .place) j) (reachOf v l c (callsIn v (from k end))))) where
+  done : reachOf v l c (callsIn v (from k end)) ≡ [] → best ≡ noteAll old (map (rideOn v l (c .place) j) all)
+  unfolding noteAll
+  done e = sym (so-far ∙ ap (λ r. noteAll best (map (rideOn v l (c .place) j) r)) e)
+
+  pub noted-all : end ≤ k + 1 → best ≡ noteAll old (map (rideOn v l (c .place) j) all)
+  noted-all h = done (reach-none v l c k end h)
+
+  module _ (more : k + 1 < end) (inside : end ≤ length v) (d : Call) (is-d : d ≡ callAt v k) where
+    pub noted-line : (d .line ≡ c .line → ⊥) → best ≡ noteAll old (map (rideOn v l (c .place) j) all)
+    noted-line h = done (reach-other v l c k end more inside d is-d h)
+
+    pub noted-more : d .line ≡ c .line
+        → (points : Points) → points .0 ≡ pointsBetween v l (c .place) (d .place)
+        → (m : ℕ) → m ≡ arriveAt v l (d .place) j
+        → (next : List ℕ) → next ≡ lowered best m (points .0)
+        → noteAll old (map (rideOn v l (c .place) j) all)
+        ≡ noteAll next (map (rideOn v l (c .place) j) (reachOf v l c (callsIn v (from (k + 2) end))))
+    unfolding noteAll
+    noted-more h points is-points m is-m next e =
+        let here = e ∙ (λ i. lowered best (is-m i) (is-points i)) in
+        so-far
+        ∙ ap (λ r. noteAll best (map (rideOn v l (c .place) j) r)) (reach-next v l c k end more inside d is-d h)
+        ∙ ap
+        (λ b. noteAll b (map (rideOn v l (c .place) j) (reachOf v l c (callsIn v (from (k + 2) end)))))
+        (sym here)

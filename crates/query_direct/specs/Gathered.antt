@@ -1,0 +1,231 @@
+-- What the code gathers from line tables: the first rides of the lines, and all direct rides. So the first rides have
+-- the costs of all, and those of a valid timetable keep within the bounds of the code's numbers.
+use mathlib.Core.Path.{_≡_, refl, sym, ap, subst, _∙_}
+use mathlib.Core.Bool.{true}
+use mathlib.Core.Logic.{_↔_}
+use mathlib.Core.List.{List, [], map, Memᴰ·map, Memᴰ·of-map, Memᴰ·cast}
+use Prim.Native.Nat.{ℕ, _≤_, _<_}
+use native.Mathlib.Omega.{arith}
+use lib.Dec.{T, leb}
+use lib.ListN.{length, getD}
+use Rattle.timetable.specs.Timetable.{Trip, Timetable, counted, valid}
+use Rattle.lists.specs.Lists.{_∈_, firstOf}
+use Rattle.lists.specs.Tests.{reads, writes}
+use Rattle.results.specs.Results.{costs}
+use Rattle.results.specs.Kept.{costs-covered}
+use Rattle.connections.specs.Rides.{Ride, rideAt}
+use Rattle.connections.specs.Connections.{net, Connection, direct}
+use Rattle.connections.specs.Planner.{measure}
+use Rattle.connections.specs.RideLaws.{Taken, rides-in, rides-out}
+use Rattle.connections.specs.Sound.{sound, ride-cheap}
+use Rattle.lines.specs.Lines.{lines, course}
+use Rattle.lines.specs.DirectRides.{directs, inTime, firstRides}
+use Rattle.lines.specs.DirectLaws.{Pair, first-ride, first-in, first-direct, direct-in, direct-out, directs-exactly}
+use Rattle.lines.specs.DirectLaws.{direct-costs}
+use Rattle.lines.specs.Ordered.{line-length, line-stop}
+use Rattle.lines.specs.Once.{OnLine, line-of, trip-listed}
+use Rattle.lines_tables.specs.Spelled.{within}
+use Rattle.lines_lookup.specs.Lookup.{lineAt}
+use Rattle.lines_lookup.specs.First.{firstTrip}
+use Rattle.lines_lookup.specs.Told.{Told}
+use Rattle.query_direct.specs.Bounds.{Bounds}
+use Rattle.query_direct.specs.Candidates.{firstRead, allRead}
+use Rattle.query_direct.specs.Foremost.{placed}
+use Rattle.query_direct.specs.Reached.{first-trip-in, first-trip-out}
+use Rattle.query_direct.specs.ByLine.{
+  lineOf,
+  rideBy,
+  By,
+  Read,
+  line-listed,
+  line-good,
+  from-inside,
+  first-listed,
+  all-listed,
+  first-read-in,
+  first-read-out,
+  all-read-in,
+  all-read-out,
+  timely-by,
+  by-timely,
+}
+
+module _
+    (v : List ℕ)
+    (timetable : Timetable)
+    (told : Told v (length (timetable .stations)) (timetable .trips))
+    (a u b : ℕ)
+    (some : 1 ≤ a)
+    (inside : a ≤ length (timetable .stations))
+    (yes : valid timetable ≡ true)
+  where
+    abbrev t : List Trip
+    t = timetable .trips
+
+    is-valid : T (valid timetable)
+    is-valid = rw yes tt
+
+    abbrev n : ℕ
+    n = length (timetable .stations)
+
+    -- the first trip of the line at place i that leaves place x in time
+    abbrev first : (i x : ℕ) → ℕ
+    first i x = firstTrip v (lineAt v i) x u
+
+    module _ (i x y j : ℕ) (k : By t a b i x y j) where
+      by-first : first i x ≡ j → direct (rideBy t i x y j) ∈ firstRides t a u b
+      by-first e =
+          let runs : first i x < length (lineOf t i) = omega (arith, e, k .runs) in
+          let x-inside = from-inside t a b i x y j k in
+          let trip = first-trip-in v t i (lineOf t i) (told .line i (k .listed)) x u x-inside runs in
+          let this = subst (λ j. getD (lineOf t i) j 0 ∈ firstOf (inTime t u x) (lineOf t i)) e trip in
+          first-in t a u b (lineOf t i) x y (getD (lineOf t i) j 0) (line-listed t i (k .listed)) (k .pair) this
+
+      by-direct : (1 ≤ b) × (b ≤ n) → first i x ≤ j → direct (rideBy t i x y j) ∈ directs (net timetable) a u b
+      by-direct to-listed h =
+          let z = getD (lineOf t i) j 0 in
+          let good = line-good t i (k .listed) in
+          let member = within (lineOf t i) j 0 (k .runs) in
+          let line = line-listed t i (k .listed) in
+          let on-line : OnLine t z = record { line = lineOf t i; listed = line; member = member } in
+          let long = line-length t (lineOf t i) z good member in
+          let end = k .pair .inside in
+          let from = sym (line-stop t (lineOf t i) z x good member .station) ∙ k .pair .board in
+          let to = sym (line-stop t (lineOf t i) z y good member .station) ∙ k .pair .alight in
+          let timely = timely-by v n t told a u b some inside (to-listed .0) (to-listed .1) i x y j k h in
+          let listed = rides-in t z x y (trip-listed t z on-line) (k .pair .later) (omega arith) in
+          direct-in timetable a u b (rideBy t i x y j) listed (search writes)
+
+    -- a direct ride ends at a listed station
+    direct-listed : (c : Connection) → c ∈ directs (net timetable) a u b → (1 ≤ b) × (b ≤ n)
+    direct-listed c m =
+        let r = direct-out timetable a u b c m in
+        let wanted = r .2 in
+        let to : r .0 .to ≡ b = search reads in
+        subst (λ b. (1 ≤ b) × (b ≤ n)) to (sound timetable is-valid .arrives (r .0) (r .1))
+
+    -- ---- the first rides read are those of the lines
+    first-to : (c : Connection) → c ∈ map direct (firstRead v a u b) → c ∈ firstRides t a u b
+    first-to c m =
+        let r = Memᴰ·of-map direct (firstRead v a u b) m in
+        let listed = first-listed v n t told a u b (r .0) (r .1) in
+        let q = first-read-out v n t told a u b some inside (listed .0) (listed .1) (r .0) (r .1) in
+        let k = q .0 in
+        Memᴰ·cast (sym (ap direct (k .is) ∙ r .2)) (by-first (k .i) (k .x) (k .y) (k .j) (k .by) (q .1))
+
+    first-back : (c : Connection) → c ∈ firstRides t a u b → c ∈ map direct (firstRead v a u b)
+    first-back c m =
+        let listed = direct-listed c (first-direct timetable a u b c m) in
+        let r = first-ride t a u b c m in
+        let x = r .x in
+        let y = r .y in
+        let p = placed (lines t) [] (r .line) (r .listed) in
+        let i = p .place in
+        let pair = subst (λ l. Pair t a b l x y) (sym (p .is)) (r .pair) in
+        let member = subst (λ l. r .z ∈ firstOf (inTime t u x) l) (sym (p .is)) (r .first) in
+        let x-inside : x < length (course t (lineOf t i)) = omega (arith, pair .later, pair .inside) in
+        let q = first-trip-out v t i (lineOf t i) (told .line i (p .inside)) x u x-inside (r .z) member in
+        let by : By t a b i x y (first i x) = record { listed = p .inside; pair = pair; runs = q .0 } in
+        let same = ap (λ z. direct (rideAt (getD t z []) z x y)) (q .1) ∙ r .is in
+        Memᴰ·cast (sym same) (Memᴰ·map direct
+        (first-read-in v n t told a u b some inside (listed .0) (listed .1) i x y (first i x) by refl))
+
+    -- ---- all rides read are the direct rides
+    all-to : (c : Connection) → c ∈ map direct (allRead v a u b) → c ∈ directs (net timetable) a u b
+    all-to c m =
+        let r = Memᴰ·of-map direct (allRead v a u b) m in
+        let listed = all-listed v n t told a u b (r .0) (r .1) in
+        let q = all-read-out v n t told a u b some inside (listed .0) (listed .1) (r .0) (r .1) in
+        let k = q .0 in
+        Memᴰ·cast (sym (ap direct (k .is) ∙ r .2))
+        (by-direct (k .i) (k .x) (k .y) (k .j) (k .by) listed (q .1))
+
+    -- a direct ride by the line of its trip
+    on-its-line : (r : Ride) → r .from ≡ a → r .to ≡ b → Taken t r → Read t a b r
+    on-its-line r from to k =
+        let z = k .z in
+        let s = line-of t z (k .listed) in
+        let p = placed (lines t) [] (s .line) (s .listed) in
+        let i = p .place in
+        let member = subst (λ l. z ∈ l) (sym (p .is)) (s .member) in
+        let q = placed (lineOf t i) 0 z member in
+        let good = line-good t i (p .inside) in
+        let long = line-length t (lineOf t i) z good member in
+        let board = line-stop t (lineOf t i) z (k .x) good member .station ∙ ap (λ r. r .from) (k .is) ∙ from in
+        let alight = line-stop t (lineOf t i) z (k .y) good member .station ∙ ap (λ r. r .to) (k .is) ∙ to in
+        let end : k .y < length (course t (lineOf t i)) = omega (arith, k .inside) in
+        record {
+          i = i;
+          x = k .x;
+          y = k .y;
+          j = q .place;
+          by =
+              record {
+                listed = p .inside;
+                pair = record { later = k .later; inside = end; board = board; alight = alight };
+                runs = q .inside;
+              };
+          is = ap (λ z. rideAt (getD t z []) z (k .x) (k .y)) (q .is) ∙ k .is;
+        }
+
+    all-back : (c : Connection) → c ∈ directs (net timetable) a u b → c ∈ map direct (allRead v a u b)
+    all-back c m =
+        let listed = direct-listed c m in
+        let r = direct-out timetable a u b c m in
+        let wanted = r .2 in
+        let from : r .0 .from ≡ a = search reads in
+        let to : r .0 .to ≡ b = search reads in
+        let timely : T (leb u (r .0 .depart)) = search reads in
+        let k = on-its-line (r .0) from to (rides-out t (r .0) (r .1)) in
+        let leaves = subst (λ r. T (leb u (r .depart))) (sym (k .is)) timely in
+        let behind =
+        by-timely v n t told a u b some inside (listed .0) (listed .1) (k .i) (k .x) (k .y) (k .j) (k .by) leaves in
+        Memᴰ·cast (sym (ap direct (k .is) ∙ r .3))
+        (Memᴰ·map direct
+        (all-read-in v n t told a u b some inside (listed .0) (listed .1) (k .i) (k .x) (k .y) (k .j) (k .by) behind))
+
+    pub all-read : (c : Connection) → c ∈ map direct (allRead v a u b) ↔ c ∈ directs (net timetable) a u b
+    all-read c = (all-to c, all-back c)
+
+    -- ---- so the first rides have their costs
+    pub read-costs : costs (measure u) (map direct (firstRead v a u b))
+        ≡ costs (measure u) (directs (net timetable) a u b)
+    read-costs =
+        costs-covered
+        (measure u)
+        (firstRides t a u b)
+        (map direct (firstRead v a u b))
+        first-to
+        (λ c m. (c, first-back c m, omega arith))
+        ∙ direct-costs timetable a u b
+
+    -- ---- how large their numbers get
+    trips-few : length t ≤ 256
+    unfolding valid counted
+    trips-few = let h = is-valid in search reads
+
+    direct-bounds : (r : Ride) → direct r ∈ directs (net timetable) a u b → Bounds u r
+    direct-bounds r m =
+        let boards = directs-exactly timetable a u b (direct r) .0 m .0 .0 in
+        let listed = boards .listed in
+        let net-sound = sound timetable is-valid in
+        let forward = net-sound .forward r listed in
+        let bounded = net-sound .bounded r listed in
+        let cheap = ride-cheap timetable is-valid r listed in
+        let k = rides-out t r listed in
+        let number = ap (λ r. r .trip) (k .is) in
+        record {
+          leaves = boards .timely;
+          later = forward;
+          minute = omega arith;
+          depart-minute = omega arith;
+          few = omega arith;
+          trip-few = omega (arith, number, k .listed, trips-few);
+        }
+
+    pub all-bounds : (r : Ride) → r ∈ allRead v a u b → Bounds u r
+    all-bounds r m = direct-bounds r (all-to (direct r) (Memᴰ·map direct m))
+
+    pub first-bounds : (r : Ride) → r ∈ firstRead v a u b → Bounds u r
+    first-bounds r m =
+        direct-bounds r (first-direct timetable a u b (direct r) (first-to (direct r) (Memᴰ·map direct m)))

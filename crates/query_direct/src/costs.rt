@@ -1,0 +1,87 @@
+// The costs of a query: the least penalty for each arrival minute, noted from the first trips of the lines.
+ghost use mathlib.Core.Path.{_≡_};
+ghost use mathlib.Core.List.{map};
+ghost use Prim.Native.Nat.{_≤_, _<_};
+ghost use lib.ListN.{length};
+ghost use Rattle.lines_lookup.specs.Lookup.{pointsBetween};
+ghost use Rattle.lines_lookup.specs.Calls.{Within};
+ghost use Rattle.query_minutes.specs.Minutes.{noteAll, blank};
+ghost use Rattle.query_direct.specs.Candidates.{rideOn, reachBy, firstRead};
+ghost use Rattle.query_direct.specs.Shown.{bestOf, leadsOf};
+use lines_lookup::Boarding;
+use results::Points;
+
+// The penalty of the ride to place y of the line that is boarded: the difference of two totals.
+pub fn ride_points(v: &[u16], g: Boarding, y: usize) -> Points
+    requires { ⌜ Within (now v) g × (y < 65536) ⌝ }
+    ensures { λ r. ⌜ r .0 ≡ pointsBetween (now (v .entry)) (g .line) (g .call .place) y ⌝ }
+{
+    let here = g.total;
+    let there = lines_lookup::total_at(v, g.line, y);
+    if there < here {
+        return Points(0);
+    }
+    Points((there - here) as u32)
+}
+
+// Notes all rides on the trip at place j of the line that is boarded, to the calls of the line that are left.
+fn note_reach(v: &[u16], g: Boarding, j: usize, best: &mut [u32])
+    requires { ⌜ Within (now v) g × (j < 65536) ⌝ }
+    ensures { λ _. ⌜ now (best .exit)
+        ≡ noteAll (now (best .entry))
+        (map (rideOn (now (v .entry)) (g .line) (g .call .place) j) (reachBy (now (v .entry)) g)) ⌝ }
+    ensures { λ _. ⌜ length (now (best .exit)) ≡ length (now (best .entry)) ⌝ }
+{
+    let end = g.rest.end;
+    let mut k = g.rest.from;
+    while k + 1 < end {
+        let d = lines_lookup::call_at(v, k);
+        if d.line != g.call.line {
+            break;
+        }
+        let points = ride_points(v, g, d.place);
+        query_minutes::note(best, lines_lookup::arrive_at(v, g.line, d.place, j), points);
+        k += 2;
+    }
+}
+
+// Notes, at each call of station from, the rides to station to on the first trip that leaves at the minute or later. A
+// line of which no trip leaves then is passed over. Both lists rise: what stands before a call of from need not be
+// looked at again.
+fn note_first(v: &[u16], from: usize, to: usize, minute: usize, best: &mut [u32])
+    ensures { λ _. ⌜ now (best .exit) ≡ noteAll (now (best .entry)) (firstRead (now (v .entry)) from minute to) ⌝ }
+    ensures { λ _. ⌜ length (now (best .exit)) ≡ length (now (best .entry)) ⌝ }
+{
+    let mut rest = lines_lookup::list_of(v, to);
+    let list = lines_lookup::list_of(v, from);
+    let end = list.end;
+    let mut k = list.from;
+    'calls: while k + 1 < end {
+        let g = lines_lookup::boarding_at(v, k, rest);
+        rest = g.rest;
+        k += 2;
+        let mut j = 0;
+        let first = loop {
+            if g.line.trips <= j {
+                continue 'calls;
+            }
+            if minute <= lines_lookup::depart_at(v, g.line, g.call.place, j) {
+                break j;
+            }
+            j += 1;
+        };
+        note_reach(v, g, first, best);
+    }
+}
+
+// Notes what the first rides cost, for each minute of arrival. Returns how many rows there will be.
+pub fn find_costs(v: &[u16], from: usize, to: usize, minute: usize, best: &mut [u32]) -> usize
+    requires { ⌜ (now best ≡ blank) × (length (now best) ≡ 2880) ⌝ }
+    ensures { λ r. ⌜ (now (best .exit) ≡ bestOf (now (v .entry)) from to minute)
+        × (r ≡ length (leadsOf (now (v .entry)) from to minute))
+        × (r ≤ 2880)
+        × (length (now (best .exit)) ≡ 2880) ⌝ }
+{
+    note_first(v, from, to, minute, best);
+    query_minutes::count_rows(best)
+}

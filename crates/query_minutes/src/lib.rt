@@ -1,0 +1,178 @@
+// One least penalty for each minute of the two days: how a query keeps the costs that it has found so far.
+//
+// An array has one word for each minute, the least penalty of those who arrive then. Only this crate knows the words:
+// others read and write them as points, by `points_at` and `set_points`, so that minutes and points cannot be mistaken
+// for each other. A minute of the day is the index of a word, and no duration: `minutes_between` makes one of two.
+ghost use mathlib.Core.Path.{_≡_};
+ghost use mathlib.Core.Bool.{cond};
+ghost use mathlib.Core.List.{[], _∷_};
+ghost use Prim.Native.Nat.{_+_, _-_, _≤_, _<_, min};
+ghost use lib.Dec.{ltb, eqb};
+ghost use lib.ListN.{length, getD, set};
+ghost use Rattle.words.specs.Put.{put};
+ghost use Rattle.query_minutes.specs.Minutes.{noPoints, blank, lowered, leads};
+use results::Cost;
+use results::Minutes;
+use results::Points;
+
+// The minutes of the two days: 0 to 2,879.
+pub const MINUTES: usize = 2880;
+
+// The word of a minute in which no one arrives; every connection has less points.
+pub const NO_POINTS: u32 = u32::MAX;
+
+// Whether a is below b.
+pub fn less(a: Points, b: Points) -> bool
+    ensures { λ r. ⌜ r ≡ ltb (a .0) (b .0) ⌝ }
+{
+    a.0 < b.0
+}
+
+// Whether the two are the same.
+pub fn same(a: Points, b: Points) -> bool
+    ensures { λ r. ⌜ r ≡ eqb (a .0) (b .0) ⌝ }
+{
+    a.0 == b.0
+}
+
+// The lesser of two.
+pub fn lesser(a: Points, b: Points) -> Points
+    ensures { λ r. ⌜ r .0 ≡ min (a .0) (b .0) ⌝ }
+{
+    if b.0 < a.0 {
+        return b;
+    }
+    a
+}
+
+// The sum of two that fits.
+pub fn sum(a: Points, b: Points) -> Points
+    requires { ⌜ a .0 + b .0 ≤ 4294967295 ⌝ }
+    ensures { λ r. ⌜ r .0 ≡ a .0 + b .0 ⌝ }
+{
+    Points(a.0 + b.0)
+}
+
+// The sum of two, as far as a word holds it: NO_POINTS if it is more.
+pub fn sum_held(a: Points, b: Points) -> Points
+    ensures { λ r. ⌜ r .0 ≡ min (a .0 + b .0) noPoints ⌝ }
+{
+    if NO_POINTS - a.0 < b.0 {
+        return Points(NO_POINTS);
+    }
+    Points(a.0 + b.0)
+}
+
+// What is left of a once b is paid; none if b is more.
+pub fn left_of(a: Points, b: Points) -> Points
+    ensures { λ r. ⌜ r .0 ≡ a .0 - b .0 ⌝ }
+{
+    if a.0 <= b.0 {
+        return Points(0);
+    }
+    Points(a.0 - b.0)
+}
+
+// The minutes from one minute of the day to a later one; none if it is not later.
+pub fn minutes_between(minute: usize, arrive: usize) -> Minutes
+    requires { ⌜ arrive < 2880 ⌝ }
+    ensures { λ r. ⌜ r .0 ≡ arrive - minute ⌝ }
+{
+    if arrive <= minute {
+        return Minutes(0);
+    }
+    Minutes((arrive - minute) as u32)
+}
+
+// The minute of the day so many minutes after another.
+pub fn minute_after(minute: usize, wait: Minutes) -> usize
+    requires { ⌜ minute ≤ 65536 ⌝ }
+    ensures { λ r. ⌜ r ≡ minute + wait .0 ⌝ }
+{
+    minute + wait.0 as usize
+}
+
+// The minute of the day so many minutes before another.
+pub fn minute_before(minute: usize, wait: Minutes) -> usize
+    requires { ⌜ wait .0 ≤ minute ⌝ }
+    ensures { λ r. ⌜ r ≡ minute - wait .0 ⌝ }
+{
+    minute - wait.0 as usize
+}
+
+// The points that stand for a minute.
+pub fn points_at(best: &[u32], minute: usize) -> Points
+    requires { ⌜ minute < length (now best) ⌝ }
+    ensures { λ r. ⌜ r .0 ≡ getD (now (best .entry)) minute 0 ⌝ }
+{
+    Points(best[minute])
+}
+
+// Puts points down for a minute.
+pub fn set_points(best: &mut [u32], minute: usize, points: Points)
+    requires { ⌜ minute < length (now best) ⌝ }
+    ensures { λ _. ⌜ now (best .exit) ≡ set (now (best .entry)) minute (points .0) ⌝ }
+    ensures { λ _. ⌜ length (now (best .exit)) ≡ length (now (best .entry)) ⌝ }
+{
+    best[minute] = points.0;
+}
+
+// Notes that one can arrive at a minute for some points. A minute past the end is not noted.
+pub fn note(best: &mut [u32], arrive: usize, points: Points)
+    ensures { λ _. ⌜ now (best .exit) ≡ lowered (now (best .entry)) arrive (points .0) ⌝ }
+    ensures { λ _. ⌜ length (now (best .exit)) ≡ length (now (best .entry)) ⌝ }
+{
+    if arrive < best.len() {
+        let least = lesser(points_at(best, arrive), points);
+        set_points(best, arrive, least);
+    }
+}
+
+// Before a query no one arrives in any minute.
+pub fn fill_blank(best: &mut [u32])
+    requires { ⌜ length (now best) ≡ 2880 ⌝ }
+    ensures { λ _. ⌜ now (best .exit) ≡ blank ⌝ }
+    ensures { λ _. ⌜ length (now (best .exit)) ≡ length (now (best .entry)) ⌝ }
+{
+    let mut minute = 0;
+    while minute < MINUTES {
+        best[minute] = NO_POINTS;
+        minute += 1;
+    }
+}
+
+// Writes the cost with which a row of an answer begins.
+pub fn write_cost(answer: &mut [u32], at: usize, cost: Cost)
+    requires { ⌜ at + 2 ≤ length (now answer) ⌝ }
+    ensures { λ _. ⌜ now (answer .exit) ≡ put at (cost .minutes .0 ∷ cost .points .0 ∷ []) (now (answer .entry)) ⌝ }
+    ensures { λ _. ⌜ length (now (answer .exit)) ≡ length (now (answer .entry)) ⌝ }
+{
+    words::put_pair(answer, at, cost.minutes.0, cost.points.0);
+}
+
+// 1 if a is below b, else 0.
+fn below(a: Points, b: Points) -> usize
+    ensures { λ r. ⌜ (r ≡ cond (ltb (a .0) (b .0)) 1 0) × (r ≤ 1) ⌝ }
+{
+    if a.0 < b.0 {
+        return 1;
+    }
+    0
+}
+
+// How many minutes have a penalty below those of all earlier minutes: the rows of the answer.
+pub fn count_rows(best: &[u32]) -> usize
+    requires { ⌜ length (now best) ≡ 2880 ⌝ }
+    ensures { λ r. ⌜ (r ≡ length (leads noPoints 0 (now (best .entry)))) × (r ≤ 2880) ⌝ }
+{
+    let mut rows = 0;
+    let mut least = Points(NO_POINTS);
+    let mut minute = 0;
+    while minute < MINUTES {
+        let points = points_at(best, minute);
+        rows += below(points, least);
+        least = lesser(least, points);
+        minute += 1;
+    }
+    rows
+}

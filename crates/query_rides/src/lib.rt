@@ -1,0 +1,213 @@
+// The rides from one station to another that leave at a minute or later, one after the other, from line tables; and
+// what a change between two rides takes and costs.
+ghost use mathlib.Core.Path.{_≡_};
+ghost use mathlib.Core.Bool.{true, false};
+ghost use mathlib.Core.List.{_∷_};
+ghost use Prim.Native.Nat.{_-_, _≤_, _<_};
+ghost use lib.ListN.{length};
+ghost use Rattle.timetable.specs.Words.{stationAt};
+ghost use Rattle.lines_lookup.specs.Calls.{Inside, Within};
+ghost use Rattle.query_direct.specs.Candidates.{allRead};
+ghost use Rattle.query_rides.specs.Riding.{Good, Tells, left, rideOf, callsFrom, rest, restAt};
+use lines_lookup::Boarding;
+use lines_lookup::Call;
+use lines_lookup::Line;
+use lines_lookup::Piece;
+use results::Cost;
+use results::Minutes;
+use results::Points;
+
+// A ride, by the numbers by which it is shown, its minutes and its penalty.
+pub struct Ride {
+    pub trip: usize,
+    pub board: usize,
+    pub alight: usize,
+    pub depart: usize,
+    pub arrive: usize,
+    pub points: Points,
+}
+
+// A place to alight at and the penalty of the ride to it, if one was found, and the index of the call after it.
+pub struct Place {
+    pub found: bool,
+    pub place: usize,
+    pub points: Points,
+    pub next: usize,
+}
+
+// Where one stands in the rides: the calls that are left to board at; the call boarded at, with those that were left to
+// alight at; the first trip that leaves in time; the place alighted at, and the trip.
+pub struct Cursor {
+    pub more: bool,
+    pub calls: Piece,
+    pub boarding: Boarding,
+    pub first: usize,
+    pub to: Place,
+    pub j: usize,
+}
+
+// No place.
+fn nowhere() -> Place
+    ensures { λ r. ⌜ (r .found ≡ false) × (r .place < 65536) × (r .next ≤ 65536) ⌝ }
+{
+    Place {
+        found: false,
+        place: 0,
+        points: Points(0),
+        next: 0,
+    }
+}
+
+// The place of the call at index k, if it is one of the line that is boarded.
+fn seek_place(v: &[u16], g: Boarding, k: usize) -> Place
+    requires { ⌜ Within (now v) g × (k ≤ 65536) ⌝ }
+    ensures { λ r. ⌜ (rest (now (v .entry)) g k ≡ restAt (now (v .entry)) g r)
+        × (r .place < 65536)
+        × (r .next ≤ 65536) ⌝ }
+{
+    if g.rest.end <= k + 1 {
+        return nowhere();
+    }
+    let d = lines_lookup::call_at(v, k);
+    if d.line != g.call.line {
+        return nowhere();
+    }
+    Place {
+        found: true,
+        place: d.place,
+        points: query_direct::ride_points(v, g, d.place),
+        next: k + 2,
+    }
+}
+
+// The first ride from some calls to some others. Few calls lead to the station sought, so a trip is looked for only
+// where there is a place to alight at.
+fn seek_call(v: &[u16], minute: usize, calls: Piece, others: Piece) -> Cursor
+    requires { ⌜ Inside (now v) calls × Inside (now v) others ⌝ }
+    ensures { λ r. ⌜ (left (now (v .entry)) minute r ≡ callsFrom (now (v .entry)) minute calls others)
+        × Good (now (v .entry)) r ⌝ }
+{
+    let end = calls.end;
+    let mut k = calls.from;
+    let mut rest = others;
+    while k + 1 < end {
+        let g = lines_lookup::boarding_at(v, k, rest);
+        rest = g.rest;
+        k += 2;
+        let to = seek_place(v, g, g.rest.from);
+        if !to.found {
+            continue;
+        }
+        let first = lines_lookup::first_trip(v, g.line, g.call.place, minute);
+        if first < g.line.trips {
+            return Cursor {
+                more: true,
+                calls: Piece { from: k, end },
+                boarding: g,
+                first,
+                to,
+                j: first,
+            };
+        }
+    }
+    let line = Line {
+        at: 0,
+        positions: 0,
+        trips: 0,
+    };
+    Cursor {
+        more: false,
+        calls: Piece { from: k, end },
+        boarding: Boarding {
+            call: Call { line: 0, place: 0 },
+            line,
+            total: lines_lookup::total_at(v, line, 0),
+            rest,
+        },
+        first: 0,
+        to: nowhere(),
+        j: 0,
+    }
+}
+
+// The first ride from one station to another.
+pub fn begin(v: &[u16], from: usize, to: usize, minute: usize) -> Cursor
+    ensures { λ r. ⌜ (left (now (v .entry)) minute r ≡ allRead (now (v .entry)) from minute to)
+        × Good (now (v .entry)) r ⌝ }
+{
+    seek_call(
+        v,
+        minute,
+        lines_lookup::list_of(v, from),
+        lines_lookup::list_of(v, to),
+    )
+}
+
+// The ride after the one at which c stands: on the next trip of the line; else to the next place of the station, with
+// the first trip again; else from the next call.
+pub fn next(v: &[u16], minute: usize, c: Cursor) -> Cursor
+    requires { ⌜ Good (now v) c × (c .more ≡ true) ⌝ }
+    ensures { λ r. ⌜ (left (now (v .entry)) minute c ≡ rideOf (now (v .entry)) c ∷ left (now (v .entry)) minute r)
+        × Good (now (v .entry)) r ⌝ }
+{
+    let g = c.boarding;
+    let calls = c.calls;
+    let here = c.to;
+    if c.j + 1 < g.line.trips {
+        return Cursor {
+            more: true,
+            calls,
+            boarding: g,
+            first: c.first,
+            to: here,
+            j: c.j + 1,
+        };
+    }
+    let to = seek_place(v, g, here.next);
+    if to.found {
+        return Cursor {
+            more: true,
+            calls,
+            boarding: g,
+            first: c.first,
+            to,
+            j: c.first,
+        };
+    }
+    seek_call(v, minute, calls, g.rest)
+}
+
+// The ride at which c stands.
+pub fn tell(v: &[u16], c: Cursor) -> Ride
+    requires { ⌜ Good (now v) c ⌝ }
+    ensures { λ r. ⌜ Tells r (rideOf (now (v .entry)) c) ⌝ }
+{
+    let l = c.boarding.line;
+    let x = c.boarding.call.place;
+    let p = c.to.place;
+    let points = c.to.points;
+    let trip = lines_lookup::number_at(v, l, c.j);
+    let depart = lines_lookup::depart_at(v, l, x, c.j);
+    let arrive = lines_lookup::arrive_at(v, l, p, c.j);
+    Ride {
+        trip,
+        board: x + 1,
+        alight: p + 1,
+        depart,
+        arrive,
+        points,
+    }
+}
+
+// What a change at a station takes and costs.
+pub fn change_at(words: &[u16], station: usize) -> Cost
+    requires { ⌜ (16384 ≤ length (now words)) × (1 ≤ station) × (station ≤ 64) ⌝ }
+    ensures { λ r. ⌜ (r .minutes .0 ≡ stationAt (now (words .entry)) (station - 1) .minutes)
+        × (r .points .0 ≡ stationAt (now (words .entry)) (station - 1) .points) ⌝ }
+{
+    let change = timetable::station_at(words, station - 1);
+    Cost {
+        minutes: Minutes(change.minutes),
+        points: Points(change.points),
+    }
+}

@@ -1,0 +1,110 @@
+-- One ride more is tried, and all rides of a cursor one after the other.
+use mathlib.Core.Path.{_≡_, sym, ap, _∙_}
+use mathlib.Core.Bool.{Bool, true, false, not, cond}
+use mathlib.Core.List.{List, _∷_}
+use Prim.Native.Nat.{ℕ, _+_, _-_, _≤_}
+use native.Mathlib.Omega.{arith}
+use borrow.Author.Tests.{le-leb, lt-leb, ltb-true, ltb-false, not-true, not-false}
+use lib.Dec.{ltb}
+use lib.ListN.{getD}
+use Rattle.query_direct.specs.Candidates.{allRead}
+use Rattle.query_minutes.specs.Minutes.{noPoints}
+use Rattle.query_rides.specs.declared.Ride.{Ride as RideStruct}
+use Rattle.query_rides.specs.declared.Cursor.{Cursor}
+use Rattle.query_rides.specs.Riding.{Tells, left, rideOf, left-none}
+use Rattle.query_shown.specs.Heads.{noRide, headOf}
+use Rattle.query_shown.specs.Turns.{tellsOf, tells-is, comesBefore, tried, triedAll, tried-all, Sized}
+
+pub sized-told : (s : RideStruct) (lines : List ℕ) (c : Cursor) → Tells s (rideOf lines c) → Sized s
+sized-told s lines c t =
+    record {
+      trip = omega (arith, t .trip-few);
+      board = t .board-few;
+      alight = t .alight-few;
+      arrive = omega (arith, t .arrive-few);
+    }
+
+module _
+    (first : Bool)
+    (z : List ℕ)
+    (p : ℕ)
+    (best s : RideStruct)
+    (rest : ℕ)
+    (is : rest ≡ getD z (s .arrive) noPoints)
+    (some : Bool)
+    (is-some : some ≡ ltb rest noPoints)
+  where
+    something : ltb (getD z (s .arrive) noPoints) noPoints ≡ some
+    something = ap (λ k. ltb k noPoints) (sym is) ∙ sym is-some
+
+    pub try-none : not some ≡ true → best ≡ tried first z p best s
+    unfolding tried
+    try-none h = simp (something, not-true some h)
+
+    module _ (h : not some ≡ false) (short : Bool) (is-short : short ≡ ltb p (s .points .0)) where
+      pub try-short : short ≡ true → best ≡ tried first z p best s
+      unfolding tried
+      try-short e =
+          let less = ltb-true p (s .points .0) (sym is-short ∙ e) in
+          let dear = lt-leb (s .points .0 + getD z (s .arrive) noPoints) p (omega arith) in
+          simp (something, not-false some h, dear)
+
+      module _ (e : short ≡ false) (over : ℕ) (is-over : over ≡ p - s .points .0) where
+        enough : s .points .0 ≤ p
+        enough = ltb-false p (s .points .0) (sym is-short ∙ e)
+
+        module _ (lacks : Bool) (is-lacks : lacks ≡ ltb over rest) where
+          pub try-dear : lacks ≡ true → best ≡ tried first z p best s
+          unfolding tried
+          try-dear g =
+              let less = ltb-true over rest (sym is-lacks ∙ g) in
+              let dear = lt-leb (s .points .0 + getD z (s .arrive) noPoints) p
+              (omega (arith, less, is-over, is, enough)) in
+              simp (something, not-false some h, dear)
+
+          module _ (g : lacks ≡ false) (r : Bool) (goes : r ≡ comesBefore first s best) where
+            tried-is : tried first z p best s ≡ cond r s best
+            unfolding tried
+            tried-is =
+                let more = ltb-false over rest (sym is-lacks ∙ g) in
+                let pays = le-leb (s .points .0 + getD z (s .arrive) noPoints) p
+                (omega (arith, more, is-over, is, enough)) in
+                rw (something, not-false some h, pays) (ap (λ b. cond b s best) (sym goes))
+
+            pub try-takes : r ≡ true → s ≡ tried first z p best s
+            try-takes t = sym (tried-is ∙ ap (λ b. cond b s best) t)
+
+            pub try-keeps : r ≡ false → best ≡ tried first z p best s
+            try-keeps t = sym (tried-is ∙ ap (λ b. cond b s best) t)
+
+module _ (lines : List ℕ) (from to ready : ℕ) (first : Bool) (z : List ℕ) (p : ℕ) where
+  abbrev whole : RideStruct
+  whole = triedAll first z p (tellsOf noRide) (allRead lines from ready to)
+
+  pub choose-begins : (c : Cursor) → left lines ready c ≡ allRead lines from ready to
+      → whole ≡ triedAll first z p (tellsOf noRide) (left lines ready c)
+  choose-begins c e = ap (triedAll first z p (tellsOf noRide)) (sym e)
+
+  -- the choice, once the rides left are tried too
+  abbrev with : RideStruct → Cursor → RideStruct
+  with best c = triedAll first z p best (left lines ready c)
+
+  module _ (best : RideStruct) (c : Cursor) (so-far : whole ≡ with best c) where
+    pub choose-more : (d : Cursor) (s new : RideStruct) → Tells s (rideOf lines c) → new ≡ tried first z p best s
+        → left lines ready c ≡ rideOf lines c ∷ left lines ready d
+        → whole ≡ triedAll first z p new (left lines ready d)
+    unfolding triedAll
+    choose-more d s new t n e =
+        let rest = left lines ready d in
+        let told = tells-is s (rideOf lines c) t in
+        so-far
+        ∙ ap (triedAll first z p best) e
+        ∙ ap (λ b. triedAll first z p b rest) (ap (tried first z p best) (sym told) ∙ sym n)
+
+    pub choose-done : c .more ≡ false → best ≡ tellsOf (headOf first z p (allRead lines from ready to))
+    unfolding triedAll
+    choose-done e =
+        sym
+        (sym (tried-all first z p (allRead lines from ready to))
+        ∙ so-far
+        ∙ ap (triedAll first z p best) (left-none lines ready c e))

@@ -1,0 +1,21 @@
+-- The promises of the callees, one put into the other.
+use borrow.Author.Needs.{needs}
+use Rattle.query_shown.proofs.GatherLaws.{gathered}
+use Rattle.query_shown.proofs.rests.gather_back.Statement.{statement}
+use Rattle.query_shown.proofs.rests.gather_back.Tie as tie
+
+returns : tie.Need-returns
+returns c = (search gathered, search needs)
+
+pub gather-back-spec : {M : Type 1} → statement M
+gather-back-spec =
+    tie.close
+    (tie.spec
+    (λ c. search needs)
+    (λ c. search needs)
+    (λ c. search needs)
+    (λ c. search needs)
+    (λ c. search needs)
+    (λ c. search needs)
+    (λ c. search needs)
+    returns)

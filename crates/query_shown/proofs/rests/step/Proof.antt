@@ -1,0 +1,28 @@
+-- The promises of the callees, one put into the other. The rides that are noted leave the window as it is.
+use borrow.Author.Needs.{needs}
+use Rattle.query_shown.proofs.PatternLaws.{back-first, back-few, gathered-spans, kept-spans}
+use Rattle.query_shown.proofs.GatherLaws.{step-done}
+use Rattle.query_shown.proofs.rests.step.Statement.{statement}
+use Rattle.query_shown.proofs.rests.step.Tie as tie
+
+gather-back-requires : tie.Need-gather-back-requires
+gather-back-requires c κs =
+    (search needs, search needs, search needs, search needs, search back-first, search back-few)
+
+settle-requires : tie.Need-settle-requires
+settle-requires c κs = (search needs, search needs, search gathered-spans)
+
+returns : tie.Need-returns
+returns c = ((search step-done, search needs, search kept-spans), search needs)
+
+pub step-spec : {M : Type 1} → statement M
+step-spec =
+    tie.close
+    (tie.spec
+    (λ c. search needs)
+    (λ c. search needs)
+    gather-back-requires
+    settle-requires
+    (λ c. search needs)
+    (λ c. search needs)
+    returns)

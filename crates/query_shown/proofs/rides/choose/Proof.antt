@@ -1,0 +1,51 @@
+-- The best ride so far, and then those that the cursor has left, make the same choice as all rides.
+use mathlib.Core.Path.{_≡_}
+use lib.ListN.{length}
+use borrow.Author.Needs.{needs}
+use Rattle.query_direct.specs.Candidates.{allRead}
+use Rattle.query_rides.specs.Riding.{Good, left as rides-left, left-falls}
+use Rattle.query_shown.specs.Heads.{noRide}
+use Rattle.query_shown.specs.Turns.{tellsOf, triedAll, Sized}
+use Rattle.query_shown.proofs.ChooseLaws.{sized-told, choose-begins, choose-more, choose-done}
+use Rattle.query_shown.proofs.rides.choose.Statement.{statement}
+use Rattle.query_shown.proofs.rides.choose.Tie as tie
+
+abbrev Inv-loop : tie.InvT-loop
+Inv-loop lines from to ready first left z best₀ c₀ best c =
+    Good lines c
+    × Sized best
+    × (triedAll first z (left .0) (tellsOf noRide) (allRead lines from ready to)
+    ≡ triedAll first z (left .0) best (rides-left lines ready c))
+
+abbrev μ-loop : tie.MeasureT-loop
+μ-loop lines from to ready first left z best₀ c₀ best c = length (rides-left lines ready c)
+
+loop-holds : tie.Need-loop-holds Inv-loop μ-loop
+loop-holds c = (search needs, search needs, search choose-begins)
+
+try-ride-requires : tie.Need-try-ride-requires Inv-loop μ-loop
+try-ride-requires c κs = (search needs, search sized-told)
+
+loop-less : tie.Need-loop-less Inv-loop μ-loop
+loop-less c = search left-falls
+
+loop-again : tie.Need-loop-again Inv-loop μ-loop
+loop-again c = (search needs, search needs, search choose-more)
+
+returns : tie.Need-returns Inv-loop μ-loop
+returns c = (search choose-done, search needs)
+
+pub choose-spec : {M : Type 1} → statement M
+choose-spec =
+    tie.close
+    (tie.spec
+    Inv-loop
+    μ-loop
+    (λ c. search needs)
+    loop-holds
+    (λ c. search needs)
+    try-ride-requires
+    (λ c. search needs)
+    loop-less
+    loop-again
+    returns)

@@ -1,0 +1,165 @@
+-- The ride to take next. With what is left behind each ride at hand, a test says exactly which rides begin a connection
+-- that arrives and pays as it should; the rule for equal cost picks one of them.
+use mathlib.Core.Path.{_≡_, refl, ap}
+use mathlib.Core.Bool.{Bool, true, false, not, cond, _&&_}
+use mathlib.Core.Logic.{_↔_, _⊎_, inl, inr}
+use mathlib.Core.List.{List, [], _∷_}
+use Prim.Native.Nat.{ℕ, _+_, _-_, _≤_, _<_}
+use native.Mathlib.Omega.{arith}
+use lib.Dec.{T, leb, ltb, ltb→lt, nltb→le}
+use lib.ListN.{length, getD}
+use Rattle.timetable.specs.Timetable.{Timetable, lastMinute, counted, valid}
+use Rattle.lists.specs.Lists.{_∈_, before, filter}
+use Rattle.lists.specs.Tests.{either, reads, writes}
+use Rattle.lists.specs.Members.{filter-in, filter-out}
+use Rattle.lists.specs.Order.{before-head, before-tail}
+use Rattle.connections.specs.Rides.{Ride}
+use Rattle.connections.specs.RideLaws.{rides-out}
+use Rattle.connections.specs.Connections.{Net, net, Connection, Boards}
+use Rattle.connections.specs.Sound.{Sound, sound}
+use Rattle.connections.specs.Feasibility.{penalty-most}
+use Rattle.optimality.specs.Ways.{firstRide}
+use Rattle.optimality.specs.Greedy.{rideNumbers}
+use Rattle.query_minutes.specs.Minutes.{noPoints}
+use Rattle.query_shown.specs.Rests.{Rests, begun, parted}
+use Rattle.query_shown.specs.Showing.{Fitting}
+use Rattle.query_shown.specs.Foremost.{foremost, foremost-cases, Leading}
+
+-- The first ride of a connection "departs latest"; each ride then "comes first" by its numbers.
+abbrev pub lateness : (first : Bool) (depart : ℕ) → ℕ
+lateness first depart = cond first (lastMinute - depart) 0
+
+abbrev pub headKey : (first : Bool) → Ride → List ℕ
+headKey first r = lateness first (r .depart) ∷ rideNumbers r
+
+-- none yet: every ride comes before it
+abbrev pub noRide : Ride
+noRide =
+    record { trip = 65536; board = 0; alight = 0; from = 0; to = 0; depart = 0; arrive = 0; points = 0 }
+
+-- something is left behind the ride, which with it costs p points at the most
+abbrev pub takeable : (z : List ℕ) (p : ℕ) → Ride → Bool
+takeable z p r = ltb (getD z (r .arrive) noPoints) noPoints && leb (r .points + getD z (r .arrive) noPoints) p
+
+-- the ride to take
+unfoldable pub headOf : (first : Bool) (z : List ℕ) (p : ℕ) → List Ride → Ride
+headOf first z p rides = foremost (headKey first) noRide (filter (takeable z p) rides)
+
+module _ (timetable : Timetable) (b v : ℕ) where
+  -- ride r begins a connection that fits
+  pub record Starts (q : List ℕ) (x u p : ℕ) (r : Ride) : Type 0 where
+    pub connection : Connection
+    pub fits : Fitting timetable b v q x u p connection
+    pub begins : firstRide connection ≡ r
+
+  -- it does, and none that fits begins with a ride that comes before it
+  pub record Chosen (first : Bool) (q : List ℕ) (x u p : ℕ) (r : Ride) : Type 0 where
+    pub starts : Starts q x u p r
+    pub few : r .trip < 65536
+    pub leads : (e : Connection) → Fitting timetable b v q x u p e
+        → ¬ T (before (headKey first (firstRide e)) (headKey first r))
+
+module _ (timetable : Timetable) (okay : T (valid timetable)) (b v : ℕ) where
+  abbrev n : Net
+  n = net timetable
+
+  ok : Sound n
+  ok = sound timetable okay
+
+  trips-few : length (timetable .trips) ≤ 256
+  unfolding valid counted
+  trips-few = search reads
+
+  trip-few : (r : Ride) → r ∈ n .rides → r .trip < 65536
+  trip-few r m =
+      let k = rides-out (timetable .trips) r m in
+      omega (arith, ap (λ r. r .trip) (k .is), k .listed, trips-few)
+
+  ride-before : (first : Bool) (r : Ride) → r ∈ n .rides → T (before (headKey first r) (headKey first noRide))
+  ride-before first r m = go first (trip-few r m)
+    where
+      told : List ℕ
+      told = rideNumbers r
+
+      go : (first : Bool) → r .trip < 65536 → T (before (headKey first r) (headKey first noRide))
+      go false few =
+          before-tail 0 0 told (rideNumbers noRide) refl
+          (before-head (r .trip) 65536 (r .board ∷ r .alight ∷ []) (0 ∷ 0 ∷ []) few)
+      go true few = either (ltb 0 (r .depart)) later at-start
+        where
+          later : T (ltb 0 (r .depart)) → T (before (headKey true r) (headKey true noRide))
+          later t =
+              let forward = ok .forward r m in
+              let bounded = ok .bounded r m in
+              before-head (lastMinute - r .depart) lastMinute told (rideNumbers noRide) (omega (arith, ltb→lt))
+
+          at-start : T (not (ltb 0 (r .depart))) → T (before (headKey true r) (headKey true noRide))
+          at-start t =
+              before-tail (lastMinute - r .depart) lastMinute told (rideNumbers noRide) (omega (arith, nltb→le))
+              (before-head (r .trip) 65536 (r .board ∷ r .alight ∷ []) (0 ∷ 0 ∷ []) few)
+
+  module _
+      (t : ℕ)
+      (q : List ℕ)
+      (y x u p : ℕ)
+      (later : t ≤ u)
+      (rides : List Ride)
+      (told : (r : Ride) → r ∈ rides ↔ (Boards n x u r × (r .to ≡ y)))
+      (z : List ℕ)
+      (rests : Rests n b v t q y z)
+    where
+      starts-out : (r : Ride) → r ∈ filter (takeable z p) rides → Starts timetable b v (y ∷ q) x u p r
+      starts-out r m =
+          let f = filter-out (takeable z p) rides m in
+          let test = f .1 in
+          let left : getD z (r .arrive) noPoints < noPoints = search reads in
+          let pays : r .points + getD z (r .arrive) noPoints ≤ p = search reads in
+          let h = told r .0 (f .0) in
+          let c = begun n b v q y x u r (getD z (r .arrive) noPoints) (h .0) (h .1) (rests .some (r .arrive) left) in
+          record {
+            connection = c .connection;
+            fits =
+                record { feasible = c .feasible; is = c .is; timely = c .timely; cheap = omega (arith, c .total) };
+            begins = c .begins;
+          }
+
+      starts-in : (c : Connection) → Fitting timetable b v (y ∷ q) x u p c → firstRide c ∈ filter (takeable z p) rides
+      starts-in c f =
+          let d = parted n b v q y x u c (f .feasible) (f .is) (f .timely) in
+          let r = firstRide c in
+          let most = penalty-most timetable okay x u b c (f .feasible) in
+          let forward = ok .forward r (d .boards .listed) in
+          let bounded = ok .bounded r (d .boards .listed) in
+          let low = rests .least (r .arrive) (d .points) (omega (arith, d .boards .timely)) (omega arith) (d .rest) in
+          let left : getD z (r .arrive) noPoints < noPoints = omega (arith, low, d .total, most) in
+          let pays : r .points + getD z (r .arrive) noPoints ≤ p = omega (arith, low, d .total, f .cheap) in
+          filter-in (takeable z p) (told r .1 (d .boards, d .to)) (search writes)
+
+      pub head-cases : (first : Bool)
+          → ((headOf first z p rides ≡ noRide) × ((e : Connection) → ¬ Fitting timetable b v (y ∷ q) x u p e))
+          ⊎ Chosen timetable b v first (y ∷ q) x u p (headOf first z p rides)
+      unfolding headOf
+      head-cases first = go (foremost-cases (headKey first) those noRide ahead)
+        where
+          those : List Ride
+          those = filter (takeable z p) rides
+
+          listed : (r : Ride) → r ∈ those → r ∈ n .rides
+          listed r m = told r .0 (filter-out (takeable z p) rides m .0) .0 .listed
+
+          ahead : (r : Ride) → r ∈ those → T (before (headKey first r) (headKey first noRide))
+          ahead r m = ride-before first r (listed r m)
+
+          one : Ride
+          one = foremost (headKey first) noRide those
+
+          go : ((one ≡ noRide) × ((r : Ride) → ¬ (r ∈ those))) ⊎ Leading (headKey first) those one
+              → ((one ≡ noRide) × ((e : Connection) → ¬ Fitting timetable b v (y ∷ q) x u p e))
+              ⊎ Chosen timetable b v first (y ∷ q) x u p one
+          go (inl h) = inl (h .0, λ e f. h .1 (firstRide e) (starts-in e f))
+          go (inr h) =
+              inr (record {
+                starts = starts-out one (h .member);
+                few = trip-few one (listed one (h .member));
+                leads = λ e f. h .first (firstRide e) (starts-in e f);
+              })

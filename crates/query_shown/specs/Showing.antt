@@ -1,0 +1,56 @@
+-- The connection of one stored pattern that is shown for a row. Of the connections of the pattern that arrive by the
+-- row's minute and cost its points at the most, "the one shown departs latest. Then it has fewest rides. Then its rides
+-- (trip, boarding stop, alighting stop) come first, compared number by number."
+use mathlib.Core.Path.{_≡_}
+use mathlib.Core.Bool.{Bool, true, false}
+use mathlib.Core.List.{List}
+use Prim.Native.Nat.{ℕ, _-_, _*_, _≤_, _<_}
+use lib.Dec.{T}
+use lib.ListN.{length, getD, take}
+use Rattle.timetable.specs.Timetable.{Timetable}
+use Rattle.timetable.specs.Words.{stationCount, timetableOf, isTimetable}
+use Rattle.lists.specs.Lists.{before}
+use Rattle.connections.specs.Connections.{net, Connection, departure}
+use Rattle.connections.specs.Planner.{numbers, tieKey}
+use Rattle.connections.specs.Named.{named}
+use Rattle.lines_check.specs.Question10.{areTables}
+use Rattle.optimality.specs.Greedy.{Fits}
+use Rattle.query_shown.specs.declared.First.{First}
+
+-- the first r numbers of a path are stations, of n
+pub record Listed (n : ℕ) (path : List ℕ) (r : ℕ) : Type 0 where
+  pub at : (i : ℕ) → i < r → (1 ≤ getD path i 0) × (getD path i 0 ≤ n)
+
+-- what is known of the words lent, and of a path of r stations to the last of which one is to come by minute v
+pub record Given (w lines path : List ℕ) (r v : ℕ) : Type 0 where
+  pub enough : 16384 ≤ length w
+  pub accepted : isTimetable w ≡ true
+  pub own : areTables w lines ≡ true
+  pub listed : Listed (stationCount w) path r
+  pub few : r ≤ 63
+  pub long : r ≤ length path
+  pub timely : v ≤ 2879
+
+module _ (timetable : Timetable) (b v : ℕ) where
+  -- from station x at minute u by the stations q to b, there by minute v, for p points at the most
+  abbrev pub Fitting : (q : List ℕ) (x u p : ℕ) → Connection → Type 0
+  Fitting = Fits (net timetable) (named timetable) b v
+
+  -- the numbers and the departure of the connection that is shown
+  pub record Shown (q : List ℕ) (x u p : ℕ) (told : List ℕ) (depart : ℕ) : Type 0 where
+    pub connection : Connection
+    pub fits : Fitting q x u p connection
+    pub tells : told ≡ numbers connection
+    pub departs : depart ≡ departure connection
+    pub first : (e : Connection) → Fitting q x u p e → ¬ T (before (tieKey e) (tieKey connection))
+
+  -- one was found, or there is none
+  abbrev pub Found : (found : Bool) (q : List ℕ) (x u p : ℕ) (told : List ℕ) (depart : ℕ) → Type 0
+  Found true q x u p told depart = Shown q x u p told depart
+  Found false q x u p told depart = (e : Connection) → ¬ Fitting q x u p e
+
+-- What the code found along the path, for a query from station a at minute t, for p points at the most, when it has
+-- written rides.
+unfoldable pub FoundAt : (w path : List ℕ) (r v a t p : ℕ) (f : First) (rides : List ℕ) → Type 0
+FoundAt w path r v a t p f rides =
+    Found (timetableOf w) (getD path (r - 1) 0) v (f .found) (take r path) a t p (take (3 * r) rides) (f .depart)

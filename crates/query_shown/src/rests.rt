@@ -1,0 +1,241 @@
+// What is left to pay after each station of a path, station by station from the target back.
+//
+// There is a word for each minute of the two days, but only the minutes from the query's to the row's can matter, and
+// only their words are stored: all others say throughout that nothing is left.
+ghost use mathlib.Core.Path.{_≡_};
+ghost use Prim.Native.Nat.{_+_, _-_, _≤_, _<_};
+ghost use lib.ListN.{length, getD};
+ghost use Rattle.query_direct.specs.Candidates.{allRead};
+ghost use Rattle.query_minutes.specs.Minutes.{noPoints, noteAll, blank, lowered};
+ghost use Rattle.query_shown.specs.Showing.{Given};
+ghost use Rattle.query_shown.specs.Rests.{RestsAt};
+ghost use Rattle.query_shown.specs.Settling.{settledFrom};
+ghost use Rattle.query_shown.specs.Spans.{Spans, Stored, Arrived};
+ghost use Rattle.query_shown.specs.Stepping.{catches};
+ghost use Rattle.query_shown.specs.Turns.{caughtBy, gatherBack, stepBack};
+use query_minutes::NO_POINTS;
+use query_rides::Ride;
+use results::Cost;
+use results::Points;
+
+// Stores the same points for the minutes from `from` to before `to`.
+fn fill(z: &mut [u32], from: usize, to: usize, points: Points)
+    requires { ⌜ (from ≤ to) × (to ≤ length (now z)) ⌝ }
+    ensures { λ _. ⌜ Stored (λ _. points .0) from to (now (z .entry)) (now (z .exit)) ⌝ }
+    ensures { λ _. ⌜ length (now (z .exit)) ≡ length (now (z .entry)) ⌝ }
+{
+    let mut i = from;
+    while i < to {
+        query_minutes::set_points(z, i, points);
+        i += 1;
+    }
+}
+
+// What is left for one who arrives at minute m; no minute past the end is in time.
+pub fn rest_at(z: &[u32], m: usize) -> Points
+    ensures { λ r. ⌜ r .0 ≡ getD (now (z .entry)) m noPoints ⌝ }
+{
+    if m < z.len() {
+        return query_minutes::points_at(z, m);
+    }
+    Points(NO_POINTS)
+}
+
+// Notes the sum of three numbers of points for minute m, if that is less than what stands there. The sum may be more
+// than a word holds; NO_POINTS is noted for it then, as nothing that stands there is more.
+fn note_sum(z: &mut [u32], m: usize, price: Points, points: Points, left: Points)
+    ensures { λ _. ⌜ now (z .exit) ≡ lowered (now (z .entry)) m (price .0 + points .0 + left .0) ⌝ }
+    ensures { λ _. ⌜ length (now (z .exit)) ≡ length (now (z .entry)) ⌝ }
+{
+    let ridden = query_minutes::sum_held(price, points);
+    let all = query_minutes::sum_held(ridden, left);
+    query_minutes::note(z, m, all);
+}
+
+// Notes one ride for the latest minute in which one can arrive before it and change: what the change and the ride cost,
+// and what is left after it.
+fn catch_ride(z: &mut [u32], old: &[u32], ride: Ride, change: Cost)
+    ensures { λ _. ⌜ now (z .exit)
+        ≡ caughtBy (change .minutes .0) (change .points .0) (now (old .entry)) (now (z .entry)) ride ⌝ }
+    ensures { λ _. ⌜ length (now (z .exit)) ≡ length (now (z .entry)) ⌝ }
+{
+    let left = rest_at(old, ride.arrive);
+    let wait = change.minutes;
+    let price = change.points;
+    let points = ride.points;
+    if query_minutes::less(left, Points(NO_POINTS)) {
+        if wait.0 as usize <= ride.depart {
+            let m = query_minutes::minute_before(ride.depart, wait);
+            note_sum(z, m, price, points, left);
+        }
+    }
+}
+
+// Notes all rides from one station to the next that leave at the minute or later.
+fn gather(
+    lines: &[u16],
+    from: usize,
+    to: usize,
+    minute: usize,
+    change: Cost,
+    old: &[u32],
+    z: &mut [u32],
+)
+    ensures { λ _. ⌜ now (z .exit)
+        ≡ noteAll (now (z .entry))
+        (catches (change .minutes .0) (change .points .0) (now (old .entry))
+        (allRead (now (lines .entry)) from minute to)) ⌝ }
+    ensures { λ _. ⌜ length (now (z .exit)) ≡ length (now (z .entry)) ⌝ }
+{
+    let mut c = query_rides::begin(lines, from, to, minute);
+    while c.more {
+        let ride = query_rides::tell(lines, c);
+        catch_ride(z, old, ride, change);
+        c = query_rides::next(lines, minute, c);
+    }
+}
+
+// Who arrives earlier can wait: each minute takes the least of its own and all later ones.
+fn settle(z: &mut [u32], minute: usize, v: usize)
+    requires { ⌜ (minute ≤ v) × (v ≤ 2879) × Spans minute v (now z) ⌝ }
+    ensures { λ _. ⌜ (now (z .exit) ≡ settledFrom noPoints minute (now (z .entry)))
+        × Spans minute v (now (z .exit)) ⌝ }
+    ensures { λ _. ⌜ length (now (z .exit)) ≡ length (now (z .entry)) ⌝ }
+{
+    let mut low = Points(NO_POINTS);
+    let mut m = v + 1;
+    while minute < m {
+        m -= 1;
+        low = query_minutes::lesser(query_minutes::points_at(z, m), low);
+        query_minutes::set_points(z, m, low);
+    }
+}
+
+// Station i of a path.
+pub fn station(path: &[u16], i: usize) -> usize
+    requires { ⌜ i < length (now path) ⌝ }
+    ensures { λ r. ⌜ (r ≡ getD (now (path .entry)) i 0) × (r < 65536) ⌝ }
+{
+    words::word(path, i) as usize
+}
+
+// Copies what is left, to go on from it.
+fn keep(old: &mut [u32], z: &[u32], minute: usize, v: usize)
+    requires { ⌜ (minute ≤ v) × (v ≤ 2879) × Spans minute v (now old) × Spans minute v (now z) ⌝ }
+    ensures { λ _. ⌜ now (old .exit) ≡ now (z .entry) ⌝ }
+    ensures { λ _. ⌜ length (now (old .exit)) ≡ length (now (old .entry)) ⌝ }
+{
+    let mut m = minute;
+    while m <= v {
+        old[m] = z[m];
+        m += 1;
+    }
+}
+
+// Nothing is noted yet.
+fn clear(z: &mut [u32], minute: usize, v: usize)
+    requires { ⌜ (minute ≤ v) × (v ≤ 2879) × Spans minute v (now z) ⌝ }
+    ensures { λ _. ⌜ now (z .exit) ≡ blank ⌝ }
+    ensures { λ _. ⌜ length (now (z .exit)) ≡ length (now (z .entry)) ⌝ }
+{
+    fill(z, minute, v + 1, Points(NO_POINTS));
+}
+
+// Notes all rides from the station before station j of a path to station j, for one who arrives at the minute or later:
+// a ride that leaves before he can have changed is of no use.
+fn gather_back(
+    words: &[u16],
+    lines: &[u16],
+    minute: usize,
+    path: &[u16],
+    j: usize,
+    old: &[u32],
+    z: &mut [u32],
+)
+    requires { ⌜ (16384 ≤ length (now words))
+        × (minute ≤ 2879)
+        × (1 ≤ j)
+        × (j < length (now path))
+        × (1 ≤ getD (now path) (j - 1) 0)
+        × (getD (now path) (j - 1) 0 ≤ 64) ⌝ }
+    ensures { λ _. ⌜ now (z .exit)
+        ≡ gatherBack (now (words .entry)) (now (lines .entry)) minute (now (path .entry)) j (now (old .entry))
+        (now (z .entry)) ⌝ }
+    ensures { λ _. ⌜ length (now (z .exit)) ≡ length (now (z .entry)) ⌝ }
+{
+    let from = station(path, j - 1);
+    let to = station(path, j);
+    let change = query_rides::change_at(words, from);
+    let wait = change.minutes;
+    let earliest = query_minutes::minute_after(minute, wait);
+    gather(lines, from, to, earliest, change, old, z);
+}
+
+// From what is left after station j of a path to what is left after the one before it.
+fn step(
+    words: &[u16],
+    lines: &[u16],
+    minute: usize,
+    path: &[u16],
+    j: usize,
+    v: usize,
+    z: &mut [u32],
+    old: &mut [u32],
+)
+    requires { ⌜ Given (now words) (now lines) (now path) (j + 1) v
+        × (1 ≤ j)
+        × (minute ≤ v)
+        × Spans minute v (now z)
+        × Spans minute v (now old) ⌝ }
+    ensures { λ _. ⌜ (now (z .exit)
+        ≡ stepBack (now (words .entry)) (now (lines .entry)) minute (now (path .entry)) j (now (z .entry)))
+        × Spans minute v (now (z .exit))
+        × Spans minute v (now (old .exit)) ⌝ }
+    ensures { λ _. ⌜ (length (now (z .exit)) ≡ length (now (z .entry)))
+        × (length (now (old .exit)) ≡ length (now (old .entry))) ⌝ }
+{
+    keep(old, z, minute, v);
+    clear(z, minute, v);
+    gather_back(words, lines, minute, path, j, old, z);
+    settle(z, minute, v);
+}
+
+// Behind the last station nothing is left to pay, by minute v.
+fn fill_last(z: &mut [u32], minute: usize, v: usize)
+    requires { ⌜ (minute ≤ v) × (v ≤ 2879) × Spans minute v (now z) ⌝ }
+    ensures { λ _. ⌜ Arrived minute v (now (z .exit)) ⌝ }
+    ensures { λ _. ⌜ length (now (z .exit)) ≡ length (now (z .entry)) ⌝ }
+{
+    fill(z, minute, v + 1, Points(0));
+}
+
+// What is left after station i of a path of r stations, for one who is to arrive at the last by minute v.
+pub fn rest(
+    words: &[u16],
+    lines: &[u16],
+    minute: usize,
+    path: &[u16],
+    i: usize,
+    r: usize,
+    v: usize,
+    z: &mut [u32],
+    old: &mut [u32],
+)
+    requires { ⌜ Given (now words) (now lines) (now path) r v
+        × (i < r)
+        × (minute ≤ v)
+        × Spans minute v (now z)
+        × Spans minute v (now old) ⌝ }
+    ensures { λ _. ⌜ RestsAt (now (words .entry)) (now (path .entry)) r v minute i (now (z .exit))
+        × Spans minute v (now (z .exit))
+        × Spans minute v (now (old .exit)) ⌝ }
+    ensures { λ _. ⌜ (length (now (z .exit)) ≡ length (now (z .entry)))
+        × (length (now (old .exit)) ≡ length (now (old .entry))) ⌝ }
+{
+    fill_last(z, minute, v);
+    let mut j = r - 1;
+    while i < j {
+        step(words, lines, minute, path, j, v, z, old);
+        j -= 1;
+    }
+}

@@ -1,0 +1,240 @@
+// Question 13: is a store well made? And the sequences of a well-made store, by number.
+ghost use mathlib.Core.Path.{_≡_};
+ghost use mathlib.Core.Bool.{true, _&&_};
+ghost use Prim.Native.Nat.{_+_, _*_, _≤_, _<_};
+ghost use lib.Dec.{leb};
+ghost use lib.ListN.{length, take};
+ghost use Rattle.stores.specs.Words.{wellMade};
+ghost use Rattle.query_store.specs.Entries.{
+  nodeCount,
+  arcCount,
+  nodeStation,
+  nodeParent,
+  arcTarget,
+  arcBefore,
+};
+ghost use Rattle.query_store.specs.Paths.{nodePath, arcPath};
+ghost use Rattle.query_store.specs.Depths.{Depths};
+ghost use Rattle.query_store.specs.Tests.{presentTest, nodesTest, arcTest, risesTest, arcsTest};
+ghost use Rattle.query_store.specs.Made.{Made};
+
+// The most nodes, and the most arcs.
+const ENTRIES_MOST: usize = stores::ENTRIES_MOST;
+
+// A pattern has at most 64 stations: its source, its target, and these between them.
+const BETWEEN_MOST: u32 = 62;
+
+// ---- nodes and arcs, where their words are there
+
+// The number of nodes.
+fn node_count(store: &[u16]) -> usize
+    requires { ⌜ 2 ≤ length (now store) ⌝ }
+    ensures { λ r. ⌜ (r ≡ nodeCount (now (store .entry))) × (r < 65536) ⌝ }
+{
+    words::word(store, 0) as usize
+}
+
+// The number of arcs.
+pub fn arc_count(store: &[u16]) -> usize
+    requires { ⌜ 2 ≤ length (now store) ⌝ }
+    ensures { λ r. ⌜ (r ≡ arcCount (now (store .entry))) × (r < 65536) ⌝ }
+{
+    words::word(store, 1) as usize
+}
+
+// The station of node v, counted from 1.
+fn node_station(store: &[u16], v: usize) -> usize
+    requires { ⌜ 2 * v + 1 < length (now store) ⌝ }
+    ensures { λ r. ⌜ (r ≡ nodeStation (now (store .entry)) v) × (r < 65536) ⌝ }
+{
+    words::word(store, 2 * v) as usize
+}
+
+// The parent of node v: a node, or 0 for the root.
+fn node_parent(store: &[u16], v: usize) -> usize
+    requires { ⌜ 2 * v + 1 < length (now store) ⌝ }
+    ensures { λ r. ⌜ (r ≡ nodeParent (now (store .entry)) v) × (r < 65536) ⌝ }
+{
+    words::word(store, 2 * v + 1) as usize
+}
+
+// The target of arc k, counted from 0.
+pub fn arc_target(store: &[u16], k: usize) -> usize
+    requires { ⌜ (2 + 2 * nodeCount (now store) + 2 * arcCount (now store) ≤ length (now store))
+        × (k < arcCount (now store)) ⌝ }
+    ensures { λ r. ⌜ (r ≡ arcTarget (now (store .entry)) k) × (r < 65536) ⌝ }
+{
+    words::word(store, 2 + 2 * node_count(store) + 2 * k) as usize
+}
+
+// The predecessor of arc k: a node, or 0 for the root.
+pub fn arc_before(store: &[u16], k: usize) -> usize
+    requires { ⌜ (2 + 2 * nodeCount (now store) + 2 * arcCount (now store) ≤ length (now store))
+        × (k < arcCount (now store)) ⌝ }
+    ensures { λ r. ⌜ (r ≡ arcBefore (now (store .entry)) k) × (r < 65536) ⌝ }
+{
+    words::word(store, 2 + 2 * node_count(store) + 2 * k + 1) as usize
+}
+
+// ---- question 13
+
+// Whether the station is one of so many.
+fn is_listed(stations: usize, station: usize) -> bool
+    ensures { λ r. ⌜ r ≡ (leb 1 station && leb station stations) ⌝ }
+{
+    if station < 1 {
+        return false;
+    }
+    station <= stations
+}
+
+// Whether all words that the counts promise are there, and the counts within their limits.
+fn is_present(store: &[u16]) -> bool
+    ensures { λ r. ⌜ r ≡ presentTest (now (store .entry)) ⌝ }
+{
+    if store.len() < 2 {
+        return false;
+    }
+    let nodes = node_count(store);
+    let arcs = arc_count(store);
+    if store.len() < 2 + 2 * nodes + 2 * arcs {
+        return false;
+    }
+    if ENTRIES_MOST < nodes {
+        return false;
+    }
+    arcs <= ENTRIES_MOST
+}
+
+// Whether the nodes are well made. If so, word v of working space is the number of stations of node v.
+fn nodes_made(store: &[u16], stations: usize, work: &mut [u32]) -> bool
+    requires { ⌜ (2 + 2 * nodeCount (now store) ≤ length (now store))
+        × (nodeCount (now store) ≤ 16383)
+        × (16384 ≤ length (now work)) ⌝ }
+    ensures { λ r. ⌜ r ≡ nodesTest stations (now (store .entry)) 0 ⌝ }
+    ensures { λ r. ⌜ (r ≡ true → Depths (now (store .entry)) (now (work .exit)) (nodeCount (now (store .entry)))) ⌝ }
+{
+    let nodes = node_count(store);
+    work[0] = 0;
+    let mut v = 0;
+    while v < nodes {
+        let node = v + 1;
+        if !is_listed(stations, node_station(store, node)) {
+            return false;
+        }
+        let parent = node_parent(store, node);
+        if v < parent {
+            return false;
+        }
+        work[node] = work[parent] + 1;
+        v = node;
+    }
+    true
+}
+
+// Whether arc k is well made, and its pattern is not too long.
+fn arc_made(store: &[u16], stations: usize, work: &[u32], k: usize) -> bool
+    requires { ⌜ (2 + 2 * nodeCount (now store) + 2 * arcCount (now store) ≤ length (now store))
+        × (nodeCount (now store) ≤ 16383)
+        × (16384 ≤ length (now work))
+        × Depths (now store) (now work) (nodeCount (now store))
+        × (k < arcCount (now store)) ⌝ }
+    ensures { λ r. ⌜ r ≡ arcTest stations (now (store .entry)) k ⌝ }
+{
+    if !is_listed(stations, arc_target(store, k)) {
+        return false;
+    }
+    let before = arc_before(store, k);
+    if node_count(store) < before {
+        return false;
+    }
+    work[before] <= BETWEEN_MOST
+}
+
+// Whether arc k is the last, or comes before the next: by target, then predecessor.
+fn arc_rises(store: &[u16], k: usize) -> bool
+    requires { ⌜ (2 + 2 * nodeCount (now store) + 2 * arcCount (now store) ≤ length (now store))
+        × (k < arcCount (now store)) ⌝ }
+    ensures { λ r. ⌜ r ≡ risesTest (now (store .entry)) k ⌝ }
+{
+    let next = k + 1;
+    if arc_count(store) <= next {
+        return true;
+    }
+    let target = arc_target(store, k);
+    let later = arc_target(store, next);
+    if target < later {
+        return true;
+    }
+    if later < target {
+        return false;
+    }
+    arc_before(store, k) < arc_before(store, next)
+}
+
+// Whether the arcs are well made and rise, and no pattern is too long.
+fn arcs_made(store: &[u16], stations: usize, work: &[u32]) -> bool
+    requires { ⌜ (2 + 2 * nodeCount (now store) + 2 * arcCount (now store) ≤ length (now store))
+        × (nodeCount (now store) ≤ 16383)
+        × (16384 ≤ length (now work))
+        × Depths (now store) (now work) (nodeCount (now store)) ⌝ }
+    ensures { λ r. ⌜ r ≡ arcsTest stations (now (store .entry)) 0 ⌝ }
+{
+    let arcs = arc_count(store);
+    let mut k = 0;
+    while k < arcs {
+        if !arc_made(store, stations, work, k) {
+            return false;
+        }
+        if !arc_rises(store, k) {
+            return false;
+        }
+        k += 1;
+    }
+    true
+}
+
+// Question 13, for so many stations. Working space may hold any words afterwards.
+pub fn is_well_made(store: &[u16], stations: usize, work: &mut [u32]) -> bool
+    requires { ⌜ 16384 ≤ length (now work) ⌝ }
+    ensures { λ r. ⌜ r ≡ wellMade stations (now (store .entry)) ⌝ }
+{
+    if !is_present(store) {
+        return false;
+    }
+    if !nodes_made(store, stations, work) {
+        return false;
+    }
+    arcs_made(store, stations, work)
+}
+
+// ---- the sequences of a well-made store
+
+// Writes the stations of a node, from the root's child to its own, and returns how many; none for 0, the root.
+pub fn read_pattern(store: &[u16], node: usize, path: &mut [u16]) -> usize
+    requires { ⌜ Made (now store) ⌝ }
+    requires { ⌜ (node ≤ nodeCount (now store)) × (length (nodePath (now store) node) ≤ length (now path)) ⌝ }
+    ensures { λ r. ⌜ take r (now (path .exit)) ≡ nodePath (now (store .entry)) node ⌝ }
+    ensures { λ r. ⌜ r ≡ length (nodePath (now (store .entry)) node) ⌝ }
+    ensures { λ r. ⌜ length (now (path .exit)) ≡ length (now (path .entry)) ⌝ }
+{
+    if node == 0 {
+        return 0;
+    }
+    let depth = read_pattern(store, node_parent(store, node), path);
+    path[depth] = node_station(store, node) as u16;
+    depth + 1
+}
+
+// Writes the stations of the pattern of arc k, without the source, and returns how many.
+pub fn arc_pattern(store: &[u16], k: usize, path: &mut [u16]) -> usize
+    requires { ⌜ Made (now store) ⌝ }
+    requires { ⌜ (k < arcCount (now store)) × (64 ≤ length (now path)) ⌝ }
+    ensures { λ r. ⌜ take r (now (path .exit)) ≡ arcPath (now (store .entry)) k ⌝ }
+    ensures { λ r. ⌜ (r ≡ length (arcPath (now (store .entry)) k)) × (1 ≤ r) × (r ≤ 63) ⌝ }
+    ensures { λ r. ⌜ length (now (path .exit)) ≡ length (now (path .entry)) ⌝ }
+{
+    let depth = read_pattern(store, arc_before(store, k), path);
+    path[depth] = arc_target(store, k) as u16;
+    depth + 1
+}

@@ -1,0 +1,17 @@
+-- The array of catches: at each arrival's stop the first departure that a change reaches.
+use mathlib.Core.Path.{_≡_}
+use mathlib.Core.List.{List}
+use Prim.Native.Nat.{ℕ, suc, _<_}
+use lib.Dec.{leb}
+use lib.ListN.{getD}
+use Rattle.lists.specs.Lists.{firstOf}
+use Rattle.store_stops.specs.Stopwise.{depart, nowhere, Goes}
+use Rattle.store_departures.specs.Order.{firstOr, catch}
+
+-- the first of the list that is left at the minute or later
+unfoldable pub firstReady : (w : List ℕ) (minute : ℕ) → List ℕ → ℕ
+firstReady w minute l = firstOr nowhere (firstOf (λ g. leb minute (depart w g)) l)
+
+pub record Caught (w catches : List ℕ) : Type 0 where
+  pub fits : (j : ℕ) → getD catches j 0 < 65536
+  pub is : (i : ℕ) → Goes w i → getD catches (suc i) 0 ≡ catch w (suc i)

@@ -1,0 +1,380 @@
+// Two passes of a store call: which arrivals are on the frontier, and who can still end well.
+ghost use mathlib.Core.Path.{_≡_};
+ghost use mathlib.Core.Bool.{true};
+ghost use Prim.Native.Nat.{_+_, _≤_, _<_, max};
+ghost use lib.ListN.{length, getD, set, drop};
+ghost use Rattle.timetable.specs.Words.{stationCount, isTimetable};
+ghost use Rattle.store_stops.specs.Stopwise.{station, arrive, nowhere};
+ghost use Rattle.store_stops.specs.Prospects.{Allows, Bounded};
+ghost use Rattle.store_stops.specs.Settled.{Timely};
+ghost use Rattle.store_departures.specs.Order.{order as departures};
+ghost use Rattle.store_departures.specs.Rising.{minuteAt, InTime};
+ghost use Rattle.store_frontier.specs.Arrivals.{Arrivals, Held, Run};
+ghost use Rattle.store_frontier.specs.Front.{Least, MinuteEnd, markOf, Marked, Fronted};
+ghost use Rattle.store_frontier.specs.Allowing.{topOf};
+ghost use Rattle.store_frontier.specs.Passed.{Limits, Passed, ontoBound, leaveBound};
+ghost use Rattle.store_frontier.specs.Zeros.{ZeroTo};
+ghost use Rattle.store_frontier.specs.Routes.{Routes};
+use results::Points;
+use store_points::UNREACHED;
+
+// No stop.
+const NOWHERE: usize = 65535;
+
+// ---- which arrivals are on the frontier
+
+// The minute of the arrival at place r.
+fn minute_at(words: &[u16], arrivals: &[u16], r: usize) -> u32
+    requires { ⌜ (16384 ≤ length (now words))
+        × (stationCount (now words) ≤ 64)
+        × (r < length (now arrivals))
+        × (getD (now arrivals) r 0 < 2048) ⌝ }
+    ensures { λ m. ⌜ m ≡ arrive (now (words .entry)) (getD (now (arrivals .entry)) r 0) ⌝ }
+{
+    let j = words::word(arrivals, r) as usize;
+    timetable::stop_at(words, j).arrive
+}
+
+// Where the arrivals end that are of the same minute as the one at place p, among those up to place end.
+fn minute_end(words: &[u16], arrivals: &[u16], p: usize, end: usize) -> usize
+    requires { ⌜ (16384 ≤ length (now words))
+        × (stationCount (now words) ≤ 64)
+        × Run (now words) (now arrivals) p end
+        × (p < end) ⌝ }
+    ensures { λ q. ⌜ MinuteEnd (now (words .entry)) (now (arrivals .entry)) p end q ⌝ }
+{
+    let minute = minute_at(words, arrivals, p);
+    let mut q = p + 1;
+    loop {
+        if q == end {
+            break;
+        }
+        let m = minute_at(words, arrivals, q);
+        if m != minute {
+            break;
+        }
+        q += 1;
+    }
+    q
+}
+
+// The least of top and the points of the arrivals at places p up to q.
+fn least(arrivals: &[u16], p: usize, q: usize, v: &[u32], top: Points) -> Points
+    requires { ⌜ Held (now arrivals) p q × (length (now v) ≡ 2048) ⌝ }
+    ensures { λ x. ⌜ Least (now (arrivals .entry)) (now (v .entry)) (top .0) p q (x .0) ⌝ }
+{
+    let mut low = top;
+    let mut r = p;
+    while r < q {
+        let j = words::word(arrivals, r) as usize;
+        low = store_points::lesser(low, store_points::get(v, j));
+        r += 1;
+    }
+    low
+}
+
+// What is allowed at an arrival: before is the least that was paid on arrivals of earlier minutes, low the least with
+// those of its own.
+fn mark(before: Points, low: Points, u: Points) -> Points
+    ensures { λ r. ⌜ r .0 ≡ markOf (before .0) (low .0) (u .0) ⌝ }
+{
+    if before.0 <= u.0 {
+        return Points(0);
+    }
+    if u.0 != low.0 {
+        return Points(0);
+    }
+    store_points::plus(u, Points(1))
+}
+
+// Marks the arrivals at places p up to q.
+fn mark_all(arrivals: &[u16], p: usize, q: usize, before: Points, low: Points, v: &mut [u32])
+    requires { ⌜ Held (now arrivals) p q × (length (now v) ≡ 2048) ⌝ }
+    ensures { λ _. ⌜ Marked (now (arrivals .entry)) (before .0) (low .0) p q (now (v .entry)) (now (v .exit)) ⌝ }
+    ensures { λ _. ⌜ length (now (v .exit)) ≡ length (now (v .entry)) ⌝ }
+{
+    let mut r = p;
+    while r < q {
+        let j = words::word(arrivals, r) as usize;
+        let u = store_points::get(v, j);
+        store_points::put(v, j, mark(before, low, u));
+        r += 1;
+    }
+}
+
+// The arrivals of one station, at places begin up to end, where less than top is to have been paid.
+fn allow_station(
+    words: &[u16],
+    arrivals: &[u16],
+    begin: usize,
+    end: usize,
+    top: Points,
+    v: &mut [u32],
+)
+    requires { ⌜ (16384 ≤ length (now words))
+        × (stationCount (now words) ≤ 64)
+        × Run (now words) (now arrivals) begin end
+        × (length (now v) ≡ 2048) ⌝ }
+    ensures { λ _. ⌜ Fronted (now (words .entry)) (now (arrivals .entry)) begin end (top .0) (now (v .entry)) end
+        (now (v .exit)) ⌝ }
+    ensures { λ _. ⌜ length (now (v .exit)) ≡ length (now (v .entry)) ⌝ }
+{
+    let mut low = top;
+    let mut p = begin;
+    while p < end {
+        let j = words::word(arrivals, p) as usize;
+        // Most are not reached or have paid no less than someone earlier: whoever else arrives in their minute, they
+        // are not on the frontier.
+        let u = store_points::get(v, j);
+        if low.0 <= u.0 {
+            store_points::put(v, j, Points(0));
+            p += 1;
+            continue;
+        }
+        let q = minute_end(words, arrivals, p, end);
+        let before = low;
+        low = least(arrivals, p, q, v, before);
+        mark_all(arrivals, p, q, before, low, v);
+        p = q;
+    }
+}
+
+// Where the arrivals of station c begin.
+fn place_at(first: &[u32], c: usize) -> usize
+    requires { ⌜ c < length (now first) ⌝ }
+    ensures { λ r. ⌜ r ≡ getD (now (first .entry)) c 0 ⌝ }
+{
+    first[c] as usize
+}
+
+// Less than this is to have been paid at station c.
+fn top_of(c: usize, source: usize) -> Points
+    ensures { λ r. ⌜ r .0 ≡ topOf c source ⌝ }
+{
+    if c == source {
+        return Points(0);
+    }
+    UNREACHED
+}
+
+// The arrivals of station c.
+fn allow_part(
+    words: &[u16],
+    arrivals: &[u16],
+    first: &[u32],
+    c: usize,
+    source: usize,
+    v: &mut [u32],
+)
+    requires { ⌜ (16384 ≤ length (now words))
+        × Timely (now words)
+        × Arrivals (now words) (now arrivals) (now first)
+        × (1 ≤ c)
+        × (c ≤ stationCount (now words))
+        × (stationCount (now words) ≤ 64)
+        × (length (now v) ≡ 2048) ⌝ }
+    ensures { λ _. ⌜ Fronted (now (words .entry)) (now (arrivals .entry)) (getD (now (first .entry)) c 0)
+        (getD (now (first .entry)) (c + 1) 0) (topOf c source) (now (v .entry))
+        (getD (now (first .entry)) (c + 1) 0) (now (v .exit)) ⌝ }
+    ensures { λ _. ⌜ length (now (v .exit)) ≡ length (now (v .entry)) ⌝ }
+{
+    let begin = place_at(first, c);
+    let end = place_at(first, c + 1);
+    allow_station(words, arrivals, begin, end, top_of(c, source), v);
+}
+
+// From the least penalties on arrival to what is allowed there: at an arrival on the frontier of its station as much as
+// that least penalty, one being added so that 0 allows nothing, and 0 elsewhere and at the source.
+pub fn allow(words: &[u16], arrivals: &[u16], first: &[u32], source: usize, v: &mut [u32])
+    requires { ⌜ (16384 ≤ length (now words))
+        × (isTimetable (now words) ≡ true)
+        × Timely (now words)
+        × Arrivals (now words) (now arrivals) (now first)
+        × (length (now v) ≡ 2048) ⌝ }
+    ensures { λ _. ⌜ Allows (now (words .entry)) source (now (v .entry)) (now (v .exit)) ⌝ }
+    ensures { λ _. ⌜ length (now (v .exit)) ≡ 2048 ⌝ }
+{
+    let stations = words::word(words, 0) as usize;
+    let mut c = 1;
+    while c <= stations {
+        allow_part(words, arrivals, first, c, source, v);
+        c += 1;
+    }
+}
+
+// ---- who can still end well
+
+// One who arrives at stop j ends well after a change if they have paid less than this.
+fn onto_bound(words: &[u16], catch: &[u16], q: &[u32], j: usize) -> Points
+    requires { ⌜ (16384 ≤ length (now words))
+        × (stationCount (now words) ≤ 64)
+        × (j < 2048)
+        × (1 ≤ station (now words) j)
+        × (station (now words) j ≤ stationCount (now words))
+        × (length (now catch) ≡ 2048)
+        × ((getD (now catch) j 0 < nowhere) → getD (now catch) j 0 < length (now q)) ⌝ }
+    ensures { λ r. ⌜ r .0 ≡ ontoBound (now (words .entry)) (now (catch .entry)) (now (q .entry)) j ⌝ }
+{
+    let f = words::word(catch, j) as usize;
+    if f < NOWHERE {
+        let c = timetable::stop_at(words, j).station as usize;
+        return store_points::less(store_points::get(q, f), store_points::of_change(words, c));
+    }
+    Points(0)
+}
+
+// One who leaves stop i ends well if they have paid less than this.
+fn leave_bound(
+    words: &[u16],
+    catch: &[u16],
+    e: &[u32],
+    q: &[u32],
+    leaving: &[u32],
+    i: usize,
+) -> Points
+    requires { ⌜ (16384 ≤ length (now words))
+        × (stationCount (now words) ≤ 64)
+        × (i + 1 < 2048)
+        × (1 ≤ station (now words) (i + 1))
+        × (station (now words) (i + 1) ≤ stationCount (now words))
+        × (length (now catch) ≡ 2048)
+        × (length (now e) ≡ 2048)
+        × (length (now leaving) ≡ 2048)
+        × ((getD (now catch) (i + 1) 0 < nowhere) → getD (now catch) (i + 1) 0 < length (now q)) ⌝ }
+    ensures { λ r. ⌜ r .0
+        ≡ leaveBound (now (words .entry)) (now (catch .entry)) (now (e .entry)) (now (q .entry))
+        (now (leaving .entry)) i ⌝ }
+{
+    let onto = onto_bound(words, catch, q, i + 1);
+    let here = store_points::larger(
+        store_points::get(e, i + 1),
+        store_points::get(leaving, i + 1),
+    );
+    store_points::less(
+        store_points::larger(onto, here),
+        store_points::of_ride(timetable::stop_at(words, i)),
+    )
+}
+
+// One who leaves stop i, at station c, ends well below the bound; one who changes to i, or to a later departure of c,
+// below the highest there.
+fn note(i: usize, c: usize, bound: Points, q: &mut [u32], leaving: &mut [u32], high: &mut [u32])
+    requires { ⌜ (i < length (now q)) × (i < length (now leaving)) × (c < length (now high)) ⌝ }
+    ensures { λ _. ⌜ (now (leaving .exit) ≡ set (now (leaving .entry)) i (bound .0))
+        × (now (high .exit) ≡ set (now (high .entry)) c (max (getD (now (high .entry)) c 0) (bound .0)))
+        × (now (q .exit) ≡ set (now (q .entry)) i (max (getD (now (high .entry)) c 0) (bound .0)))
+        × (length (now (q .exit)) ≡ length (now (q .entry)))
+        × (length (now (leaving .exit)) ≡ length (now (leaving .entry)))
+        × (length (now (high .exit)) ≡ length (now (high .entry))) ⌝ }
+{
+    let highest = store_points::larger(store_points::get(high, c), bound);
+    store_points::put(leaving, i, bound);
+    store_points::put(high, c, highest);
+    store_points::put(q, i, highest);
+}
+
+// The departure at place p of the order, at minute d or later, those after it having been passed.
+fn pass(
+    words: &[u16],
+    order: &[u16],
+    n: usize,
+    p: usize,
+    catch: &[u16],
+    d: usize,
+    e: &[u32],
+    q: &mut [u32],
+    leaving: &mut [u32],
+    high: &mut [u32],
+)
+    requires { ⌜ Routes (now words) (now order) n (now catch)
+        × (p < n)
+        × (d ≤ minuteAt (now words) (now order) p)
+        × (length (now e) ≡ 2048)
+        × (length (now q) ≡ 2048)
+        × (length (now leaving) ≡ 2048)
+        × (length (now high) ≡ 65)
+        × Passed (now words) (now e) d (drop (p + 1) (departures (now words))) (now q) (now leaving) (now high) ⌝ }
+    ensures { λ _. ⌜ Passed (now (words .entry)) (now (e .entry)) d (drop p (departures (now (words .entry))))
+        (now (q .exit)) (now (leaving .exit)) (now (high .exit)) ⌝ }
+    ensures { λ _. ⌜ (length (now (q .exit)) ≡ 2048)
+        × (length (now (leaving .exit)) ≡ 2048)
+        × (length (now (high .exit)) ≡ 65) ⌝ }
+{
+    let i = words::word(order, p) as usize;
+    let stop = timetable::stop_at(words, i);
+    let bound = leave_bound(words, catch, e, q, leaving, i);
+    note(i, stop.station as usize, bound, q, leaving, high);
+}
+
+// The departures from place begin of the order on, all of them at minute d or later, the last first.
+fn pass_all(
+    words: &[u16],
+    order: &[u16],
+    n: usize,
+    begin: usize,
+    catch: &[u16],
+    d: usize,
+    e: &[u32],
+    q: &mut [u32],
+    leaving: &mut [u32],
+    high: &mut [u32],
+)
+    requires { ⌜ Routes (now words) (now order) n (now catch)
+        × (begin ≤ n)
+        × InTime (now words) (now order) d begin n
+        × (length (now e) ≡ 2048)
+        × (length (now q) ≡ 2048)
+        × (length (now leaving) ≡ 2048)
+        × (length (now high) ≡ 65)
+        × Passed (now words) (now e) d (drop n (departures (now words))) (now q) (now leaving) (now high) ⌝ }
+    ensures { λ _. ⌜ Passed (now (words .entry)) (now (e .entry)) d (drop begin (departures (now (words .entry))))
+        (now (q .exit)) (now (leaving .exit)) (now (high .exit)) ⌝ }
+    ensures { λ _. ⌜ (length (now (q .exit)) ≡ 2048)
+        × (length (now (leaving .exit)) ≡ 2048)
+        × (length (now (high .exit)) ≡ 65) ⌝ }
+{
+    let mut p = n;
+    while begin < p {
+        p -= 1;
+        pass(words, order, n, p, catch, d, e, q, leaving, high);
+    }
+}
+
+fn clear(v: &mut [u32])
+    ensures { λ _. ⌜ ZeroTo (length (now (v .entry))) (now (v .exit)) ⌝ }
+    ensures { λ _. ⌜ length (now (v .exit)) ≡ length (now (v .entry)) ⌝ }
+{
+    let n = v.len();
+    let mut i = 0;
+    while i < n {
+        v[i] = 0;
+        i += 1;
+    }
+}
+
+// For each stop that is left from minute d on: one who leaves it ends well if they have paid less than its word of
+// leaving, and one who arrives and changes to it, or to a later departure of its station, if less than its word of q.
+pub fn prospects(
+    words: &[u16],
+    order: &[u16],
+    n: usize,
+    catch: &[u16],
+    d: usize,
+    e: &[u32],
+    q: &mut [u32],
+    leaving: &mut [u32],
+)
+    requires { ⌜ Routes (now words) (now order) n (now catch)
+        × (length (now e) ≡ 2048)
+        × (length (now q) ≡ 2048)
+        × (length (now leaving) ≡ 2048) ⌝ }
+    ensures { λ _. ⌜ Limits (now (words .entry)) (now (e .entry)) d (now (leaving .exit)) ⌝ }
+    ensures { λ _. ⌜ Bounded (now (words .entry)) (now (e .entry)) d (now (catch .entry)) (now (q .exit)) ⌝ }
+    ensures { λ _. ⌜ (length (now (q .exit)) ≡ 2048) × (length (now (leaving .exit)) ≡ 2048) ⌝ }
+{
+    clear(leaving);
+    let mut high = [0u32; 65];
+    // The departures before minute d stand in front, and are left out.
+    let begin = store_departures::first_from(words, order, 0, n, d);
+    pass_all(words, order, n, begin, catch, d, e, q, leaving, &mut high);
+}

@@ -1,0 +1,273 @@
+-- What the walks from the labels of a station come to: each of their arrivals is one of a rider, and no rider arrives
+-- for less. A walk may end where the trip comes back to the station of boarding, since who can board at a station can
+-- board there later, too, for the same.
+use mathlib.Core.Path.{_≡_, refl, sym, ap, subst, _∙_}
+use mathlib.Core.Bool.{Bool, true, false, cond, not}
+use mathlib.Core.Logic.{_≢_}
+use mathlib.Core.List.{List, [], _∷_, List·Memᴰ·head as here, List·Memᴰ·tail as there}
+use Prim.Native.Nat.{ℕ, zero, suc, _+_, _-_, _≤_, _<_}
+use native.Mathlib.Decide.{ℕ-discrete}
+use native.Mathlib.Omega.{arith}
+use borrow.Author.Tests.{lt-ltb, ne-eqb}
+use lib.Dec.{ltb, eqb, ltb→lt}
+use lib.ListN.{getD}
+use Rattle.lists.specs.Lists.{_∈_}
+use Rattle.lists.specs.Tests.{T-left}
+use Rattle.lists.specs.Members.{none, cons-cases, concatMap-in, concatMap-out}
+use Rattle.timetable.specs.Words.{isTimetable}
+use Rattle.store_stops.specs.Stopwise.{station, depart, points, unreached, Goes, Ridden, ridden}
+use Rattle.store_stops.specs.Paid.{Paid, Arrived, Labelled}
+use Rattle.store_stops.specs.Settled.{Timely}
+use Rattle.store_stops.specs.TimelyLaws.{timely}
+use Rattle.store_stops.specs.RideStops.{ridden-one, ridden-more, ridden-once, ridden-on}
+use Rattle.store_stops.specs.LeastSettled.{arrived-next, arrived-on}
+use Rattle.store_stops.specs.PaidBounds.{paid-most}
+use Rattle.store_stops.specs.Visits.{departs-later, paid-later}
+use Rattle.store_departures.specs.Order.{waiting}
+use Rattle.store_departures.specs.Parts.{waiting-in, waiting-out}
+use Rattle.store_marks.specs.Walks.{Visit, visit, goesOn, visits, boarding, boardings}
+use Rattle.store_marks.specs.Held.{goes-few}
+
+-- the station where one boards who changed at these stations, the last one first
+abbrev pub boardsAt : (a : ℕ) (rev : List ℕ) → ℕ
+boardsAt a [] = a
+boardsAt a (c ∷ rev) = c
+
+module _ (w : List ℕ) (a d : ℕ) where
+  pub paid-there : (rev : List ℕ) (g p : ℕ) → Paid w a d rev g p → station w g ≡ boardsAt a rev
+  paid-there [] g p h = h .1
+  paid-there (c ∷ rev) g p h = h .catches .here ∙ h .here
+
+  pub paid-goes : (rev : List ℕ) (g p : ℕ) → Paid w a d rev g p → Goes w g
+  paid-goes [] g p h = h .0
+  paid-goes (c ∷ rev) g p h = h .catches .goes
+
+pub visit-same : {j i y z : ℕ} → j ≡ i → y ≡ z → visit j y ≡ visit i z
+visit-same e f = cc (e, f)
+
+-- ---- the arrivals of a walk
+module _ (w : List ℕ) (sure : Timely w) (c : ℕ) where
+  -- a property of arrivals that riding on keeps
+  module _ (P : ℕ → ℕ → Type 0) (on : (j y : ℕ) → Goes w j → P j y → P (suc j) (y + points w j)) where
+    rest-all : (n j y : ℕ) (b : Bool) → goesOn w c (suc j) ≡ b → Goes w j → P (suc j) y
+        → (Goes w (suc j) → P (suc (suc j)) (y + points w (suc j))
+        → (v : Visit) → v ∈ visits w c n (suc j) y → P (v .stop) (v .paid))
+        → (v : Visit) → v ∈ cond b (visits w c n (suc j) y) [] → P (v .stop) (v .paid)
+    rest-all n j y true e g h ih v m =
+        let t = T-left (ltb 0 (depart w (suc j))) (not (eqb (station w (suc j)) c)) (rw e tt) in
+        let goes = sure .goes-on j g (omega (arith, ltb→lt 0 (depart w (suc j)) t)) in
+        ih goes (on (suc j) y goes h) v m
+    rest-all n j y false e g h ih v m = none m
+
+    pub visits-all : (n j y : ℕ) → Goes w j → P (suc j) (y + points w j)
+        → (v : Visit) → v ∈ visits w c n j y → P (v .stop) (v .paid)
+    unfolding visits
+    visits-all zero j y g h v m = none m
+    visits-all (suc n) j y g h v m = go (visits-all n (suc j) (y + points w j))
+      where
+        go : (Goes w (suc j) → P (suc (suc j)) (y + points w j + points w (suc j))
+            → (v : Visit) → v ∈ visits w c n (suc j) (y + points w j) → P (v .stop) (v .paid)) → P (v .stop) (v .paid)
+        go ih =
+            cons-cases m (λ e. subst (λ (u : Visit). P (u .stop) (u .paid)) (sym e) h)
+            (rest-all n j (y + points w j) (goesOn w c (suc j)) refl g h ih v)
+
+  -- a ride that does not come to station c on its way
+  abbrev Clear : (b m : ℕ) → Type 0
+  Clear b m = (k : ℕ) → 1 ≤ k → k ≤ m → station w (b + k) ≢ c
+
+  goes-on-true : (j : ℕ) → Goes w j → Goes w (suc j) → station w (suc j) ≢ c → goesOn w c (suc j) ≡ true
+  goes-on-true j g h other =
+      rw (lt-ltb 0 (depart w (suc j)) (omega (arith, sure .ends j g h)), ne-eqb (station w (suc j)) c other)
+
+  pub visits-in : (m n b y : ℕ) → m < n → Ridden w b (suc m) → Clear b m
+      → visit (b + suc m) (y + ridden w b (suc m)) ∈ visits w c n b y
+  unfolding visits ridden
+  visits-in zero zero b y h r clear = absurd (omega arith)
+  visits-in zero (suc n) b y h r clear = here (visit-same {i = suc b} {z = y + points w b} (omega arith) (omega arith))
+  visits-in (suc m) zero b y h r clear = absurd (omega arith)
+  visits-in (suc m) (suc n) b y h r clear = go (visits-in m n (suc b) (y + points w b) (omega arith) rides clear-on)
+    where
+      next : (k : ℕ) → b + suc k ≡ suc b + k
+      next k = omega arith
+
+      rides : Ridden w (suc b) (suc m)
+      rides k g = subst (Goes w) (next k) (r (suc k) (omega arith))
+
+      clear-on : Clear (suc b) m
+      clear-on k g l = subst (λ j. station w j ≢ c) (next k) (clear (suc k) (omega arith) (omega arith))
+
+      goes : goesOn w c (suc b) ≡ true
+      goes =
+          goes-on-true b (subst (Goes w) (omega arith) (r 0 (omega arith)))
+          (subst (Goes w) (omega arith) (r 1 (omega arith)))
+          (subst (λ j. station w j ≢ c) (omega arith) (clear 1 (omega arith) (omega arith)))
+
+      go : visit (suc b + suc m) (y + points w b + ridden w (suc b) (suc m)) ∈ visits w c n (suc b) (y + points w b)
+          → visit (b + suc (suc m)) (y + ridden w b (suc (suc m))) ∈ visits w c (suc n) b y
+      go ih =
+          rw goes
+          (there
+          (subst (λ u. u ∈ visits w c n (suc b) (y + points w b)) (visit-same (omega arith) (omega arith)) ih))
+
+-- ---- the arrivals of all walks from a station
+module _ (w : List ℕ) (ok : isTimetable w ≡ true) (c : ℕ) (x : List ℕ) where
+  abbrev sure : Timely w
+  sure = timely w ok
+
+  boarding-out : (P : ℕ → ℕ → Type 0) → ((j y : ℕ) → Goes w j → P j y → P (suc j) (y + points w j)) → (i : ℕ)
+      → Goes w i → (getD x i 0 < unreached → P (suc i) (getD x i 0 + points w i))
+      → (v : Visit) → v ∈ boarding w c x i → P (v .stop) (v .paid)
+  unfolding boarding
+  boarding-out P on i g h v = go (ltb (getD x i 0) unreached) refl
+    where
+      go : (b : Bool) → ltb (getD x i 0) unreached ≡ b
+          → v ∈ cond b (visits w c (2048 - i) i (getD x i 0)) [] → P (v .stop) (v .paid)
+      go true e m =
+          visits-all w sure c P on (2048 - i) i (getD x i 0) g (h (ltb→lt (getD x i 0) unreached (rw e tt))) v m
+      go false e m = none m
+
+  -- each is at a stop behind one that is left
+  pub boarding-stops : (i : ℕ) → Goes w i → (v : Visit) → v ∈ boarding w c x i → (k : ℕ) × Goes w k × (suc k ≡ v .stop)
+  boarding-stops i g =
+      boarding-out (λ j y. (k : ℕ) × Goes w k × (suc k ≡ j)) (λ j y goes h. (j, goes, refl)) i g (λ h. (i, g, refl))
+
+  -- a ride that does not come back to c is all walked
+  boarding-in : (m b : ℕ) → getD x b 0 < unreached → Ridden w b (suc m) → Clear w sure c b m
+      → visit (b + suc m) (getD x b 0 + ridden w b (suc m)) ∈ boarding w c x b
+  unfolding boarding
+  boarding-in m b h r clear =
+      let few = goes-few w ok (b + m) (r m (omega arith)) in
+      rw (lt-ltb (getD x b 0) unreached h) (visits-in w sure c m (2048 - b) b (getD x b 0) (omega arith) r clear)
+
+  module _ (a d : ℕ) (rev : List ℕ) (labels : Labelled w a d rev c x) where
+    pub boardings-arrived : (v : Visit) → v ∈ boardings w c x (waiting w c) → Arrived w a d rev (v .stop) (v .paid)
+    unfolding boardings
+    boardings-arrived v m =
+        let r = concatMap-out (boarding w c x) (waiting w c) m in
+        let i = r .0 in
+        let g = waiting-out w c i (r .1) in
+        boarding-out
+        (Arrived w a d rev)
+        (arrived-on w a d rev)
+        i
+        (g .0)
+        (λ h. arrived-next w a d rev i (getD x i 0) (g .0) (labels .attained i (g .0) (g .1) h))
+        v
+        (r .2)
+
+    -- a boarding from which a ride does not come back to c
+    record Direct (j p : ℕ) : Type 0 where
+      from : ℕ
+      m : ℕ
+      paid : ℕ
+      boards : Paid w a d rev from paid
+      rides : Ridden w from (suc m)
+      clear : Clear w sure c from m
+      to : from + suc m ≡ j
+      total : paid + ridden w from (suc m) ≤ p
+
+    module _ (there-c : boardsAt a rev ≡ c) where
+      -- where the ride comes back to c, one can board there instead
+      again : (j p : ℕ) (r : Direct j p) → Goes w j → station w j ≡ c → Direct (suc j) (p + points w j)
+      again j p r g e =
+          let to = r .to in
+          let at = paid-there w a d rev (r .from) (r .paid) (r .boards) in
+          let late = departs-later w sure (suc (r .m)) (r .from) (r .rides) (subst (Goes w) (sym to) g) in
+          let late-j : depart w (r .from) ≤ depart w j = omega (arith, late, ap (depart w) to) in
+          record {
+            from = j;
+            m = 0;
+            paid = r .paid;
+            boards = paid-later w a d rev (r .from) j (r .paid) (r .boards) g (e ∙ sym there-c ∙ sym at) late-j;
+            rides = ridden-once w j g;
+            clear = λ k h l. absurd (omega arith);
+            to = omega arith;
+            total = omega (arith, r .total, ridden-one w j);
+          }
+
+      on : (j p : ℕ) (r : Direct j p) → Goes w j → station w j ≢ c → Direct (suc j) (p + points w j)
+      on j p r g other =
+          let to = r .to in
+          record {
+            from = r .from;
+            m = suc (r .m);
+            paid = r .paid;
+            boards = r .boards;
+            rides = ridden-on w (r .from) (suc (r .m)) (r .rides) (subst (Goes w) (sym to) g);
+            clear = λ k h l.
+                elim (ℕ-discrete k (suc (r .m))) [
+                  | yes e ↦ subst (λ i. station w i ≢ c) (sym to ∙ ap (λ i. r .from + i) (sym e)) other
+                  | no e ↦ r .clear k h (omega arith)
+                ];
+            to = omega arith;
+            total = omega (arith, r .total, ridden-more w (r .from) (suc (r .m)), ap (points w) to);
+          }
+
+      direct : (k i p : ℕ) → Paid w a d rev i p → Ridden w i (suc k)
+          → Direct (i + suc k) (p + ridden w i (suc k))
+      direct zero i p b r =
+          record {
+            from = i;
+            m = 0;
+            paid = p;
+            boards = b;
+            rides = r;
+            clear = λ k h l. absurd (omega arith);
+            to = refl;
+            total = omega arith;
+          }
+      direct (suc k) i p b r = go (direct k i p b (λ j h. r j (omega arith)))
+        where
+          j : ℕ
+          j = i + suc k
+
+          goes : Goes w j
+          goes = r (suc k) (omega arith)
+
+          cast : Direct (suc j) (p + ridden w i (suc k) + points w j)
+              → Direct (i + suc (suc k)) (p + ridden w i (suc (suc k)))
+          cast s =
+              subst (λ q. Direct (i + suc (suc k)) q) (omega (arith, ridden-more w i (suc k)))
+              (subst (λ t. Direct t (p + ridden w i (suc k) + points w j)) (omega arith) s)
+
+          go : Direct j (p + ridden w i (suc k)) → Direct (i + suc (suc k)) (p + ridden w i (suc (suc k)))
+          go s =
+              elim (ℕ-discrete (station w j) c) [
+                | yes e ↦ cast (again j (p + ridden w i (suc k)) s goes e)
+                | no e ↦ cast (on j (p + ridden w i (suc k)) s goes e)
+              ]
+
+      -- no one arrives for less than some walk does
+      pub record Least (j p : ℕ) : Type 0 where
+        pub paid : ℕ
+        pub listed : visit j paid ∈ boardings w c x (waiting w c)
+        pub least : paid ≤ p
+
+      direct-least : (j p : ℕ) → Direct j p → Least j p
+      unfolding boardings
+      direct-least j p r =
+          let b = r .from in
+          let g = paid-goes w a d rev b (r .paid) (r .boards) in
+          let at = paid-there w a d rev b (r .paid) (r .boards) ∙ there-c in
+          let below = labels .below b (r .paid) g at (r .boards) in
+          let most = paid-most w sure a d rev b (r .paid) g (r .boards) in
+          let v = boarding-in (r .m) b (omega arith) (r .rides) (r .clear) in
+          let y = getD x b 0 + ridden w b (suc (r .m)) in
+          record {
+            paid = y;
+            listed =
+                concatMap-in (boarding w c x) (subst (λ s. b ∈ waiting w s) at (waiting-in w ok b g))
+                (subst (λ i. visit i y ∈ boarding w c x b) (r .to) v);
+            least = omega (arith, r .total);
+          }
+
+      pub boardings-least : (j p : ℕ) → Arrived w a d rev j p → Least j p
+      boardings-least j p h = go (h .stops) (h .some) (h .rides) (h .to) (h .total)
+        where
+          go : (n : ℕ) → 1 ≤ n → Ridden w (h .from) n → h .from + n ≡ j → p ≡ h .paid + ridden w (h .from) n → Least j p
+          go zero o r e t = absurd (omega arith)
+          go (suc k) o r e t =
+              subst (λ q. Least j q) (sym t)
+              (subst (λ i. Least i (h .paid + ridden w (h .from) (suc k))) e
+              (direct-least (h .from + suc k) (h .paid + ridden w (h .from) (suc k))
+              (direct k (h .from) (h .paid) (h .boards) r)))

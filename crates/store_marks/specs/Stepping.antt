@@ -1,0 +1,444 @@
+-- From the labels at one station to those at the next, by the walks: a label is the least that some arrival offers to
+-- the departure it catches or to one before.
+use mathlib.Core.Path.{_≡_, refl, sym, ap, subst, _∙_}
+use mathlib.Core.Bool.{Bool, true, false}
+use mathlib.Core.Logic.{_≢_, _⊎_, inl, inr}
+use mathlib.Core.List.{List, [], _∷_, _++_, List·Memᴰ·head as here, List·Memᴰ·tail as there}
+use Prim.Native.Nat.{ℕ, suc, _+_, _≤_, _<_, min}
+use native.Mathlib.Decide.{ℕ-discrete}
+use native.Mathlib.Omega.{arith}
+use borrow.Author.Tests.{lt-ltb, le-ltb, eq-eqb, ne-eqb}
+use lib.Dec.{T, leb, ltb, ltb→lt, nltb→le, le→leb}
+use lib.ListN.{length, getD}
+use Rattle.lists.specs.Lists.{_∈_, endWith, firstOf}
+use Rattle.lists.specs.Tests.{either}
+use Rattle.lists.specs.Members.{none, cons-cases}
+use Rattle.timetable.specs.Words.{isTimetable}
+use Rattle.store_stops.specs.Stopwise.{station, depart, changePoints, unreached, nowhere, ready, Goes, Catches}
+use Rattle.store_stops.specs.Paid.{Paid, Labelled}
+use Rattle.store_stops.specs.LeastSettled.{arrived-behind}
+use Rattle.store_departures.specs.Order.{firstOr, waiting, catch}
+use Rattle.store_departures.specs.InOrderLaws.{caught-there}
+use Rattle.store_departures.specs.Parts.{waiting-in, waiting-out, waiting-behind, waiting-distinct}
+use Rattle.store_points.specs.Lowered.{lowered, lowered-length, lowered-else, lowered-here}
+use Rattle.store_marks.specs.Arrays.{
+  fill,
+  fill-length,
+  fill-in,
+  fill-out,
+  Within,
+  fall,
+  fall-out,
+  fall-top,
+  fall-below,
+}
+use Rattle.store_marks.specs.Arrays.{Behind}
+use Rattle.store_marks.specs.Arrays.{behind-later, behind-in, From, fall-from}
+use Rattle.store_marks.specs.Walks.{Visit, visit, boarding, boardings, run, rootLabel, offer, rides, stepped}
+use Rattle.store_marks.specs.Held.{Changes, goes-few}
+use Rattle.store_marks.specs.Reaching.{boardsAt, boarding-stops, boardings-arrived, boardings-least}
+
+-- from labels at station c to labels at station e: whatever the changes before were, if x has the labels at c behind
+-- them, y has those at e behind them and a change at e, and still those at c
+pub record Steps (w : List ℕ) (c e : ℕ) (x y : List ℕ) : Type 0 where
+  pub next : (a d : ℕ) (rev : List ℕ) → boardsAt a rev ≡ c → Labelled w a d rev c x → Labelled w a d (e ∷ rev) e y
+  pub kept : (a d : ℕ) (rev : List ℕ) → Labelled w a d rev c x → Labelled w a d rev c y
+
+pub run-append : (act : Visit → List ℕ → List ℕ) (l m : List Visit) (s : List ℕ)
+    → run act (l ++ m) s ≡ run act m (run act l s)
+unfolding run
+run-append act [] m s = refl
+run-append act (v ∷ l) m s = run-append act l m (act v s)
+
+-- ---- what offers leave
+module _ (w caught : List ℕ) (c e : ℕ) where
+  abbrev act : Visit → List ℕ → List ℕ
+  act = offer w caught c e
+
+  abbrev to : Visit → ℕ
+  to v = getD caught (v .stop) 0
+
+  abbrev cost : Visit → ℕ
+  cost v = v .paid + changePoints w e
+
+  offer-there : (v : Visit) (x : List ℕ) → station w (v .stop) ≡ e → act v x ≡ lowered (to v) (cost v) x
+  unfolding offer
+  offer-there v x h = rw (eq-eqb (station w (v .stop)) e h)
+
+  offer-elsewhere : (v : Visit) (x : List ℕ) → station w (v .stop) ≢ e → act v x ≡ x
+  unfolding offer
+  offer-elsewhere v x h = rw (ne-eqb (station w (v .stop)) e h)
+
+  pub offer-length : (v : Visit) (x : List ℕ) → length (act v x) ≡ length x
+  offer-length v x =
+      elim (ℕ-discrete (station w (v .stop)) e) [
+        | yes h ↦ ap length (offer-there v x h) ∙ lowered-length x (to v) (cost v)
+        | no h ↦ ap length (offer-elsewhere v x h)
+      ]
+
+  -- an offer to departure g
+  record Offers (v : Visit) (g : ℕ) : Type 0 where
+    there-e : station w (v .stop) ≡ e
+    is : to v ≡ g
+
+  offer-other : (v : Visit) (x : List ℕ) (g : ℕ) → ¬ Offers v g → getD (act v x) g 0 ≡ getD x g 0
+  offer-other v x g none =
+      elim (ℕ-discrete (station w (v .stop)) e) [
+        | yes h ↦
+            ap (λ l. getD l g 0) (offer-there v x h)
+            ∙ lowered-else x (to v) (cost v) g (λ q. none (record { there-e = h; is = sym q }))
+        | no h ↦ ap (λ l. getD l g 0) (offer-elsewhere v x h)
+      ]
+
+  offer-here : (v : Visit) (x : List ℕ) (g : ℕ) → Offers v g → g < length x
+      → getD (act v x) g 0 ≡ min (getD x g 0) (cost v)
+  offer-here v x g o h =
+      subst (λ k. k < length x → getD (act v x) k 0 ≡ min (getD x k 0) (cost v)) (o .is)
+      (λ k. ap (λ l. getD l (to v) 0) (offer-there v x (o .there-e)) ∙ lowered-here x (to v) (cost v))
+      h
+
+  offers-or : (v : Visit) (g : ℕ) → Offers v g ⊎ (¬ Offers v g)
+  offers-or v g =
+      elim (ℕ-discrete (station w (v .stop)) e) [
+        | yes h ↦
+            elim (ℕ-discrete (to v) g) [
+              | yes k ↦ inl (record { there-e = h; is = k })
+              | no k ↦ inr (λ o. k (o .is))
+            ]
+        | no h ↦ inr (λ o. h (o .there-e))
+      ]
+
+  offer-falls : (v : Visit) (x : List ℕ) (g : ℕ) → g < length x → getD (act v x) g 0 ≤ getD x g 0
+  offer-falls v x g h =
+      elim (offers-or v g) [
+        | inl o ↦ omega (arith, offer-here v x g o h)
+        | inr o ↦ omega (arith, offer-other v x g o)
+      ]
+
+  pub run-length : (l : List Visit) (x : List ℕ) → length (run act l x) ≡ length x
+  unfolding run
+  run-length [] x = refl
+  run-length (v ∷ l) x = run-length l (act v x) ∙ offer-length v x
+
+  run-falls : (l : List Visit) (x : List ℕ) (g : ℕ) → g < length x → getD (run act l x) g 0 ≤ getD x g 0
+  unfolding run
+  run-falls [] x g h = omega arith
+  run-falls (v ∷ l) x g h =
+      omega (arith, run-falls l (act v x) g (omega (arith, offer-length v x)), offer-falls v x g h)
+
+  run-least : (l : List Visit) (x : List ℕ) (v : Visit) (g : ℕ) → g < length x → v ∈ l → Offers v g
+      → getD (run act l x) g 0 ≤ cost v
+  unfolding run
+  run-least [] x v g h m o = none m
+  run-least (u ∷ l) x v g h m o = go (run-least l (act u x) v g inside)
+    where
+      inside : g < length (act u x)
+      inside = omega (arith, offer-length u x)
+
+      go : (v ∈ l → Offers v g → getD (run act l (act u x)) g 0 ≤ cost v)
+          → getD (run act l (act u x)) g 0 ≤ cost v
+      go ih =
+          cons-cases m
+          (λ q.
+          let first = offer-here v x g o h in
+          let same = ap (λ z. getD (act z x) g 0) q in
+          omega (arith, run-falls l (act u x) g inside))
+          (λ k. ih k o)
+
+  -- each word stands, or is what some arrival offers
+  record Offered (l : List Visit) (g p : ℕ) : Type 0 where
+    v : Visit
+    listed : v ∈ l
+    offers : Offers v g
+    is : p ≡ cost v
+
+  offered-later : (u : Visit) (l : List Visit) (g p : ℕ) → Offered l g p → Offered (u ∷ l) g p
+  offered-later u l g p o = record { v = o .v; listed = there (o .listed); offers = o .offers; is = o .is }
+
+  offer-from : (v : Visit) (x : List ℕ) (g : ℕ) → g < length x
+      → (getD (act v x) g 0 ≡ getD x g 0) ⊎ (Offers v g × (getD (act v x) g 0 ≡ cost v))
+  offer-from v x g h =
+      elim (offers-or v g) [
+        | inl o ↦
+            either
+            (ltb (cost v) (getD x g 0))
+            (λ t. inr (o, omega (arith, offer-here v x g o h, ltb→lt (cost v) (getD x g 0) t)))
+            (λ t. inl (omega (arith, offer-here v x g o h, nltb→le (cost v) (getD x g 0) t)))
+        | inr o ↦ inl (offer-other v x g o)
+      ]
+
+  run-from : (l : List Visit) (x : List ℕ) (g : ℕ) → g < length x
+      → (getD (run act l x) g 0 ≡ getD x g 0) ⊎ Offered l g (getD (run act l x) g 0)
+  unfolding run
+  run-from [] x g h = inl refl
+  run-from (v ∷ l) x g h =
+      elim (run-from l (act v x) g (omega (arith, offer-length v x))) [
+        | inl q ↦
+            elim (offer-from v x g h) [
+              | inl r ↦ inl (q ∙ r)
+              | inr r ↦ inr (record { v = v; listed = here refl; offers = r .0; is = q ∙ r .1 })
+            ]
+        | inr o ↦ inr (offered-later v l g (getD (run act l (act v x)) g 0) o)
+      ]
+
+  run-other : (l : List Visit) (x : List ℕ) (g : ℕ) → ((v : Visit) → v ∈ l → ¬ Offers v g)
+      → getD (run act l x) g 0 ≡ getD x g 0
+  unfolding run
+  run-other [] x g h = refl
+  run-other (v ∷ l) x g h =
+      run-other l (act v x) g (λ u m. h u (there m)) ∙ offer-other v x g (h v (here refl))
+
+-- ---- the first that passes a test stands before all others that do
+first-behind : (dflt : ℕ) (p : ℕ → Bool) (l : List ℕ) (g : ℕ) → g ∈ l → T (p g)
+    → Behind l (firstOr dflt (firstOf p l)) g
+first-behind dflt p [] g m t = none m
+first-behind dflt p (k ∷ l) g m t = go (p k) refl (first-behind dflt p l g)
+  where
+    go : (b : Bool) → p k ≡ b → (g ∈ l → T (p g) → Behind l (firstOr dflt (firstOf p l)) g)
+        → Behind (k ∷ l) (firstOr dflt (endWith b k (firstOf p l))) g
+    go true q ih = record { front = []; back = l; whole = refl; behind = m }
+    go false q ih =
+        cons-cases m
+        (λ r. absurd (rw q at (rw r at t)))
+        (λ i. behind-later k l (firstOr dflt (firstOf p l)) g (ih i t))
+
+module _ (w : List ℕ) (ok : isTimetable w ≡ true) where
+  -- whoever can be boarded after an arrival stands behind the departure caught
+  pub catch-behind : (j g : ℕ) → Catches w j g → Behind (waiting w (station w j)) (catch w j) g
+  unfolding catch
+  catch-behind j g h =
+      first-behind nowhere (λ k. leb (ready w j) (depart w k)) (waiting w (station w j)) g
+      (subst (λ s. g ∈ waiting w s) (h .here) (waiting-in w ok g (h .goes)))
+      (le→leb (ready w j) (depart w g) (h .timely))
+
+  behind-departs : (s f g : ℕ) → Behind (waiting w s) f g → depart w f ≤ depart w g
+  behind-departs s f g b =
+      cons-cases (b .behind)
+      (λ e. omega (arith, ap (depart w) e))
+      (waiting-behind w s (b .front) (b .back) f g (b .whole))
+
+-- ---- the labels of the source
+module _ (w : List ℕ) (ok : isTimetable w ≡ true) (x : List ℕ) (long : length x ≡ 2048) where
+  waiting-within : (s : ℕ) → Within (waiting w s) x
+  waiting-within s g m = omega (arith, goes-few w ok g (waiting-out w s g m .0))
+
+  root-word : (a d g : ℕ) → Goes w g → station w g ≡ a
+      → getD (fill (rootLabel w d) (waiting w a) x) g 0 ≡ rootLabel w d g
+  root-word a d g goes at =
+      let m = subst (λ s. g ∈ waiting w s) at (waiting-in w ok g goes) in
+      fill-in (rootLabel w d) (waiting w a) x g (waiting-within a g m) m
+
+  root-early : (d g : ℕ) → depart w g < d → rootLabel w d g ≡ unreached
+  unfolding rootLabel
+  root-early d g h = rw (lt-ltb (depart w g) d h)
+
+  root-late : (d g : ℕ) → d ≤ depart w g → rootLabel w d g ≡ 0
+  unfolding rootLabel
+  root-late d g h = rw (le-ltb (depart w g) d h)
+
+  pub root-labelled : (a d : ℕ) → Labelled w a d [] a (fill (rootLabel w d) (waiting w a) x)
+  root-labelled a d =
+      record {
+        attained = λ g goes at h.
+            let is = root-word a d g goes at in
+            either
+            (ltb (depart w g) d)
+            (λ t. absurd (omega (arith, is, root-early d g (ltb→lt (depart w g) d t))))
+            (λ t.
+            let late = nltb→le (depart w g) d t in
+            (goes, at, late, is ∙ root-late d g late));
+        below = λ g p goes at b. omega (arith, root-word a d g goes at, root-late d g (b .2));
+        capped = λ g goes at.
+            let is = root-word a d g goes at in
+            either
+            (ltb (depart w g) d)
+            (λ t. omega (arith, is, root-early d g (ltb→lt (depart w g) d t)))
+            (λ t. omega (arith, is, root-late d g (nltb→le (depart w g) d t)));
+      }
+
+-- ---- the labels of the next station
+labelled-same : (w : List ℕ) (a d : ℕ) (rev : List ℕ) (c : ℕ) (x y : List ℕ)
+    → ((g : ℕ) → Goes w g → station w g ≡ c → getD y g 0 ≡ getD x g 0) → Labelled w a d rev c x → Labelled w a d rev c y
+labelled-same w a d rev c x y same labels =
+    record {
+      attained = λ g goes at h.
+          let e = same g goes at in
+          subst (Paid w a d rev g) (sym e) (labels .attained g goes at (omega arith));
+      below = λ g p goes at b. omega (arith, same g goes at, labels .below g p goes at b);
+      capped = λ g goes at. omega (arith, same g goes at, labels .capped g goes at);
+    }
+
+boardings-same : (w : List ℕ) (c : ℕ) (x y l : List ℕ) → ((i : ℕ) → i ∈ l → getD y i 0 ≡ getD x i 0)
+    → boardings w c y l ≡ boardings w c x l
+unfolding boarding boardings
+boardings-same w c x y [] h = refl
+boardings-same w c x y (i ∷ l) h =
+    rw (h i (here refl)) (ap (λ r. boarding w c x i ++ r) (boardings-same w c x y l (λ k m. h k (there m))))
+
+module _
+    (w : List ℕ)
+    (ok : isTimetable w ≡ true)
+    (caught : List ℕ)
+    (changes : Changes w caught)
+    (c e : ℕ)
+    (apart : c ≢ e)
+  where
+    -- an arrival that offers departure g catches it
+    offers-catch : (v : Visit) (g : ℕ) → (k : ℕ) × Goes w k × (suc k ≡ v .stop) → Goes w g → Offers w caught c e v g
+        → Catches w (v .stop) g
+    offers-catch v g s goes o =
+        let k = s .0 in
+        let there-g = changes .caught-is k (s .1) in
+        let is : catch w (suc k) ≡ g = sym there-g ∙ ap (λ j. getD caught j 0) (s .2) ∙ o .is in
+        let few = goes-few w ok g goes in
+        subst (λ j. Catches w j g) (s .2)
+        (subst (Catches w (suc k)) is (caught-there w ok (suc k) (omega arith)))
+
+    -- the labels at c stand while walks from c make offers at e
+    ride-kept : (x : List ℕ) (i g : ℕ) → Goes w i → Goes w g → station w g ≡ c
+        → getD (run (offer w caught c e) (boarding w c x i) x) g 0 ≡ getD x g 0
+    ride-kept x i g from goes at =
+        run-other w caught c e (boarding w c x i) x g
+        (λ v m o.
+        let k = offers-catch v g (boarding-stops w ok c x i from v m) goes o in
+        apart (sym at ∙ k .here ∙ o .there-e))
+
+    rides-kept : (l x : List ℕ) → ((i : ℕ) → i ∈ l → Goes w i × (station w i ≡ c)) → (g : ℕ) → Goes w g
+        → station w g ≡ c → getD (rides w caught c e l x) g 0 ≡ getD x g 0
+    unfolding rides
+    rides-kept [] x h g goes at = refl
+    rides-kept (i ∷ l) x h g goes at =
+        rides-kept l (run (offer w caught c e) (boarding w c x i) x) (λ k m. h k (there m)) g goes at
+        ∙ ride-kept x i g (h i (here refl) .0) goes at
+
+    -- all walks at once
+    rides-run : (l x : List ℕ) → ((i : ℕ) → i ∈ l → Goes w i × (station w i ≡ c))
+        → rides w caught c e l x ≡ run (offer w caught c e) (boardings w c x l) x
+    unfolding rides run boardings
+    rides-run [] x h = refl
+    rides-run (i ∷ l) x h =
+        let act = offer w caught c e in
+        let x′ = run act (boarding w c x i) x in
+        let kept : (k : ℕ) → k ∈ l → getD x′ k 0 ≡ getD x k 0 =
+        (λ k m. ride-kept x i k (h i (here refl) .0) (h k (there m) .0) (h k (there m) .1)) in
+        rides-run l x′ (λ k m. h k (there m))
+        ∙ ap (λ r. run act r x′) (boardings-same w c x x′ l kept)
+        ∙ sym (run-append act (boarding w c x i) (boardings w c x l) x)
+
+    module _ (x₀ : List ℕ) (long₀ : length x₀ ≡ 2048) where
+      abbrev start : List ℕ
+      start = fill (λ g. unreached) (waiting w e) x₀
+
+      abbrev offered : List ℕ
+      offered = run (offer w caught c e) (boardings w c start (waiting w c)) start
+
+      stepped-is : stepped w caught c e x₀ ≡ fall unreached (waiting w e) offered
+      unfolding stepped
+      stepped-is = ap (fall unreached (waiting w e)) (rides-run (waiting w c) start (λ i. waiting-out w c i))
+
+      start-long : length start ≡ 2048
+      start-long = fill-length (λ g. unreached) (waiting w e) x₀ ∙ long₀
+
+      offered-long : length offered ≡ 2048
+      offered-long = run-length w caught c e (boardings w c start (waiting w c)) start ∙ start-long
+
+      start-word : (f : ℕ) → f ∈ waiting w e → getD start f 0 ≡ unreached
+      start-word f m = fill-in (λ g. unreached) (waiting w e) x₀ f (waiting-within w ok x₀ long₀ e f m) m
+
+      start-kept : (g : ℕ) → Goes w g → station w g ≡ c → getD start g 0 ≡ getD x₀ g 0
+      start-kept g goes at =
+          fill-out (λ g. unreached) (waiting w e) x₀ g (λ m. apart (sym at ∙ waiting-out w e g m .1))
+
+      -- only departures of e have got other labels
+      stepped-kept : (g : ℕ) → Goes w g → station w g ≡ c → getD (stepped w caught c e x₀) g 0 ≡ getD x₀ g 0
+      unfolding stepped
+      stepped-kept g goes at =
+          fall-out (waiting w e) unreached (rides w caught c e (waiting w c) start) g
+          (λ m. apart (sym at ∙ waiting-out w e g m .1))
+          ∙ rides-kept (waiting w c) start (λ i. waiting-out w c i) g goes at
+          ∙ start-kept g goes at
+
+      pub step-kept : (a d : ℕ) (rev : List ℕ) → Labelled w a d rev c x₀
+          → Labelled w a d rev c (stepped w caught c e x₀)
+      step-kept a d rev labels = labelled-same w a d rev c x₀ (stepped w caught c e x₀) stepped-kept labels
+
+      within : Within (waiting w e) offered
+      within = waiting-within w ok offered offered-long e
+
+      module _ (a d : ℕ) (rev : List ℕ) (there-c : boardsAt a rev ≡ c) (labels₀ : Labelled w a d rev c x₀) where
+        labels : Labelled w a d rev c start
+        labels = labelled-same w a d rev c x₀ start start-kept labels₀
+
+        abbrev last : ℕ → ℕ
+        last g = getD (fall unreached (waiting w e) offered) g 0
+
+        e-waits : (g : ℕ) → Goes w g → station w g ≡ e → g ∈ waiting w e
+        e-waits g goes at = subst (λ s. g ∈ waiting w s) at (waiting-in w ok g goes)
+
+        -- an offer to a departure is one to those behind it
+        offer-paid : (f g p : ℕ) → Behind (waiting w e) f g → Goes w g → station w g ≡ e
+            → Offered w caught c e (boardings w c start (waiting w c)) f p → Paid w a d (e ∷ rev) g p
+        offer-paid f g p b goes at o =
+            let v = o .v in
+            let rode = boardings-arrived w ok c start a d rev labels v (o .listed) in
+            let f-goes = waiting-out w e f (behind-in (waiting w e) f g b) .0 in
+            let k = offers-catch v f (arrived-behind w a d rev (v .stop) (v .paid) rode) f-goes (o .offers) in
+            let late = behind-departs w ok e f g b in
+            record {
+              at = v .stop;
+              before = v .paid;
+              rode = rode;
+              here = o .offers .there-e;
+              catches =
+                  record {
+                    goes = goes;
+                    here = at ∙ sym (o .offers .there-e);
+                    timely = omega (arith, k .timely);
+                  };
+              total = o .is;
+            }
+
+        attained : (g : ℕ) → Goes w g → station w g ≡ e → last g < unreached → Paid w a d (e ∷ rev) g (last g)
+        attained g goes at h =
+            elim (fall-from (waiting w e) unreached offered g (waiting-distinct w ok e) within (e-waits g goes at)) [
+              | inl q ↦ absurd (omega arith)
+              | inr r ↦ subst (Paid w a d (e ∷ rev) g) (sym (r .is)) (from r)
+            ]
+          where
+            from : (r : From (waiting w e) offered g (last g)) → Paid w a d (e ∷ rev) g (getD offered (r .f) 0)
+            from r =
+                let m = behind-in (waiting w e) (r .f) g (r .behind) in
+                let few = waiting-within w ok start start-long e (r .f) m in
+                let is = r .is in
+                elim (run-from w caught c e (boardings w c start (waiting w c)) start (r .f) few) [
+                  | inl q ↦ absurd (omega (arith, start-word (r .f) m))
+                  | inr o ↦ offer-paid (r .f) g (getD offered (r .f) 0) (r .behind) goes at o
+                ]
+
+        below : (g p : ℕ) → Goes w g → station w g ≡ e → Paid w a d (e ∷ rev) g p → last g ≤ p
+        below g p goes at h =
+            let j = h .at in
+            let s = arrived-behind w a d rev j (h .before) (h .rode) in
+            let l = boardings-least w ok c start a d rev labels there-c j (h .before) (h .rode) in
+            let f = catch w j in
+            let b = subst (λ s. Behind (waiting w s) f g) (h .here) (catch-behind w ok j g (h .catches)) in
+            let is = subst (λ j. getD caught j 0 ≡ catch w j) (s .2) (changes .caught-is (s .0) (s .1)) in
+            let few = waiting-within w ok start start-long e f (behind-in (waiting w e) f g b) in
+            omega (
+              arith,
+              fall-below (waiting w e) unreached offered f g (waiting-distinct w ok e) within b,
+              run-least w caught c e (boardings w c start (waiting w c)) start (visit j (l .paid)) f few (l .listed)
+                  (record { there-e = h .here; is = is }),
+              l .least,
+              h .total,
+            )
+
+        pub step-labelled : Labelled w a d (e ∷ rev) e (stepped w caught c e x₀)
+        step-labelled =
+            rw stepped-is
+            (record {
+              attained = attained;
+              below = below;
+              capped = λ g goes at.
+                  fall-top (waiting w e) unreached offered g (waiting-distinct w ok e) within (e-waits g goes at);
+            })

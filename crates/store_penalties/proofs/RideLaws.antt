@@ -1,0 +1,84 @@
+-- A ride as the code takes it: s is the stop where it begins.
+use mathlib.Core.Path.{_≡_}
+use mathlib.Core.List.{List}
+use Prim.Native.Nat.{ℕ, suc, _+_, _^_, _≤_, _<_, min}
+use native.Mathlib.Numerals.{add-one}
+use native.Mathlib.Omega.{arith}
+use lib.ListN.{length, getD, set}
+use Rattle.timetable.specs.Timetable.{Stop}
+use Rattle.timetable.specs.Words.{stopAt}
+use Rattle.store_stops.specs.Stopwise.{station, depart, changePoints, unreached}
+use Rattle.store_points.specs.Lowered.{lowered}
+use Rattle.store_penalties.specs.Boarding.{boarding}
+use Rattle.store_penalties.specs.Swept.{Turned}
+use Rattle.store_penalties.specs.Riding.{Departing, unboarded, boarded}
+
+module _ (w caught : List ℕ) (i : ℕ) (v q : List ℕ) (r : Departing w caught i v q) where
+  -- ---- the places of the slices, and the sums
+  pub read-at : (l : List ℕ) → 2048 ≤ length l → i < length l
+  read-at l h = omega (arith, r .timely .few i (r .goes), r .timely .stops)
+
+  pub next-few : i + 1 < 2048
+  next-few = omega (arith, r .timely .few i (r .goes), r .timely .stops)
+
+  pub next-fits : i + 1 < 2 ^ 64
+  next-fits = omega (arith, next-few)
+
+  pub next-some : 1 ≤ station w (i + 1)
+  next-some = rw (add-one i) (r .timely .next-first i (r .goes))
+
+  pub next-most : station w (i + 1) ≤ 64
+  next-most = rw (add-one i) (omega (arith, r .timely .next-listed i (r .goes), r .few))
+
+  pub next-cheap : changePoints w (station w (i + 1)) ≤ 1000
+  next-cheap =
+      rw (add-one i)
+      (r .timely .most
+      (station w (suc i))
+      (r .timely .next-first i (r .goes))
+      (r .timely .next-listed i (r .goes)))
+
+  module _ (s : Stop) (stop : s ≡ stopAt w i) where
+    pub read-low : (l : List ℕ) → length l ≡ 65 → s .station < length l
+    read-low l e = rw stop (omega (arith, r .timely .listed i (r .goes), r .few))
+
+    pub sum-fits : (b : ℕ) → b < unreached → b + s .points < 2 ^ 32
+    sum-fits b h = rw stop (omega (arith, r .timely .cheap i (r .goes)))
+
+    module _
+        (a : ℕ)
+        (low low′ : List ℕ)
+        (waits : low′ ≡ lowered (s .station) (getD q i 0) low)
+        (b : ℕ)
+        (paid : b ≡ boarding a (s .station) (getD v i 0) (getD low′ (s .station) 0))
+      where
+        pub passed : unreached ≤ b → Turned w a (s .depart) i v q low v q low′
+        passed h = rw stop (unboarded w caught a i v q low r low′ (rw stop at waits) b (rw stop at paid) h)
+
+        pub ridden : (v′ q′ : List ℕ) (more : ℕ) → 2048 ≤ length v → more ≡ b + s .points
+            → v′ ≡ set v (i + 1) (min unreached more)
+            → q′ ≡ lowered
+            (getD caught (i + 1) 0)
+            (min unreached more + changePoints w (station w (i + 1)))
+            q
+            → Turned w a (s .depart) i v q low v′ q′ low′
+        ridden v′ q′ more long adds rode offered =
+            rw stop
+            (boarded
+            w
+            caught
+            a
+            i
+            v
+            q
+            low
+            r
+            low′
+            (rw stop at waits)
+            b
+            (rw stop at paid)
+            v′
+            q′
+            long
+            (rw (adds, stop, add-one i) at rode)
+            (rw (adds, stop, add-one i, r .catches) at offered))

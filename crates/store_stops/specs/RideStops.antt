@@ -1,0 +1,281 @@
+-- The rides and changes of a timetable's net, stop by stop: who boards at a stop and rides on some stops takes a ride,
+-- and each ride is taken so.
+use mathlib.Core.Path.{_≡_, refl, sym, ap, subst, _∙_}
+use mathlib.Core.Bool.{true}
+use mathlib.Core.List.{List, []}
+use Prim.Native.Nat.{ℕ, zero, suc, _+_, _-_, _≤_, _<_}
+use native.Mathlib.Numerals.{add-one}
+use native.Mathlib.Omega.{arith}
+use lib.Dec.{T, leb, ltb, leb→le, ltb→lt, nltb→le, nleb→lt}
+use lib.ListN.{length, getD}
+use Rattle.timetable.specs.Timetable.{Trip}
+use Rattle.timetable.specs.Words.{stationCount, tripCount, stationAt, stopAt, startAt, timetableOf, isTimetable}
+use Rattle.timetable.specs.Check.{length-stations, length-trips}
+use Rattle.timetable.specs.Access.{station-is, trip-is, trip-long, stop-is, trip-stops, spelled-valid}
+use Rattle.lists.specs.Lists.{_∈_}
+use Rattle.lists.specs.Tests.{either}
+use Rattle.connections.specs.Rides.{Ride, noStop, ridePoints, rideAt}
+use Rattle.connections.specs.Connections.{Change, Net, net, Changes, ready, noStation, changeAt}
+use Rattle.connections.specs.RideLaws.{rides-in, rides-out, changes-in, changes-out, points-split, points-more}
+use Rattle.connections.specs.Sound.{Sound, sound}
+use Rattle.store_stops.specs.Stopwise.{
+  station,
+  arrive,
+  depart,
+  points,
+  changeMinutes,
+  changePoints,
+  Goes,
+  Ridden,
+  ridden,
+  Catches,
+}
+
+abbrev pub netOf : List ℕ → Net
+netOf w = net (timetableOf w)
+
+-- ---- what is paid on a ride
+module _ (w : List ℕ) where
+  pub ridden-none : (i : ℕ) → ridden w i 0 ≡ 0
+  unfolding ridden
+  ridden-none i = refl
+
+  pub ridden-one : (i : ℕ) → ridden w i 1 ≡ points w i
+  unfolding ridden
+  ridden-one i = omega arith
+
+  -- one stop further
+  pub ridden-more : (i n : ℕ) → ridden w i (suc n) ≡ ridden w i n + points w (i + n)
+  unfolding ridden
+  ridden-more i zero = let e : i + 0 ≡ i = omega arith in omega (arith, ap (points w) e)
+  ridden-more i (suc n) =
+      let e : i + suc n ≡ suc i + n = omega arith in
+      omega (arith, ridden-more (suc i) n, ap (points w) e)
+
+  -- a ride of some stops leaves its first stop
+  pub ridden-goes : (i n : ℕ) → 1 ≤ n → Ridden w i n → Goes w i
+  ridden-goes i n h r = subst (Goes w) (omega arith) (r 0 h)
+
+  pub ridden-once : (i : ℕ) → Goes w i → Ridden w i 1
+  ridden-once i g k h = subst (Goes w) (omega arith) g
+
+  pub ridden-on : (i n : ℕ) → Ridden w i n → Goes w (i + n) → Ridden w i (suc n)
+  ridden-on i n r g k h =
+      either
+      (ltb k n)
+      (λ t. r k (ltb→lt k n t))
+      (λ t. let m = nltb→le k n t in let e : i + n ≡ i + k = omega arith in subst (Goes w) e g)
+
+-- ---- what rides and changes of the net are the same
+module _ (w : List ℕ) where
+  -- this ride boards at stop i and alights n stops on
+  pub record SameRide (r : Ride) (i n : ℕ) : Type 0 where
+    pub listed : r ∈ (netOf w) .rides
+    pub some : 1 ≤ n
+    pub rides : Ridden w i n
+    pub from : r .from ≡ station w i
+    pub to : r .to ≡ station w (i + n)
+    pub leaves : r .depart ≡ depart w i
+    pub comes : r .arrive ≡ arrive w (i + n)
+    pub costs : r .points ≡ ridden w i n
+
+  pub record RideOf (i n : ℕ) : Type 0 where
+    pub ride : Ride
+    pub same : SameRide ride i n
+
+  pub record StopsOf (r : Ride) : Type 0 where
+    pub i : ℕ
+    pub m : ℕ
+    pub same : SameRide r i (suc m)
+
+  -- this change is that of station c
+  pub record SameChange (x : Change) (c : ℕ) : Type 0 where
+    pub listed : x ∈ (netOf w) .changes
+    pub from : x .from ≡ c
+    pub to : x .to ≡ c
+    pub minutes : x .minutes ≡ changeMinutes w c
+    pub costs : x .points ≡ changePoints w c
+
+  pub record ChangeOf (c : ℕ) : Type 0 where
+    pub change : Change
+    pub same : SameChange change c
+
+-- ---- trips are runs of stops
+module _ (w : List ℕ) (yes : isTimetable w ≡ true) where
+  starts-rise : (k j : ℕ) → j ≤ k → k ≤ tripCount w → startAt w j ≤ startAt w k
+  starts-rise zero j h g = let e : j ≡ 0 = omega arith in omega (arith, ap (startAt w) e)
+  starts-rise (suc k) j h g =
+      either
+      (leb j k)
+      (λ t. before (starts-rise k j (leb→le j k t) (omega arith)))
+      (λ t. let e : j ≡ suc k = omega (arith, nleb→lt j k t) in omega (arith, ap (startAt w) e))
+    where
+      before : startAt w j ≤ startAt w k → startAt w j ≤ startAt w (suc k)
+      before i = omega (arith, i, trip-stops w yes k g, ap (startAt w) (add-one k))
+
+  -- a stop stands in one trip
+  record Inside (z i : ℕ) : Type 0 where
+    listed : z < tripCount w
+    begun : startAt w z ≤ i
+    before : i < startAt w (z + 1)
+
+  not-later : (z y i : ℕ) → Inside z i → Inside y i → ¬ (z < y)
+  not-later z y i f g h =
+      omega (arith, f .before, g .begun, starts-rise y (z + 1) (omega arith) (omega (arith, g .listed)))
+
+  same-trip : (z y i : ℕ) → Inside z i → Inside y i → z ≡ y
+  same-trip z y i f g =
+      either
+      (ltb z y)
+      (λ t. absurd (not-later z y i f g (ltb→lt z y t)))
+      (λ t. either
+      (ltb y z)
+      (λ s. absurd (not-later y z i g f (ltb→lt y z s)))
+      (λ s. omega (arith, nltb→le z y t, nltb→le y z s)))
+
+  -- who stays aboard stays on the trip
+  stays-inside : (n i z : ℕ) → z < tripCount w → startAt w z ≤ i → i < startAt w (z + 1) → Ridden w i n
+      → i + n < startAt w (z + 1)
+  stays-inside zero i z l b h r = omega arith
+  stays-inside (suc n) i z l b h r =
+      let now = stays-inside n i z l b h (λ k g. r k (omega arith)) in
+      let g = r n (omega arith) in
+      let e = same-trip
+      z
+      (g .trip)
+      (i + n)
+      (record { listed = l; begun = omega arith; before = now })
+      (record { listed = g .listed; begun = g .begun; before = omega (arith, g .inside) }) in
+      omega (arith, g .inside, ap (λ y. startAt w (y + 1)) e)
+
+  -- ---- rides
+  module _ (z : ℕ) (h : z < tripCount w) where
+    abbrev trip : Trip
+    trip = getD ((timetableOf w) .trips) z []
+
+    trip-length : startAt w z + length trip ≡ startAt w (z + 1)
+    trip-length =
+        omega (arith, ap length (trip-is w z [] h), trip-long w z, trip-stops w yes z h)
+
+    stop-there : (x : ℕ) → x < length trip → getD trip x noStop ≡ stopAt w (startAt w z + x)
+    stop-there x g =
+        ap (λ l. getD l x noStop) (trip-is w z [] h) ∙ stop-is w z x noStop (omega (arith, g, trip-length))
+
+    ride-points : (x n : ℕ) → x + n ≤ length trip → ridePoints trip x (x + n) ≡ ridden w (startAt w z + x) n
+    unfolding ridden
+    ride-points x zero g =
+        let e : x + 0 ≡ x = omega arith in
+        let t = points-split trip x x x (omega arith) (omega arith) in
+        omega (arith, t, ap (ridePoints trip x) e)
+    ride-points x (suc n) g =
+        let e : x + suc n ≡ suc (x + n) = omega arith in
+        let f : startAt w z + x + n ≡ startAt w z + (x + n) = omega arith in
+        let m = points-more trip x (x + n) (omega arith) (omega arith) in
+        let s = ap (λ s. s .points) (stop-there (x + n) (omega arith)) in
+        let k = ridden-more w (startAt w z + x) n in
+        let i = ap (points w) f in
+        let q = ride-points x n (omega arith) in
+        omega (arith, m, s, k, i, q, ap (ridePoints trip x) e)
+
+    ride-there : (x n : ℕ) → 1 ≤ n → x + n < length trip → SameRide w (rideAt trip z x (x + n)) (startAt w z + x) n
+    ride-there x n o g =
+        let e : startAt w z + (x + n) ≡ startAt w z + x + n = omega arith in
+        record {
+          listed = rides-in ((timetableOf w) .trips) z x (x + n) (omega (arith, length-trips w)) (omega arith) g;
+          some = o;
+          rides =
+              λ k i.
+              record {
+                trip = z;
+                listed = h;
+                begun = omega arith;
+                inside = omega (arith, trip-length);
+              };
+          from = ap (λ s. s .station) (stop-there x (omega arith));
+          to = ap (λ s. s .station) (stop-there (x + n) g ∙ ap (stopAt w) e);
+          leaves = ap (λ s. s .depart) (stop-there x (omega arith));
+          comes = ap (λ s. s .arrive) (stop-there (x + n) g ∙ ap (stopAt w) e);
+          costs = ride-points x n (omega arith);
+        }
+
+  -- who boards at a stop and rides on takes a ride
+  pub ride-of : (i n : ℕ) → 1 ≤ n → Ridden w i n → RideOf w i n
+  ride-of i n o r =
+      let g = ridden-goes w i n o r in
+      let z = g .trip in
+      let x = i - startAt w z in
+      let b = g .begun in
+      let e : startAt w z + x ≡ i = omega arith in
+      let end = stays-inside n i z (g .listed) b (omega (arith, g .inside)) r in
+      record {
+        ride = rideAt (trip z (g .listed)) z x (x + n);
+        same =
+            subst
+            (λ j. SameRide w (rideAt (trip z (g .listed)) z x (x + n)) j n)
+            e
+            (ride-there z (g .listed) x n o (omega (arith, end, trip-length z (g .listed))));
+      }
+
+  -- each ride is taken so
+  pub stops-of : (r : Ride) → r ∈ (netOf w) .rides → StopsOf w r
+  stops-of r h =
+      let k = rides-out ((timetableOf w) .trips) r h in
+      let z = k .z in
+      let l = k .later in
+      let there : z < tripCount w = omega (arith, length-trips w, k .listed) in
+      let m = k .y - suc (k .x) in
+      let e : k .x + suc m ≡ k .y = omega arith in
+      record {
+        i = startAt w z + k .x;
+        m = m;
+        same =
+            subst
+            (λ r. SameRide w r (startAt w z + k .x) (suc m))
+            (ap (rideAt (trip z there) z (k .x)) e ∙ k .is)
+            (ride-there z there (k .x) (suc m) (omega arith) (omega (arith, k .inside)));
+      }
+
+  -- ---- changes
+  pub spelled-sound : Sound (netOf w)
+  spelled-sound = sound (timetableOf w) (subst T (sym (spelled-valid w yes)) tt)
+
+  change-there : (z : ℕ) → z < stationCount w → SameChange w (changeAt ((timetableOf w) .stations) z) (suc z)
+  change-there z h =
+      let e : z ≡ suc z - 1 = omega arith in
+      let s = station-is w z noStation h ∙ ap (stationAt w) e in
+      record {
+        listed = changes-in ((timetableOf w) .stations) z (omega (arith, length-stations w));
+        from = refl;
+        to = refl;
+        minutes = ap (λ s. s .minutes) s;
+        costs = ap (λ s. s .points) s;
+      }
+
+  pub change-of : (c : ℕ) → 1 ≤ c → c ≤ stationCount w → ChangeOf w c
+  change-of c h g =
+      let e : suc (c - 1) ≡ c = omega arith in
+      let x = changeAt ((timetableOf w) .stations) (c - 1) in
+      record { change = x; same = subst (SameChange w x) e (change-there (c - 1) (omega arith)) }
+
+  pub change-is : (x : Change) → x ∈ (netOf w) .changes → SameChange w x (x .from)
+  change-is x m =
+      let k = changes-out ((timetableOf w) .stations) x m in
+      let s = change-there (k .0) (omega (arith, length-stations w, k .1)) in
+      subst (λ x. SameChange w x (x .from)) (k .2) s
+
+  -- who came by a ride to stop j and changes by x can board at stop g
+  pub catches-of : (r : Ride) (x : Change) (j g : ℕ) → Changes (netOf w) r x → r .to ≡ station w j
+      → r .arrive ≡ arrive w j → Goes w g → station w g ≡ x .to → ready r x ≤ depart w g → Catches w j g
+  catches-of r x j g k to comes goes here timely =
+      let s = change-is x (k .listed) in
+      let at : x .from ≡ station w j = k .here ∙ to in
+      record {
+        goes = goes;
+        here = here ∙ s .to ∙ at;
+        timely = omega (arith, timely, comes, s .minutes, ap (changeMinutes w) at);
+      }
+
+  -- and pays what the station asks
+  pub change-costs : (r : Ride) (x : Change) (j : ℕ) → Changes (netOf w) r x → r .to ≡ station w j
+      → x .points ≡ changePoints w (station w j)
+  change-costs r x j k to = change-is x (k .listed) .costs ∙ ap (changePoints w) (k .here ∙ to)
