@@ -34,6 +34,7 @@ use Rattle.lines_lookup.specs.Lookup.{Line, stationAt, lowAt, arriveAt, departA
 use Rattle.lines_alone.specs.Drawn.{
   Home,
   homeOf,
+  pointsTold,
   nextPoints,
   stopOn,
   tripOn,
@@ -44,15 +45,19 @@ use Rattle.lines_alone.specs.Drawn.{
 use Rattle.lines_alone.proofs.CountLaws.{length-tripOn}
 
 -- ---- the penalty of one ride, by the low words of two totals
-module _ (v : List ℕ) (l : Line) (p : ℕ) where
-  pub no-next : l .positions ≤ p + 1 → 0 ≡ nextPoints v l p
-  unfolding nextPoints
+module _ (l : Line) (p here next : ℕ) where
+  pub no-next : l .positions ≤ p + 1 → 0 ≡ pointsTold l p here next
+  unfolding pointsTold
   no-next h = rw (le-ltb (p + 1) (l .positions) h)
 
-  pub next-told : p + 1 < l .positions → (here next : ℕ) → here ≡ lowAt v l p → next ≡ lowAt v l (p + 1)
-      → (65536 + next - here) % 65536 ≡ nextPoints v l p
-  unfolding nextPoints
-  next-told more here next is-here is-next = rw (lt-ltb (p + 1) (l .positions) more, is-here, is-next)
+  pub next-told : p + 1 < l .positions → (65536 + next - here) % 65536 ≡ pointsTold l p here next
+  unfolding pointsTold
+  next-told more = rw (lt-ltb (p + 1) (l .positions) more)
+
+pub next-is : (v : List ℕ) (l : Line) (p here next d : ℕ) → d ≡ pointsTold l p here next → here ≡ lowAt v l p
+    → next ≡ lowAt v l (p + 1) → d ≡ nextPoints v l p
+unfolding nextPoints
+next-is v l p here next d is is-here is-next = rw (is, is-here, is-next)
 
 -- the next words, behind the m that stand there
 put-behind : (at m : ℕ) (a b c old body out : List ℕ) → body ≡ put at a old → length a ≡ m → at + m ≤ length old

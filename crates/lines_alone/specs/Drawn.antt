@@ -45,11 +45,13 @@ homeOf v number =
     })
     noHome
 
--- the penalty of the ride from place p of a line to the next, and none from the last place: a penalty is less than a
--- word can say, so that the low words of both totals tell it
+-- the penalty of the ride from place p of a line to the next, by the low words of the totals at both: a penalty is less
+-- than a word can say, so that they tell it. There is none from the last place.
+unfoldable pub pointsTold : Line → (p here next : ℕ) → ℕ
+pointsTold l p here next = cond (ltb (p + 1) (l .positions)) ((65536 + next - here) % 65536) 0
+
 unfoldable pub nextPoints : List ℕ → Line → (p : ℕ) → ℕ
-nextPoints v l p =
-    cond (ltb (p + 1) (l .positions)) ((65536 + lowAt v l (p + 1) - lowAt v l p) % 65536) 0
+nextPoints v l p = pointsTold l p (lowAt v l p) (lowAt v l (p + 1))
 
 abbrev pub stopOn : List ℕ → Home → (p : ℕ) → Stop
 stopOn v h p =

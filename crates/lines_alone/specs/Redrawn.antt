@@ -32,6 +32,7 @@ use Rattle.lines_alone.specs.Drawn.{
   hasTrip,
   homeLine,
   homeOf,
+  pointsTold,
   nextPoints,
   stopOn,
   tripOn,
@@ -131,7 +132,7 @@ module _ (v : List ℕ) (t : List Trip) (i : ℕ) (l : List ℕ) (told : LineTol
 
   next-drawn : p + 1 < length (course t l) → (getD (course t l) p noStop) .points ≤ 100
       → nextPoints v (lineAt v i) p ≡ (getD (course t l) p noStop) .points
-  unfolding nextPoints
+  unfolding nextPoints pointsTold
   next-drawn h cheap =
       let here = told .low p (omega arith) in
       let next = told .low (p + 1) h ∙ ap (λ m. m % 65536) (next-total h) in
@@ -140,7 +141,7 @@ module _ (v : List ℕ) (t : List Trip) (i : ℕ) (l : List ℕ) (told : LineTol
       ∙ added (totalOn (course t l) p) ((getD (course t l) p noStop) .points) (omega arith))
 
   last-drawn : p + 1 ≡ length (course t l) → nextPoints v (lineAt v i) p ≡ 0
-  unfolding nextPoints
+  unfolding nextPoints pointsTold
   last-drawn h = rw (le-ltb (p + 1) ((lineAt v i) .positions) (omega (arith, told .positions)))
 
 module _ (v : List ℕ) (n : ℕ) (t : List Trip) (told : Told v n t) (z : ℕ) where
