@@ -30,12 +30,12 @@ use Rattle.timetable.specs.WordLaws.{
   start-first,
 }
 use Rattle.accepted.specs.OwnWords.{range-append}
-use Rattle.lines_lookup.specs.Lookup.{Line, stationAt, lowAt, arriveAt, departAt}
+use Rattle.lines_lookup.specs.Lookup.{stationAt, lowAt, arriveAt, departAt}
 use Rattle.lines_alone.specs.Drawn.{
   Home,
   homeOf,
-  pointsTold,
   nextPoints,
+  stopWith,
   stopOn,
   tripOn,
   drawnTrip,
@@ -43,21 +43,6 @@ use Rattle.lines_alone.specs.Drawn.{
   plainStation,
 }
 use Rattle.lines_alone.proofs.CountLaws.{length-tripOn}
-
--- ---- the penalty of one ride, by the low words of two totals
-module _ (l : Line) (p here next : ℕ) where
-  pub no-next : l .positions ≤ p + 1 → 0 ≡ pointsTold l p here next
-  unfolding pointsTold
-  no-next h = rw (le-ltb (p + 1) (l .positions) h)
-
-  pub next-told : p + 1 < l .positions → (65536 + next - here) % 65536 ≡ pointsTold l p here next
-  unfolding pointsTold
-  next-told more = rw (lt-ltb (p + 1) (l .positions) more)
-
-pub next-is : (v : List ℕ) (l : Line) (p here next d : ℕ) → d ≡ pointsTold l p here next → here ≡ lowAt v l p
-    → next ≡ lowAt v l (p + 1) → d ≡ nextPoints v l p
-unfolding nextPoints
-next-is v l p here next d is is-here is-next = rw (is, is-here, is-next)
 
 -- the next words, behind the m that stand there
 put-behind : (at m : ℕ) (a b c old body out : List ℕ) → body ≡ put at a old → length a ≡ m → at + m ≤ length old
@@ -94,25 +79,51 @@ module _ (n i : ℕ) (old body : List ℕ) (held : body ≡ put 0 (stationWords 
       held ∙ ap (λ k. put 0 (stationWords (replicate k plainStation)) old) all
 
 -- ---- the stops of a trip
+pub stop-drawn : (v : List ℕ) (h : Home) (p points at a b c : ℕ) (old out : List ℕ) → a ≡ stationAt v (h .line) p
+    → b ≡ arriveAt v (h .line) p (h .place) → c ≡ departAt v (h .line) p (h .place)
+    → out ≡ put at (a ∷ b ∷ c ∷ points ∷ []) old
+    → out ≡ put at (stopWords (stopWith v h p points ∷ [])) old
+unfolding stopWords
+stop-drawn v h p points at a b c old out is-a is-b is-c wrote =
+    wrote ∙ (λ z. put at (is-a z ∷ is-b z ∷ is-c z ∷ points ∷ []) old)
+
 module _ (v : List ℕ) (h : Home) (p at : ℕ) (old body : List ℕ)
-    (held : body ≡ put at (stopWords (map (stopOn v h) (range 0 p))) old) where
-  pub stop-more : p < (h .line) .positions → at + 4 * (h .line) .positions ≤ length old → (a b c d : ℕ)
-      → a ≡ stationAt v (h .line) p → b ≡ arriveAt v (h .line) p (h .place) → c ≡ departAt v (h .line) p (h .place)
-      → d ≡ nextPoints v (h .line) p → (out : List ℕ) → out ≡ put (at + 4 * p) (a ∷ b ∷ c ∷ d ∷ []) body
+    (held : body ≡ put at (stopWords (map (stopOn v h) (range 0 p))) old)
+    (room : at + 4 * (h .line) .positions ≤ length old) where
+  behind : p < (h .line) .positions → (d : ℕ) → d ≡ nextPoints v (h .line) p → (out : List ℕ)
+      → out ≡ put (at + 4 * p) (stopWords (stopWith v h p d ∷ [])) body
       → out ≡ put at (stopWords (map (stopOn v h) (range 0 (p + 1)))) old
-  unfolding stopWords
-  stop-more more room a b c d is-a is-b is-c is-d out wrote =
+  behind more d is-d out wrote =
       let so-far = map (stopOn v h) (range 0 p) in
       let long : length (stopWords so-far) ≡ 4 * p =
       length-stopWords so-far
       ∙ ap (λ k. 4 * k) (length-map (range 0 p) (stopOn v h) ∙ length-range 0 p) in
       put-behind at (4 * p) (stopWords so-far) (stopWords (stopOn v h p ∷ [])) _ old body out held long (omega arith)
-      (wrote ∙ (λ z. put (at + 4 * p) (is-a z ∷ is-b z ∷ is-c z ∷ is-d z ∷ []) body))
+      (wrote ∙ ap (λ d. put (at + 4 * p) (stopWords (stopWith v h p d ∷ [])) body) is-d)
       (sym (stopWords-append so-far (stopOn v h p ∷ [])) ∙ ap stopWords (map-next (stopOn v h) p))
 
-  pub stops-done : p ≤ (h .line) .positions → (h .line) .positions ≤ p → body ≡ put at (stopWords (tripOn v h)) old
+  -- the low words of two totals, one less the other
+  pub stop-more : p + 1 < (h .line) .positions → (here next d : ℕ) → here ≡ lowAt v (h .line) p
+      → next ≡ lowAt v (h .line) (p + 1) → d ≡ (65536 + next - here) % 65536 → (out : List ℕ)
+      → out ≡ put (at + 4 * p) (stopWords (stopWith v h p d ∷ [])) body
+      → out ≡ put at (stopWords (map (stopOn v h) (range 0 (p + 1)))) old
+  unfolding nextPoints
+  stop-more more here next d is-here is-next is-d =
+      behind (omega arith) d (rw (lt-ltb (p + 1) ((h .line) .positions) more, is-d, is-here, is-next))
+
+  -- the last stop, if there is one
+  pub last-stop : (h .line) .positions ≤ p + 1 → p < (h .line) .positions → (out : List ℕ)
+      → out ≡ put (at + 4 * p) (stopWords (stopWith v h p 0 ∷ [])) body
+      → out ≡ put at (stopWords (tripOn v h)) old
+  unfolding nextPoints tripOn
+  last-stop last more out wrote =
+      let all : p + 1 ≡ (h .line) .positions = omega arith in
+      behind more 0 (rw (le-ltb (p + 1) ((h .line) .positions) last)) out wrote
+      ∙ ap (λ k. put at (stopWords (map (stopOn v h) (range 0 k))) old) all
+
+  pub stops-none : p ≤ (h .line) .positions → (h .line) .positions ≤ p → body ≡ put at (stopWords (tripOn v h)) old
   unfolding tripOn
-  stops-done less least =
+  stops-none less least =
       let all : p ≡ (h .line) .positions = omega arith in
       held ∙ ap (λ k. put at (stopWords (map (stopOn v h) (range 0 k))) old) all
 

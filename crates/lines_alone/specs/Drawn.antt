@@ -45,22 +45,24 @@ homeOf v number =
     })
     noHome
 
--- the penalty of the ride from place p of a line to the next, by the low words of the totals at both: a penalty is less
--- than a word can say, so that they tell it. There is none from the last place.
-unfoldable pub pointsTold : Line → (p here next : ℕ) → ℕ
-pointsTold l p here next = cond (ltb (p + 1) (l .positions)) ((65536 + next - here) % 65536) 0
-
+-- the penalty of the ride from place p of a line to the next, and none from the last place: a penalty is less than a
+-- word can say, so that the low words of both totals tell it
 unfoldable pub nextPoints : List ℕ → Line → (p : ℕ) → ℕ
-nextPoints v l p = pointsTold l p (lowAt v l p) (lowAt v l (p + 1))
+nextPoints v l p =
+    cond (ltb (p + 1) (l .positions)) ((65536 + lowAt v l (p + 1) - lowAt v l p) % 65536) 0
 
-abbrev pub stopOn : List ℕ → Home → (p : ℕ) → Stop
-stopOn v h p =
+-- the stop at place p, from which the ride on costs so many points
+abbrev pub stopWith : List ℕ → Home → (p points : ℕ) → Stop
+stopWith v h p points =
     record {
       station = stationAt v (h .line) p;
       arrive = arriveAt v (h .line) p (h .place);
       depart = departAt v (h .line) p (h .place);
-      points = nextPoints v (h .line) p;
+      points = points;
     }
+
+abbrev pub stopOn : List ℕ → Home → (p : ℕ) → Stop
+stopOn v h p = stopWith v h p (nextPoints v (h .line) p)
 
 unfoldable pub tripOn : List ℕ → Home → Trip
 tripOn v h = map (stopOn v h) (range 0 ((h .line) .positions))

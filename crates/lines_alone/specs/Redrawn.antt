@@ -32,7 +32,6 @@ use Rattle.lines_alone.specs.Drawn.{
   hasTrip,
   homeLine,
   homeOf,
-  pointsTold,
   nextPoints,
   stopOn,
   tripOn,
@@ -132,7 +131,7 @@ module _ (v : List ℕ) (t : List Trip) (i : ℕ) (l : List ℕ) (told : LineTol
 
   next-drawn : p + 1 < length (course t l) → (getD (course t l) p noStop) .points ≤ 100
       → nextPoints v (lineAt v i) p ≡ (getD (course t l) p noStop) .points
-  unfolding nextPoints pointsTold
+  unfolding nextPoints
   next-drawn h cheap =
       let here = told .low p (omega arith) in
       let next = told .low (p + 1) h ∙ ap (λ m. m % 65536) (next-total h) in
@@ -141,7 +140,7 @@ module _ (v : List ℕ) (t : List Trip) (i : ℕ) (l : List ℕ) (told : LineTol
       ∙ added (totalOn (course t l) p) ((getD (course t l) p noStop) .points) (omega arith))
 
   last-drawn : p + 1 ≡ length (course t l) → nextPoints v (lineAt v i) p ≡ 0
-  unfolding nextPoints pointsTold
+  unfolding nextPoints
   last-drawn h = rw (le-ltb (p + 1) ((lineAt v i) .positions) (omega (arith, told .positions)))
 
 module _ (v : List ℕ) (n : ℕ) (t : List Trip) (told : Told v n t) (z : ℕ) where
