@@ -33,7 +33,7 @@ use Rattle.lines_lookup.specs.First.{firstTrip}
 use Rattle.lines_lookup.specs.Told.{Told}
 use Rattle.query_direct.specs.Bounds.{Bounds}
 use Rattle.query_direct.specs.Candidates.{firstRead, nearRead, allRead}
-use Rattle.query_direct.specs.Nearest.{Nearer, nearer-ride}
+use Rattle.query_direct.specs.Nearest.{Nearer, nearer-sooner, nearer-ride}
 use Rattle.query_direct.specs.Foremost.{placed}
 use Rattle.query_direct.specs.Reached.{first-trip-in, first-trip-out}
 use Rattle.query_direct.specs.ByLine.{
@@ -105,11 +105,7 @@ module _
 
     -- a nearer ride is no worse
     nearer-cost : (e r : Ride) → Nearer e r → NoWorse (cost u (direct e)) (cost u (direct r))
-    nearer-cost e r k =
-        elim (k .arrive) [
-          | inl same ↦ omega (arith, k .points, ap (λ r. r .arrive) same)
-          | inr less ↦ omega (arith, k .points)
-        ]
+    nearer-cost e r k = omega (arith, k .points, nearer-sooner e r k)
 
     -- a direct ride ends at a listed station
     direct-listed : (c : Connection) → c ∈ directs (net timetable) a u b → (1 ≤ b) × (b ≤ n)

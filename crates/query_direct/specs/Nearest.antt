@@ -1,6 +1,6 @@
 -- Of two rides from one stop of a trip, the one to the nearer stop leaves at the same minute, arrives earlier and costs
 -- no more.
-use mathlib.Core.Path.{_≡_, refl, sym, ap, subst}
+use mathlib.Core.Path.{_≡_, refl, ap}
 use mathlib.Core.Logic.{_⊎_, inl, inr}
 use mathlib.Core.List.{List, [], _∷_}
 use Prim.Native.Nat.{ℕ, zero, suc, _≤_, _<_}
@@ -23,6 +23,9 @@ pub record Nearer (e r : Ride) : Type 0 where
   pub alight : e .alight ≤ r .alight
   pub points : e .points ≤ r .points
   pub arrive : (e ≡ r) ⊎ (e .arrive < r .arrive)
+
+pub nearer-sooner : (e r : Ride) → Nearer e r → e .arrive ≤ r .arrive
+nearer-sooner e r k = elim (k .arrive) [ inl q ↦ omega (arith, ap (λ r. r .arrive) q) | inr h ↦ omega arith ]
 
 -- between its first and its last stop a trip waits for its departure
 waits-at : (n : ℕ) (b : Stop) (l : List Stop) → T (runs n b l) → (p : ℕ) → suc p < length l

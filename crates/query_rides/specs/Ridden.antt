@@ -22,7 +22,7 @@ use Rattle.lines_check.specs.Built.{begins-holds}
 use Rattle.query_direct.specs.Candidates.{rideOn, nearRead, allRead}
 use Rattle.query_direct.specs.Bounds.{Bounds}
 use Rattle.query_direct.specs.Nearest.{Nearer}
-use Rattle.query_direct.specs.Gathered.{all-read, near-all, all-near, all-bounds}
+use Rattle.query_direct.specs.Gathered.{all-read, near-all, all-near, near-bounds}
 use Rattle.query_rides.specs.declared.Cursor.{Cursor}
 use Rattle.query_rides.specs.Riding.{reachAt, rideOf, left, Good}
 
@@ -81,8 +81,8 @@ module _
     rides-near r k =
         all-near v (timetableOf w) told a u b some inside (spelled-valid w accepted) r (read-rides r .1 k)
 
-    pub read-bounds : (r : Ride) → r ∈ allRead v a u b → Bounds u r
-    read-bounds = all-bounds v (timetableOf w) told a u b some inside (spelled-valid w accepted)
+    pub read-bounds : (r : Ride) → r ∈ nearRead v a u b → Bounds u r
+    read-bounds = near-bounds v (timetableOf w) told a u b some inside (spelled-valid w accepted)
 
 -- the ride at which a cursor stands is left
 pub ride-left : (v : List ℕ) (u : ℕ) (c : Cursor) → Good v c → c .more ≡ true → rideOf v c ∈ left v u c

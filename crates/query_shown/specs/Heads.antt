@@ -21,7 +21,7 @@ use Rattle.connections.specs.Feasibility.{penalty-most}
 use Rattle.optimality.specs.Ways.{firstRide}
 use Rattle.optimality.specs.Greedy.{rideNumbers}
 use Rattle.query_minutes.specs.Minutes.{noPoints}
-use Rattle.query_direct.specs.Nearest.{Nearer}
+use Rattle.query_direct.specs.Nearest.{Nearer, nearer-sooner}
 use Rattle.query_shown.specs.Rests.{Rests, rest-earlier, begun, parted}
 use Rattle.query_shown.specs.Showing.{Fitting}
 use Rattle.query_shown.specs.Foremost.{foremost, foremost-cases, Leading}
@@ -48,10 +48,7 @@ headOf first z p rides = foremost (headKey first) noRide (filter (takeable z p) 
 
 -- ---- of two rides from one stop of a trip the nearer one
 module _ (e r : Ride) (k : Nearer e r) where
-  nearer-sooner : e .arrive ≤ r .arrive
-  nearer-sooner = elim (k .arrive) [ inl q ↦ omega (arith, ap (λ r. r .arrive) q) | inr h ↦ omega arith ]
-
-  -- comes no later
+  -- it comes no later
   nearer-first : (first : Bool) → ¬ T (before (headKey first r) (headKey first e))
   nearer-first first t =
       let late : lateness first (r .depart) ≡ lateness first (e .depart) = ap (lateness first) (sym (k .depart)) in
