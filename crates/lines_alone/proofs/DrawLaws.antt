@@ -101,7 +101,8 @@ module _ (v : List ℕ) (h : Home) where
   unfolding nextPoints
   last-same p last = rw (le-ltb (p + 1) ((h .line) .positions) last)
 
-  onward-all : (k n : ℕ) → k + n < (h .line) .positions → map (stopOnward v h) (range k n) ≡ map (stopOn v h) (range k n)
+  onward-all : (k n : ℕ) → k + n < (h .line) .positions
+      → map (stopOnward v h) (range k n) ≡ map (stopOn v h) (range k n)
   onward-all k zero less = refl
   onward-all k (suc n) less =
       let this = onward-same k (omega arith) in

@@ -189,7 +189,7 @@ module _ (v : List ℕ) (g : Boarding) (within : Within v g) (first : ℕ) (best
         rw (reach-next v l c k end more inside d is-d h, append-nil)
         (e
         ∙ ap
-        (λ p. keepAll best kept (tripsFrom v (g .line) (g .call .place) first (record { place = d .place; points = p })))
+        (λ p. keepAll best kept (tripsFrom v l (c .place) first (record { place = d .place; points = p })))
         is-points)
 
 -- ---- from call to call

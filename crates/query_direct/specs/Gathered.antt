@@ -130,7 +130,8 @@ module _
         let g = getD (lineOf t i) j 0 in
         let member = within (lineOf t i) j 0 (k .runs) in
         let long = line-length t (lineOf t i) g (line-good t i (k .listed)) member in
-        let on-line : OnLine t g = record { line = lineOf t i; listed = line-listed t i (k .listed); member = member } in
+        let line = line-listed t i (k .listed) in
+        let on-line : OnLine t g = record { line = lineOf t i; listed = line; member = member } in
         nearer-ride timetable is-valid g (trip-listed t g on-line) x z y later nearer (omega (arith, k .pair .inside))
 
     -- each first ride of a line has one of these that is no worse
@@ -311,7 +312,8 @@ module _
         go (c ∷ l) h e = none (subst (λ k. c ∈ k) e (near-whole c (rw h (here refl))))
 
     -- and the first rides have their costs
-    pub read-costs : costs (measure u) (map direct (firstRead v a u b)) ≡ costs (measure u) (map direct (nearRead v a u b))
+    pub read-costs : costs (measure u) (map direct (firstRead v a u b))
+        ≡ costs (measure u) (map direct (nearRead v a u b))
     read-costs =
         costs-covered (measure u) (firstRides t a u b) (map direct (firstRead v a u b)) first-to first-back
         ∙ direct-costs timetable a u b

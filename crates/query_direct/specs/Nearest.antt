@@ -52,7 +52,8 @@ module _ (timetable : Timetable) (okay : T (valid timetable)) (k : ℕ) (listed 
     sooner h =
         let n = length (timetable .stations) in
         let is-valid = valid-trip n (timetable .trips) (trips-valid timetable okay) k listed in
-        let on = sound timetable okay .forward (rideAt trip k z y) (rides-in (timetable .trips) k z y listed h inside) in
+        let listed-ride = rides-in (timetable .trips) k z y listed h inside in
+        let on = sound timetable okay .forward (rideAt trip k z y) listed-ride in
         omega (arith, on, trip-waits n trip is-valid x z later (omega arith))
 
     pub nearer-ride : Nearer (rideAt trip k x z) (rideAt trip k x y)

@@ -191,17 +191,17 @@ pub fn next_nearest(v: &[u16], minute: usize, c: Cursor) -> Cursor
     let g = c.boarding;
     let calls = c.calls;
     let here = c.to;
-    if c.j + 1 < g.line.trips {
-        return Cursor {
-            more: true,
-            calls,
-            boarding: g,
-            first: c.first,
-            to: here,
-            j: c.j + 1,
-        };
+    if g.line.trips <= c.j + 1 {
+        return seek_call(v, minute, calls, g.rest);
     }
-    seek_call(v, minute, calls, g.rest)
+    Cursor {
+        more: true,
+        calls,
+        boarding: g,
+        first: c.first,
+        to: here,
+        j: c.j + 1,
+    }
 }
 
 // The ride at which c stands.

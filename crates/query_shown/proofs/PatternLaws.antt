@@ -192,8 +192,8 @@ module _ (w lines path : List ℕ) (r v : ℕ) (given : Given w lines path r v) 
             let told = near-rides w lines x y (minute + cm) accepted (given .own) first inside in
             let near = rides-near w lines x y (minute + cm) accepted (given .own) first inside in
             let t = timetableOf w in
-            rests-before t (is-valid w accepted) b v minute q x y (c .change) (c .listed) (c .at) (rides cm) told near z s
-            (omega (arith, given .timely))
+            rests-before t (is-valid w accepted) b v minute q x y (c .change) (c .listed) (c .at) (rides cm) told near
+            z s (omega (arith, given .timely))
 
         is : new ≡ after (c .change .minutes) (c .change .points)
         is = is-new ∙ (λ i. after (sym (c .minutes) i) (sym (c .points) i))

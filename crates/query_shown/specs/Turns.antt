@@ -63,7 +63,8 @@ catches-more cm cp old z r l = go (catchable cm old r) refl
     go true e = rw e
     go false e = rw e
 
--- z once the rides from the station before station j of a path to the nearest places of station j are noted, old being what is left there
+-- z once the rides from the station before station j of a path to the nearest places of station j are noted, old being
+-- what is left there
 unfoldable pub gatherBack : (w lines : List ℕ) (minute : ℕ) (path : List ℕ) (j : ℕ) (old z : List ℕ) → List ℕ
 gatherBack w lines minute path j old z =
     let x = getD path (j - 1) 0 in

@@ -11,6 +11,6 @@ next-nearest-spec =
     (tie.spec
     (λ c. search needs)
     (λ c. search needs)
-    (λ c. (search near-trip, search trip-good))
+    (λ c. (search near-call, search needs))
     (λ c. search needs)
-    (λ c. (search near-call, search needs)))
+    (λ c. (search near-trip, search trip-good)))
