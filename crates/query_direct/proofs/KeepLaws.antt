@@ -17,7 +17,7 @@ use Rattle.connections.specs.Rides.{Ride}
 use Rattle.lines_lookup.specs.Lookup.{Line, numberAt, pointsBetween, arriveAt, departAt}
 use Rattle.lines_lookup.specs.Calls.{Call, Piece, Boarding, callAt, callsOf, callsIn, BoardsAt, Within}
 use Rattle.lines_lookup.specs.First.{firstTrip}
-use Rattle.query_direct.specs.Candidates.{Reach, reachOf, reachBy, nearest, legs, rideOn, nearLeg, nearRead}
+use Rattle.query_direct.specs.Candidates.{Reach, reachBy, nearest, legs, rideOn, nearLeg, nearRead}
 use Rattle.query_direct.specs.Choosing.{Found, noFound, goesBefore}
 use Rattle.query_direct.specs.Keeping.{
   keptAt,

@@ -11,7 +11,6 @@ use lib.ListN.{length, getD}
 use Rattle.lists.specs.Tests.{T-right, reads}
 use Rattle.timetable.specs.Timetable.{Stop, Trip, Timetable, runs, validTrip, valid}
 use Rattle.connections.specs.Rides.{Ride, noStop, rideAt}
-use Rattle.connections.specs.Connections.{net}
 use Rattle.connections.specs.RideLaws.{rides-in, points-split}
 use Rattle.connections.specs.Sound.{sound, trips-valid, valid-trip}
 

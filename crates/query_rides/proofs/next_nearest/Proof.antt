@@ -1,5 +1,4 @@
 -- A trip left, else a call left: each time what is left is the ride and what is left of the new cursor.
-use mathlib.Core.Path.{refl}
 use borrow.Author.Needs.{needs}
 use Rattle.query_rides.proofs.CursorLaws.{near-trip, trip-good, near-call}
 use Rattle.query_rides.proofs.next_nearest.Statement.{statement}
