@@ -1,7 +1,7 @@
 -- The loops that write stations, stops and starts: each turn puts the next words after those that stand there.
-use mathlib.Core.Path.{_≡_, sym, ap, _∙_}
-use mathlib.Core.List.{List, [], _∷_, _++_, map, map-append, append-nil}
-use Prim.Native.Nat.{ℕ, _+_, _-_, _*_, _%_, _≤_, _<_}
+use mathlib.Core.Path.{_≡_, refl, sym, ap, _∙_}
+use mathlib.Core.List.{List, [], _∷_, _++_, map, map-append, append-nil, append-assoc}
+use Prim.Native.Nat.{ℕ, zero, suc, _+_, _-_, _*_, _%_, _≤_, _<_}
 use native.Mathlib.Nat.{zero-add}
 use native.Mathlib.Omega.{arith}
 use borrow.Author.Tests.{lt-ltb, le-ltb}
@@ -14,10 +14,11 @@ use lib.ListN.{
   length-replicate,
   replicate-append-replicate,
 }
-use Rattle.words.specs.Put.{put, put-append, put-one, put-next, put-over}
+use lib.Seq.{set-set}
+use Rattle.words.specs.Put.{put, put-append, put-more, put-one, put-next, put-over}
 use Rattle.lists.specs.Lists.{range}
 use Rattle.lists.specs.Ranges.{length-range}
-use Rattle.timetable.specs.Timetable.{Trip, stopsOf}
+use Rattle.timetable.specs.Timetable.{Stop, Trip, stopsOf}
 use Rattle.timetable.specs.Words.{stationWords, stopWords, startWords}
 use Rattle.timetable.specs.WordLaws.{
   length-stationWords,
@@ -30,11 +31,12 @@ use Rattle.timetable.specs.WordLaws.{
   start-first,
 }
 use Rattle.accepted.specs.OwnWords.{range-append}
-use Rattle.lines_lookup.specs.Lookup.{Line, stationAt, lowAt, arriveAt, departAt}
+use Rattle.lines_lookup.specs.Lookup.{stationAt, lowAt, arriveAt, departAt}
 use Rattle.lines_alone.specs.Drawn.{
   Home,
   homeOf,
   nextPoints,
+  stopWith,
   stopOn,
   tripOn,
   drawnTrip,
@@ -42,17 +44,6 @@ use Rattle.lines_alone.specs.Drawn.{
   plainStation,
 }
 use Rattle.lines_alone.proofs.CountLaws.{length-tripOn}
-
--- ---- the penalty of one ride, by the low words of two totals
-module _ (v : List ℕ) (l : Line) (p : ℕ) where
-  pub no-next : l .positions ≤ p + 1 → 0 ≡ nextPoints v l p
-  unfolding nextPoints
-  no-next h = rw (le-ltb (p + 1) (l .positions) h)
-
-  pub next-told : p + 1 < l .positions → (here next : ℕ) → here ≡ lowAt v l p → next ≡ lowAt v l (p + 1)
-      → (65536 + next - here) % 65536 ≡ nextPoints v l p
-  unfolding nextPoints
-  next-told more here next is-here is-next = rw (lt-ltb (p + 1) (l .positions) more, is-here, is-next)
 
 -- the next words, behind the m that stand there
 put-behind : (at m : ℕ) (a b c old body out : List ℕ) → body ≡ put at a old → length a ≡ m → at + m ≤ length old
@@ -89,27 +80,111 @@ module _ (n i : ℕ) (old body : List ℕ) (held : body ≡ put 0 (stationWords 
       held ∙ ap (λ k. put 0 (stationWords (replicate k plainStation)) old) all
 
 -- ---- the stops of a trip
-module _ (v : List ℕ) (h : Home) (p at : ℕ) (old body : List ℕ)
-    (held : body ≡ put at (stopWords (map (stopOn v h) (range 0 p))) old) where
-  pub stop-more : p < (h .line) .positions → at + 4 * (h .line) .positions ≤ length old → (a b c d : ℕ)
-      → a ≡ stationAt v (h .line) p → b ≡ arriveAt v (h .line) p (h .place) → c ≡ departAt v (h .line) p (h .place)
-      → d ≡ nextPoints v (h .line) p → (out : List ℕ) → out ≡ put (at + 4 * p) (a ∷ b ∷ c ∷ d ∷ []) body
-      → out ≡ put at (stopWords (map (stopOn v h) (range 0 (p + 1)))) old
-  unfolding stopWords
-  stop-more more room a b c d is-a is-b is-c is-d out wrote =
-      let so-far = map (stopOn v h) (range 0 p) in
-      let long : length (stopWords so-far) ≡ 4 * p =
-      length-stopWords so-far
-      ∙ ap (λ k. 4 * k) (length-map (range 0 p) (stopOn v h) ∙ length-range 0 p) in
-      put-behind at (4 * p) (stopWords so-far) (stopWords (stopOn v h p ∷ [])) _ old body out held long (omega arith)
-      (wrote ∙ (λ z. put (at + 4 * p) (is-a z ∷ is-b z ∷ is-c z ∷ is-d z ∷ []) body))
-      (sym (stopWords-append so-far (stopOn v h p ∷ [])) ∙ ap stopWords (map-next (stopOn v h) p))
+pub stop-drawn : (v : List ℕ) (h : Home) (p points at a b c : ℕ) (old out : List ℕ) → a ≡ stationAt v (h .line) p
+    → b ≡ arriveAt v (h .line) p (h .place) → c ≡ departAt v (h .line) p (h .place)
+    → out ≡ put at (a ∷ b ∷ c ∷ points ∷ []) old
+    → out ≡ put at (stopWords (stopWith v h p points ∷ [])) old
+unfolding stopWords
+stop-drawn v h p points at a b c old out is-a is-b is-c wrote =
+    wrote ∙ (λ z. put at (is-a z ∷ is-b z ∷ is-c z ∷ points ∷ []) old)
 
-  pub stops-done : p ≤ (h .line) .positions → (h .line) .positions ≤ p → body ≡ put at (stopWords (tripOn v h)) old
+-- the stop at place p, as if a ride went on from it
+abbrev pub stopOnward : List ℕ → Home → (p : ℕ) → Stop
+stopOnward v h p = stopWith v h p ((65536 + lowAt v (h .line) (p + 1) - lowAt v (h .line) p) % 65536)
+
+module _ (v : List ℕ) (h : Home) where
+  onward-same : (p : ℕ) → p + 1 < (h .line) .positions → stopOnward v h p ≡ stopOn v h p
+  unfolding nextPoints
+  onward-same p more = rw (lt-ltb (p + 1) ((h .line) .positions) more)
+
+  last-same : (p : ℕ) → (h .line) .positions ≤ p + 1 → stopWith v h p 0 ≡ stopOn v h p
+  unfolding nextPoints
+  last-same p last = rw (le-ltb (p + 1) ((h .line) .positions) last)
+
+  onward-all : (k n : ℕ) → k + n < (h .line) .positions
+      → map (stopOnward v h) (range k n) ≡ map (stopOn v h) (range k n)
+  onward-all k zero less = refl
+  onward-all k (suc n) less =
+      let this = onward-same k (omega arith) in
+      let rest = onward-all (suc k) n (omega arith) in
+      λ i. this i ∷ rest i
+
+module _ (v : List ℕ) (h : Home) (p at : ℕ) (old body : List ℕ)
+    (held : body ≡ put at (stopWords (map (stopOnward v h) (range 0 p))) old)
+    (room : at + 4 * (h .line) .positions ≤ length old) where
+  words-long : (n : ℕ) → length (stopWords (map (stopOnward v h) (range 0 n))) ≡ 4 * n
+  words-long n =
+      let those = map (stopOnward v h) (range 0 n) in
+      length-stopWords those
+      ∙ ap (λ k. 4 * k) (length-map (range 0 n) (stopOnward v h) ∙ length-range 0 n)
+
+  -- the low words of two totals, one less the other
+  pub stop-more : p < (h .line) .positions → (here next d : ℕ) → here ≡ lowAt v (h .line) p
+      → next ≡ lowAt v (h .line) (p + 1) → d ≡ (65536 + next - here) % 65536 → (out : List ℕ)
+      → out ≡ put (at + 4 * p) (stopWords (stopWith v h p d ∷ [])) body
+      → out ≡ put at (stopWords (map (stopOnward v h) (range 0 (p + 1)))) old
+  stop-more more here next d is-here is-next is-d out wrote =
+      let so-far = map (stopOnward v h) (range 0 p) in
+      let points = is-d ∙ (λ i. (65536 + is-next i - is-here i) % 65536) in
+      put-behind at (4 * p) (stopWords so-far) (stopWords (stopOnward v h p ∷ [])) _ old body out held (words-long p)
+      (omega arith)
+      (wrote ∙ ap (λ d. put (at + 4 * p) (stopWords (stopWith v h p d ∷ [])) body) points)
+      (sym (stopWords-append so-far (stopOnward v h p ∷ [])) ∙ ap stopWords (map-next (stopOnward v h) p))
+
+  pub stops-none : p ≤ 0 → p ≤ (h .line) .positions → (h .line) .positions ≤ p
+      → body ≡ put at (stopWords (tripOn v h)) old
   unfolding tripOn
-  stops-done less least =
-      let all : p ≡ (h .line) .positions = omega arith in
-      held ∙ ap (λ k. put at (stopWords (map (stopOn v h) (range 0 k))) old) all
+  stops-none none less least =
+      let no-stops : 0 ≡ p = omega arith in
+      let all : 0 ≡ (h .line) .positions = omega arith in
+      held
+      ∙ ap (λ k. put at (stopWords (map (stopOnward v h) (range 0 k))) old) (sym no-stops)
+      ∙ ap (λ k. put at (stopWords (map (stopOn v h) (range 0 k))) old) all
+
+  -- no ride goes on from the last stop
+  module _ (some : 0 < p) (less : p ≤ (h .line) .positions) (least : (h .line) .positions ≤ p) where
+    abbrev m : ℕ
+    m = p - 1
+
+    abbrev before : List Stop
+    before = map (stopOnward v h) (range 0 m)
+
+    -- all words but the last
+    abbrev but-last : List ℕ
+    but-last =
+        stopWords before
+        ++ (stationAt v (h .line) m ∷ arriveAt v (h .line) m (h .place) ∷ departAt v (h .line) m (h .place) ∷ [])
+
+    next-is : m + 1 ≡ p
+    next-is = omega arith
+
+    with-last : (d : ℕ) → but-last ++ (d ∷ []) ≡ stopWords (before ++ (stopWith v h m d ∷ []))
+    unfolding stopWords
+    with-last d = append-assoc (stopWords before) _ (d ∷ []) ∙ sym (stopWords-append before (stopWith v h m d ∷ []))
+
+    last-set : (d : ℕ)
+        → set (put at but-last old) (at + (4 * m + 3)) d ≡ put at (stopWords (before ++ (stopWith v h m d ∷ []))) old
+    last-set d =
+        let long : length but-last ≡ 4 * m + 3 = length-append (stopWords before) _ ∙ ap (λ k. k + 3) (words-long m) in
+        put-more at (4 * m + 3) but-last old d long (omega arith) ∙ ap (λ w. put at w old) (with-last d)
+
+    pub last-stop : set body (at + 4 * p - 1) 0 ≡ put at (stopWords (tripOn v h)) old
+    unfolding tripOn
+    last-stop =
+        let place : at + 4 * p - 1 ≡ at + (4 * m + 3) = omega arith in
+        let ends : m + 1 ≡ (h .line) .positions = omega arith in
+        let points = (65536 + lowAt v (h .line) (m + 1) - lowAt v (h .line) m) % 65536 in
+        let all = ap (λ k. map (stopOnward v h) (range 0 k)) (sym next-is) ∙ sym (map-next (stopOnward v h) m) in
+        let same : before ++ (stopWith v h m 0 ∷ []) ≡ map (stopOn v h) (range 0 ((h .line) .positions)) =
+        (λ i. onward-all v h 0 m (omega arith) i ++ (last-same v h m (omega arith) i ∷ []))
+        ∙ map-next (stopOn v h) m
+        ∙ ap (λ k. map (stopOn v h) (range 0 k)) ends in
+        ap (λ i. set body i 0) place
+        ∙ ap (λ l. set l (at + (4 * m + 3)) 0)
+        (held ∙ ap (λ l. put at (stopWords l) old) all ∙ sym (last-set points))
+        ∙ set-set (put at but-last old) (at + (4 * m + 3)) points 0
+        ∙ last-set 0
+        ∙ ap (λ l. put at (stopWords l) old) same
 
 -- ---- all trips
 -- the first start is written before the trips are, and is part of what is written in all

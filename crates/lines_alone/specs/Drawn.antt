@@ -51,14 +51,18 @@ unfoldable pub nextPoints : List ℕ → Line → (p : ℕ) → ℕ
 nextPoints v l p =
     cond (ltb (p + 1) (l .positions)) ((65536 + lowAt v l (p + 1) - lowAt v l p) % 65536) 0
 
-abbrev pub stopOn : List ℕ → Home → (p : ℕ) → Stop
-stopOn v h p =
+-- the stop at place p, from which the ride on costs so many points
+abbrev pub stopWith : List ℕ → Home → (p points : ℕ) → Stop
+stopWith v h p points =
     record {
       station = stationAt v (h .line) p;
       arrive = arriveAt v (h .line) p (h .place);
       depart = departAt v (h .line) p (h .place);
-      points = nextPoints v (h .line) p;
+      points = points;
     }
+
+abbrev pub stopOn : List ℕ → Home → (p : ℕ) → Stop
+stopOn v h p = stopWith v h p (nextPoints v (h .line) p)
 
 unfoldable pub tripOn : List ℕ → Home → Trip
 tripOn v h = map (stopOn v h) (range 0 ((h .line) .positions))

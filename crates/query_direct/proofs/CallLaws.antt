@@ -13,7 +13,7 @@ use Rattle.lines_lookup.specs.First.{firstFrom, firstTrip}
 use Rattle.lines_lookup.specs.Calls.{Piece, Boarding, callsOf, callsIn, BoardsAt}
 use Rattle.lines_lookup.proofs.FirstLaws.{none-left, found, goes-on}
 use Rattle.lines_lookup.proofs.LookupLaws.{pairs-more, pairs-none}
-use Rattle.query_direct.specs.Candidates.{reachBy, legOf, legs, rideOn, firstOn, firstLeg, firstRead}
+use Rattle.query_direct.specs.Candidates.{reachBy, nearest, legOf, legs, rideOn, firstOn, firstLeg, firstRead}
 use Rattle.query_minutes.specs.Minutes.{noteAll}
 use Rattle.query_direct.specs.Turns.{firstCalls}
 use Rattle.query_direct.proofs.ReachLaws.{from}
@@ -79,7 +79,7 @@ module _ (v : List ℕ) (a u b : ℕ) (old : List ℕ) where
         f = firstTrip v (g .line) (g .call .place) u
 
         next : noteAll old (firstRead v a u b)
-            ≡ noteAll (noteAll best (firstOn v u (g .line) (g .call .place) (reachBy v g)))
+            ≡ noteAll (noteAll best (firstOn v u (g .line) (g .call .place) (nearest (reachBy v g))))
             (firstCalls v u (callsIn v (from (k + 2) end)) (callsIn v (g .rest)))
         unfolding firstCalls
         next =
@@ -96,7 +96,7 @@ module _ (v : List ℕ) (a u b : ℕ) (old : List ℕ) where
         no-trip h = rw (le-ltb f (g .line .trips) (omega (arith, is-first))) at next
 
         pub some-trip : first < g .line .trips → (end′ : List ℕ)
-            → end′ ≡ noteAll best (map (rideOn v (g .line) (g .call .place) first) (reachBy v g))
+            → end′ ≡ noteAll best (map (rideOn v (g .line) (g .call .place) first) (nearest (reachBy v g)))
             → noteAll old (firstRead v a u b)
             ≡ noteAll end′ (firstCalls v u (callsIn v (from (k + 2) end)) (callsIn v (g .rest)))
         some-trip h end′ e = rw (e, is-first) (rw (lt-ltb f (g .line .trips) (omega (arith, is-first))) at next)

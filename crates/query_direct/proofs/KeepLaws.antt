@@ -2,7 +2,7 @@
 -- call.
 use mathlib.Core.Path.{_≡_, refl, sym, ap, _∙_}
 use mathlib.Core.Bool.{Bool, true, false}
-use mathlib.Core.List.{List, [], _∷_, _++_, map}
+use mathlib.Core.List.{List, [], _∷_, _++_, map, append-nil}
 use Prim.Native.Nat.{ℕ, _+_, _*_, _≤_, _<_}
 use native.Mathlib.Omega.{arith}
 use native.Mathlib.Decide.{ℕ-discrete}
@@ -15,9 +15,9 @@ use Rattle.lists.specs.Ranges.{range-more, range-none}
 use Rattle.results.specs.declared.Points.{Points}
 use Rattle.connections.specs.Rides.{Ride}
 use Rattle.lines_lookup.specs.Lookup.{Line, numberAt, pointsBetween, arriveAt, departAt}
-use Rattle.lines_lookup.specs.Calls.{Call, Piece, Boarding, callAt, callsOf, callsIn, BoardsAt}
+use Rattle.lines_lookup.specs.Calls.{Call, Piece, Boarding, callAt, callsOf, callsIn, BoardsAt, Within}
 use Rattle.lines_lookup.specs.First.{firstTrip}
-use Rattle.query_direct.specs.Candidates.{Reach, reachOf, reachBy, legs, rideOn, allLeg, allRead}
+use Rattle.query_direct.specs.Candidates.{Reach, reachBy, nearest, legs, rideOn, nearLeg, nearRead}
 use Rattle.query_direct.specs.Choosing.{Found, noFound, goesBefore}
 use Rattle.query_direct.specs.Keeping.{
   keptAt,
@@ -29,7 +29,7 @@ use Rattle.query_direct.specs.Keeping.{
   put-here,
   put-elsewhere,
 }
-use Rattle.query_direct.specs.Turns.{tripsFrom, allCalls}
+use Rattle.query_direct.specs.Turns.{tripsFrom, nearCalls}
 use Rattle.query_direct.proofs.ReachLaws.{from, reach-none, reach-other, reach-next}
 use Rattle.query_direct.proofs.CallLaws.{legs-none, legs-more}
 
@@ -138,70 +138,83 @@ module _ (v : List ℕ) (l : Line) (x p j points : ℕ) (best kept old : List �
   trips-done h =
       sym (so-far ∙ ap (λ js. keepAll best kept (map (λ i. rideOn v l x i to-place) js)) (range-none j (l .trips) h))
 
--- ---- from place to place
-module _ (v : List ℕ) (l : Line) (c : Call) (first k end : ℕ) (best kept old : List ℕ) (all : List Reach)
-    (so-far : keepAll best old (concatMap (tripsFrom v l (c .place) first) all)
-    ≡ keepAll best kept (concatMap (tripsFrom v l (c .place) first) (reachOf v l c (callsIn v (from k end))))) where
-  done : reachOf v l c (callsIn v (from k end)) ≡ []
-      → kept ≡ keepAll best old (concatMap (tripsFrom v l (c .place) first) all)
-  unfolding keepAll
-  done e = sym (so-far ∙ ap (λ r. keepAll best kept (concatMap (tripsFrom v l (c .place) first) r)) e)
+-- ---- to the nearest place
+module _ (v : List ℕ) (g : Boarding) (within : Within v g) (first : ℕ) (best kept : List ℕ) where
+  abbrev l : Line
+  l = g .line
 
-  pub places-done : end ≤ k + 1 → kept ≡ keepAll best old (concatMap (tripsFrom v l (c .place) first) all)
-  places-done h = done (reach-none v l c k end h)
+  abbrev c : Call
+  c = g .call
 
-  module _ (more : k + 1 < end) (inside : end ≤ length v) (d : Call) (is-d : d ≡ callAt v k) where
-    pub places-other : (d .line ≡ c .line → ⊥)
-        → kept ≡ keepAll best old (concatMap (tripsFrom v l (c .place) first) all)
-    places-other h = done (reach-other v l c k end more inside d is-d h)
+  abbrev k : ℕ
+  k = g .rest .from
 
-    pub places-more : d .line ≡ c .line
-        → (points : Points) → points .0 ≡ pointsBetween v l (c .place) (d .place)
+  abbrev end : ℕ
+  end = g .rest .end
+
+  abbrev near : List Ride
+  near = concatMap (tripsFrom v l (c .place) first) (nearest (reachBy v g))
+
+  nothing : reachBy v g ≡ [] → kept ≡ keepAll best kept near
+  unfolding keepAll nearest
+  nothing e = rw e
+
+  pub nearest-none : g .rest .end ≤ g .rest .from + 1
+      → kept
+      ≡ keepAll best kept
+      (concatMap (tripsFrom v (g .line) (g .call .place) first) (nearest (reachBy v g)))
+  nearest-none h = nothing (reach-none v l c k end h)
+
+  module _ (more : g .rest .from + 1 < g .rest .end) (d : Call) (is-d : d ≡ callAt v (g .rest .from)) where
+    abbrev inside : g .rest .end ≤ length v
+    inside = within .rest-inside .end-inside
+
+    pub nearest-other : (d .line ≡ g .call .line → ⊥)
+        → kept
+        ≡ keepAll best kept
+        (concatMap (tripsFrom v (g .line) (g .call .place) first) (nearest (reachBy v g)))
+    nearest-other h = nothing (reach-other v l c k end more inside d is-d h)
+
+    pub nearest-kept : d .line ≡ g .call .line
+        → (points : Points) → points .0 ≡ pointsBetween v (g .line) (g .call .place) (d .place)
         → (next : List ℕ)
         → next
         ≡ keepAll best kept
-        (tripsFrom v l (c .place) first (record { place = d .place; points = points .0 }))
-        → keepAll best old (concatMap (tripsFrom v l (c .place) first) all)
-        ≡ keepAll best next
-        (concatMap (tripsFrom v l (c .place) first) (reachOf v l c (callsIn v (from (k + 2) end))))
-    places-more h points is-points next e =
-        let one : Reach = record { place = d .place; points = pointsBetween v l (c .place) (d .place) } in
-        let rest = reachOf v l c (callsIn v (from (k + 2) end)) in
-        so-far
-        ∙ ap (λ r. keepAll best kept (concatMap (tripsFrom v l (c .place) first) r))
-        (reach-next v l c k end more inside d is-d h)
-        ∙ keepAll-append best kept (tripsFrom v l (c .place) first one)
-        (concatMap (tripsFrom v l (c .place) first) rest)
-        ∙ ap (λ n. keepAll best n (concatMap (tripsFrom v l (c .place) first) rest))
-        (sym
+        (tripsFrom v (g .line) (g .call .place) first (record { place = d .place; points = points .0 }))
+        → next
+        ≡ keepAll best kept
+        (concatMap (tripsFrom v (g .line) (g .call .place) first) (nearest (reachBy v g)))
+    unfolding nearest
+    nearest-kept h points is-points next e =
+        rw (reach-next v l c k end more inside d is-d h, append-nil)
         (e
         ∙ ap
         (λ p. keepAll best kept (tripsFrom v l (c .place) first (record { place = d .place; points = p })))
-        is-points))
+        is-points)
 
 -- ---- from call to call
 module _ (v : List ℕ) (a u b : ℕ) (best old : List ℕ) where
   pub all-begins : (list rest : Piece) → callsIn v list ≡ callsOf v a → callsIn v rest ≡ callsOf v b
-      → keepAll best old (allRead v a u b) ≡ keepAll best old (allCalls v u (callsIn v list) (callsIn v rest))
-  unfolding allRead allCalls
+      → keepAll best old (nearRead v a u b) ≡ keepAll best old (nearCalls v u (callsIn v list) (callsIn v rest))
+  unfolding nearRead nearCalls
   all-begins list rest e f = rw (e, f)
 
   module _ (kept : List ℕ) (k end : ℕ) (rest : Piece)
-      (so-far : keepAll best old (allRead v a u b)
-      ≡ keepAll best kept (allCalls v u (callsIn v (from k end)) (callsIn v rest))) where
-    pub all-done : end ≤ k + 1 → kept ≡ keepAll best old (allRead v a u b)
-    unfolding keepAll allCalls
-    all-done h = sym (so-far ∙ ap (λ g. keepAll best kept (concatMap (allLeg v u) g)) (legs-none v u k end rest h))
+      (so-far : keepAll best old (nearRead v a u b)
+      ≡ keepAll best kept (nearCalls v u (callsIn v (from k end)) (callsIn v rest))) where
+    pub all-done : end ≤ k + 1 → kept ≡ keepAll best old (nearRead v a u b)
+    unfolding keepAll nearCalls
+    all-done h = sym (so-far ∙ ap (λ g. keepAll best kept (concatMap (nearLeg v u) g)) (legs-none v u k end rest h))
 
     pub all-more : k + 1 < end → end ≤ length v → (g : Boarding) → BoardsAt v k rest g
         → (first : ℕ) → first ≡ firstTrip v (g .line) (g .call .place) u → (next : List ℕ)
-        → next ≡ keepAll best kept (concatMap (tripsFrom v (g .line) (g .call .place) first) (reachBy v g))
-        → keepAll best old (allRead v a u b)
-        ≡ keepAll best next (allCalls v u (callsIn v (from (k + 2) end)) (callsIn v (g .rest)))
-    unfolding allCalls
+        → next ≡ keepAll best kept (concatMap (tripsFrom v (g .line) (g .call .place) first) (nearest (reachBy v g)))
+        → keepAll best old (nearRead v a u b)
+        ≡ keepAll best next (nearCalls v u (callsIn v (from (k + 2) end)) (callsIn v (g .rest)))
+    unfolding nearCalls
     all-more more inside g is first is-first next e =
         so-far
-        ∙ ap (λ g. keepAll best kept (concatMap (allLeg v u) g)) (legs-more v u k end rest more inside g is)
+        ∙ ap (λ g. keepAll best kept (concatMap (nearLeg v u) g)) (legs-more v u k end rest more inside g is)
         ∙ rw (e, is-first, is .line)
         (keepAll-append best kept _
-        (concatMap (allLeg v u) (legs v (callsIn v (from (k + 2) end)) (callsIn v (g .rest)))))
+        (concatMap (nearLeg v u) (legs v (callsIn v (from (k + 2) end)) (callsIn v (g .rest)))))

@@ -1,4 +1,4 @@
--- From call to call in front of a list: those of the line are noted, until one is of another.
+-- The calls in front of a list: those of the line are places to ride to, until one is of another.
 use mathlib.Core.Path.{_≡_, sym, ap, _∙_}
 use mathlib.Core.List.{List, [], _∷_, map}
 use Prim.Native.Nat.{ℕ, _+_, _-_, _≤_, _<_}
@@ -6,10 +6,11 @@ use native.Mathlib.Omega.{arith}
 use lib.ListN.{length}
 use borrow.Author.Tests.{eq-eqb, ne-eqb}
 use Rattle.results.specs.declared.Points.{Points}
+use Rattle.connections.specs.Rides.{Ride}
 use Rattle.lines_lookup.specs.Lookup.{Line, totalAt, pointsBetween, arriveAt}
-use Rattle.lines_lookup.specs.Calls.{Call, Piece, callAt, callsIn}
+use Rattle.lines_lookup.specs.Calls.{Call, Piece, Boarding, callAt, callsIn, Within}
 use Rattle.lines_lookup.proofs.LookupLaws.{pairs-more, pairs-none}
-use Rattle.query_direct.specs.Candidates.{Reach, reachOf, rideOn}
+use Rattle.query_direct.specs.Candidates.{reachOf, reachBy, nearest, rideOn}
 use Rattle.query_minutes.specs.Minutes.{noteAll, lowered}
 
 -- ---- the penalty, by two totals
@@ -46,32 +47,44 @@ module _ (v : List ℕ) (l : Line) (c : Call) (k end : ℕ) where
     unfolding reachOf
     reach-next h = ap (reachOf v l c) front ∙ rw (eq-eqb (d .line) (c .line) h)
 
--- ---- noting them
-module _ (v : List ℕ) (l : Line) (c : Call) (j k end : ℕ) (best old : List ℕ) (all : List Reach)
-    (so-far : noteAll old (map (rideOn v l (c .place) j) all)
-    ≡ noteAll best (map (rideOn v l (c .place) j) (reachOf v l c (callsIn v (from k end))))) where
-  done : reachOf v l c (callsIn v (from k end)) ≡ [] → best ≡ noteAll old (map (rideOn v l (c .place) j) all)
-  unfolding noteAll
-  done e = sym (so-far ∙ ap (λ r. noteAll best (map (rideOn v l (c .place) j) r)) e)
+-- ---- noting the nearest
+module _ (v : List ℕ) (g : Boarding) (within : Within v g) (j : ℕ) (best : List ℕ) where
+  abbrev l : Line
+  l = g .line
 
-  pub noted-all : end ≤ k + 1 → best ≡ noteAll old (map (rideOn v l (c .place) j) all)
-  noted-all h = done (reach-none v l c k end h)
+  abbrev c : Call
+  c = g .call
 
-  module _ (more : k + 1 < end) (inside : end ≤ length v) (d : Call) (is-d : d ≡ callAt v k) where
-    pub noted-line : (d .line ≡ c .line → ⊥) → best ≡ noteAll old (map (rideOn v l (c .place) j) all)
-    noted-line h = done (reach-other v l c k end more inside d is-d h)
+  abbrev k : ℕ
+  k = g .rest .from
 
-    pub noted-more : d .line ≡ c .line
-        → (points : Points) → points .0 ≡ pointsBetween v l (c .place) (d .place)
-        → (m : ℕ) → m ≡ arriveAt v l (d .place) j
+  abbrev end : ℕ
+  end = g .rest .end
+
+  abbrev near : List Ride
+  near = map (rideOn v l (c .place) j) (nearest (reachBy v g))
+
+  nothing : reachBy v g ≡ [] → best ≡ noteAll best near
+  unfolding noteAll nearest
+  nothing e = rw e
+
+  pub noted-none : g .rest .end ≤ g .rest .from + 1
+      → best ≡ noteAll best (map (rideOn v (g .line) (g .call .place) j) (nearest (reachBy v g)))
+  noted-none h = nothing (reach-none v l c k end h)
+
+  module _ (more : g .rest .from + 1 < g .rest .end) (d : Call) (is-d : d ≡ callAt v (g .rest .from)) where
+    abbrev inside : g .rest .end ≤ length v
+    inside = within .rest-inside .end-inside
+
+    pub noted-other : (d .line ≡ g .call .line → ⊥)
+        → best ≡ noteAll best (map (rideOn v (g .line) (g .call .place) j) (nearest (reachBy v g)))
+    noted-other h = nothing (reach-other v l c k end more inside d is-d h)
+
+    pub noted-nearest : d .line ≡ g .call .line
+        → (points : Points) → points .0 ≡ pointsBetween v (g .line) (g .call .place) (d .place)
+        → (m : ℕ) → m ≡ arriveAt v (g .line) (d .place) j
         → (next : List ℕ) → next ≡ lowered best m (points .0)
-        → noteAll old (map (rideOn v l (c .place) j) all)
-        ≡ noteAll next (map (rideOn v l (c .place) j) (reachOf v l c (callsIn v (from (k + 2) end))))
-    unfolding noteAll
-    noted-more h points is-points m is-m next e =
-        let here = e ∙ (λ i. lowered best (is-m i) (is-points i)) in
-        so-far
-        ∙ ap (λ r. noteAll best (map (rideOn v l (c .place) j) r)) (reach-next v l c k end more inside d is-d h)
-        ∙ ap
-        (λ b. noteAll b (map (rideOn v l (c .place) j) (reachOf v l c (callsIn v (from (k + 2) end)))))
-        (sym here)
+        → next ≡ noteAll best (map (rideOn v (g .line) (g .call .place) j) (nearest (reachBy v g)))
+    unfolding noteAll nearest
+    noted-nearest h points is-points m is-m next e =
+        rw (reach-next v l c k end more inside d is-d h) (e ∙ (λ i. lowered best (is-m i) (is-points i)))

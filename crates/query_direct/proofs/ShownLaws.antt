@@ -12,7 +12,7 @@ use Rattle.replies.specs.declared.Reply.the-variants.{Done, Refused}
 use Rattle.replies.specs.Replies.{reply-done, reply-refused, words-done, words-kept}
 use Rattle.lines_check.specs.Asked.{queryNumber}
 use Rattle.lines_check.specs.Yes.{yes-all}
-use Rattle.query_direct.specs.Candidates.{firstRead, allRead}
+use Rattle.query_direct.specs.Candidates.{firstRead, nearRead}
 use Rattle.query_minutes.specs.Minutes.{noPoints, noteAll, blank, leads}
 use Rattle.query_direct.specs.Choosing.{rowsFrom}
 use Rattle.query_direct.specs.Keeping.{Keeps, rowsKept, rows-kept}
@@ -66,14 +66,14 @@ module _ (v : List ℕ) (a b u count : ℕ) (is : count ≡ length (leadsOf v a 
         ap Done is ∙ reply-done (foundNumber v a b u m) (length (leadsOf v a b u)) (sym (enough m room))
 
     pub done-words : (old new best kept : List ℕ) → 6 * count ≤ length old → best ≡ bestOf v a b u
-        → length best ≡ 2880 → Keeps best kept (allRead v a u b)
+        → length best ≡ 2880 → Keeps best kept (nearRead v a u b)
         → new ≡ put 0 (concatMap (λ r. r) (rowsKept u kept (leads noPoints 0 best))) old
         → new ≡ foundAnswer v a b u old
     unfolding foundAnswer
     done-words old new best kept room e long keeps f =
         f
-        ∙ ap (λ rows. put 0 (concatMap (λ r. r) rows) old) (rows-kept u best kept (allRead v a u b) long keeps)
-        ∙ ap (λ l. put 0 (concatMap (λ r. r) (rowsFrom u (allRead v a u b) (leads noPoints 0 l))) old) e
+        ∙ ap (λ rows. put 0 (concatMap (λ r. r) rows) old) (rows-kept u best kept (nearRead v a u b) long keeps)
+        ∙ ap (λ l. put 0 (concatMap (λ r. r) (rowsFrom u (nearRead v a u b) (leads noPoints 0 l))) old) e
         ∙ words-done (foundNumber v a b u (length old)) (foundWords v a b u) old (sym (enough (length old) room))
 
 pub rows-room : (v best : List ℕ) (a b u count m : ℕ) → best ≡ bestOf v a b u → count ≡ length (leadsOf v a b u)

@@ -25,9 +25,10 @@ use Rattle.lines_lookup.specs.Calls.{Call, pairsOf, callsOf, after}
 use Rattle.lines_lookup.specs.Told.{LineTold, Told, ride-difference}
 use Rattle.lines_lookup.specs.Rising.{Later, Rising, after-out, after-in, after-rising, after-again}
 use Rattle.lines_lookup.specs.Met.{Met, calls-in, calls-out, calls-rise}
-use Rattle.query_direct.specs.Candidates.{Reach, reachOf, Leg, legOf, legs, rideOn, tripsTo, firstLeg, allLeg}
-use Rattle.query_direct.specs.Candidates.{firstOn, allOn, firstRead, allRead}
-use Rattle.query_direct.specs.Reached.{Left, reach-in, reach-out, timely-in, timely-out, ride-same}
+use Rattle.query_direct.specs.Candidates.{Reach, reachOf, nearest, Leg, legOf, legs, rideOn, tripsTo, firstLeg}
+use Rattle.query_direct.specs.Candidates.{nearLeg, allLeg, firstOn, allOn, firstRead, nearRead, allRead}
+use Rattle.query_direct.specs.Reached.{Left, nearest-in, reach-in, reach-out, reach-nearest}
+use Rattle.query_direct.specs.Reached.{timely-in, timely-out, ride-same}
 
 -- what is in a list that stands under a test
 under-out : {A : Type 0} {x : A} (b : Bool) (l : List A) → x ∈ cond b l [] → T b × (x ∈ l)
@@ -126,7 +127,7 @@ module _ (v : List ℕ) (n : ℕ) (t : List Trip) (told : Told v n t) where
         ]
 
     pub first-listed : r ∈ firstRead v a u b → (1 ≤ b) × (b ≤ n)
-    unfolding firstRead
+    unfolding firstRead nearest
     first-listed m = to-listed nothing
       where
         nothing : callsOf v b ≡ [] → ⊥
@@ -136,8 +137,19 @@ module _ (v : List ℕ) (n : ℕ) (t : List Trip) (told : Told v n t) where
             let l = line (g .0 .call .line) in
             let x = g .0 .call .place in
             let f = firstTrip v l x u in
-            let on = subst (λ rs. r ∈ firstOn v u l x rs) empty (g .2) in
+            let on = subst (λ rs. r ∈ firstOn v u l x (nearest rs)) empty (g .2) in
             none (under-out (ltb f (l .trips)) (map (rideOn v l x f) []) on .1)
+
+    pub near-listed : r ∈ nearRead v a u b → (1 ≤ b) × (b ≤ n)
+    unfolding nearRead nearest
+    near-listed m = to-listed nothing
+      where
+        nothing : callsOf v b ≡ [] → ⊥
+        nothing e =
+            let g = concatMap-out (nearLeg v u) (legs v (callsOf v a) (callsOf v b)) m in
+            let empty = legs-none v (callsOf v a) (g .0) (subst (λ ds. g .0 ∈ legs v (callsOf v a) ds) e (g .1)) in
+            let l = line (g .0 .call .line) in
+            none (subst (λ rs. r ∈ allOn v u l (g .0 .call .place) (nearest rs)) empty (g .2))
 
     pub all-listed : r ∈ allRead v a u b → (1 ≤ b) × (b ≤ n)
     unfolding allRead
@@ -217,12 +229,23 @@ module _ (v : List ℕ) (n : ℕ) (t : List Trip) (told : Told v n t) where
         let f = firstTrip v l x u in
         let rs = reachOf v l (c .0) (after (c .0) ds) in
         let on = subst (λ g. r ∈ firstLeg v u g) (sym (c .2)) (g .2) in
-        let w = under-out (ltb f (l .trips)) (map (rideOn v l x f) rs) on in
-        let q = Memᴰ·of-map (rideOn v l x f) rs (w .1) in
+        let w = under-out (ltb f (l .trips)) (map (rideOn v l x f) (nearest rs)) on in
+        let q = Memᴰ·of-map (rideOn v l x f) (nearest rs) (w .1) in
         subst
         (λ r. (k : Read t a b r) × (first (k .i) (k .x) u ≡ k .j))
         (q .2)
-        (read (c .0) (c .1) (q .0) (q .1) f (ltb→lt f (l .trips) (w .0)), refl)
+        (read (c .0) (c .1) (q .0) (nearest-in rs (q .0) (q .1)) f (ltb→lt f (l .trips) (w .0)), refl)
+
+    -- those to the nearest places are among all
+    pub near-read-out : (r : Ride) → r ∈ nearRead v a u b → r ∈ allRead v a u b
+    unfolding nearRead allRead
+    near-read-out r m =
+        let g = concatMap-out (nearLeg v u) (legs v cs ds) m in
+        let l = line (g .0 .call .line) in
+        let x = g .0 .call .place in
+        let q = concatMap-out (tripsTo v u l x) (nearest (g .0 .reach)) (g .2) in
+        let all = concatMap-in (tripsTo v u l x) (nearest-in (g .0 .reach) (q .0) (q .1)) (q .2) in
+        concatMap-in (allLeg v u) (g .1) all
 
     pub all-read-out : (r : Ride) → r ∈ allRead v a u b → (k : Read t a b r) × (first (k .i) (k .x) u ≤ k .j)
     unfolding allRead read
@@ -292,14 +315,48 @@ module _ (v : List ℕ) (n : ℕ) (t : List Trip) (told : Told v n t) where
             costs = ride-difference v t i (lineOf t i) words x y (omega (arith, p .later)) (p .inside);
           })
 
-      pub first-read-in : f ≡ j → rideBy t i x y j ∈ firstRead v a u b
+      -- the nearest of those places, no later than this one
+      record Near : Type 0 where
+        reach : Reach
+        listed : reach ∈ nearest rs
+        nearer : reach .place ≤ y
+        later : x < reach .place
+        same : rideOn v l x j reach ≡ rideBy t i x (reach .place) j
+
+      near : Near
+      near =
+          let e = reach-nearest v t i (lineOf t i) words b x (after call ds) (left call) there there-reached in
+          let q =
+          reach-out v t i (lineOf t i) words b x (after call ds) (left call) (e .0) (nearest-in rs (e .0) (e .1)) in
+          record {
+            reach = e .0;
+            listed = e .1;
+            nearer = e .2;
+            later = q .later;
+            same =
+                ride-same v t i (lineOf t i) words (line-good t i (k .listed)) x b j x-inside (k .runs) (e .0) q;
+          }
+
+      pub first-read-in : f ≡ j → (z : ℕ) × (x < z) × (z ≤ y) × (rideBy t i x z j ∈ firstRead v a u b)
       unfolding firstRead
       first-read-in e =
+          let q = near in
           let runs : f < l .trips = omega (arith, e, k .runs, words .trips) in
-          let same = ap (λ j. rideOn v l x j there) e ∙ ride-is in
-          let mapped = Memᴰ·map (rideOn v l x f) there-reached in
-          let one = under-in (ltb f (l .trips)) (map (rideOn v l x f) rs) (lt→ltb f (l .trips) runs) mapped in
-          Memᴰ·cast (sym same) (concatMap-in (firstLeg v u) leg-listed one)
+          let same = ap (λ j. rideOn v l x j (q .reach)) e ∙ q .same in
+          let mapped = Memᴰ·map (rideOn v l x f) (q .listed) in
+          let one =
+          under-in (ltb f (l .trips)) (map (rideOn v l x f) (nearest rs)) (lt→ltb f (l .trips) runs) mapped in
+          (q .reach .place, q .later, q .nearer, Memᴰ·cast (sym same) (concatMap-in (firstLeg v u) leg-listed one))
+
+      pub near-read-in : f ≤ j → (z : ℕ) × (x < z) × (z ≤ y) × (rideBy t i x z j ∈ nearRead v a u b)
+      unfolding nearRead
+      near-read-in h =
+          let q = near in
+          let runs : j < f + (l .trips - f) = omega (arith, h, k .runs, words .trips) in
+          let trip = range-in f (l .trips - f) j h runs in
+          let one =
+          concatMap-in (tripsTo v u l x) (q .listed) (Memᴰ·map (λ j. rideOn v l x j (q .reach)) trip) in
+          (q .reach .place, q .later, q .nearer, Memᴰ·cast (sym (q .same)) (concatMap-in (nearLeg v u) leg-listed one))
 
       pub all-read-in : f ≤ j → rideBy t i x y j ∈ allRead v a u b
       unfolding allRead

@@ -1,6 +1,7 @@
 -- The rides that the code finds in line tables, in the order in which it finds them. The lists of both stations rise,
--- so that one walk along each finds all places to board and to alight at. No reader of the promise needs this file:
--- Gathered shows that these are the direct rides, and the first rides, of the timetable.
+-- so that one walk along each finds all places to board and to alight at. Of the places on one line after the one
+-- boarded at, only the nearest can be optimal. No reader of the promise needs this file: Gathered shows that these are
+-- the direct rides of the timetable, and that the nearest of them have the result of all.
 use mathlib.Core.Bool.{cond}
 use mathlib.Core.List.{List, [], _∷_, map}
 use Prim.Native.Nat.{ℕ, _+_, _-_}
@@ -24,6 +25,11 @@ reachOf v l c (d ∷ ds) =
     (eqb (d .line) (c .line))
     (record { place = d .place; points = pointsBetween v l (c .place) (d .place) } ∷ reachOf v l c ds)
     []
+
+-- the first of them: who goes on to a later one arrives later, and pays no less
+unfoldable pub nearest : List Reach → List Reach
+nearest [] = []
+nearest (r ∷ rs) = r ∷ []
 
 -- those of the line that is boarded
 abbrev pub reachBy : List ℕ → Boarding → List Reach
@@ -69,16 +75,23 @@ tripsTo v u l x r =
 abbrev pub allOn : List ℕ → (u : ℕ) → Line → (x : ℕ) → List Reach → List Ride
 allOn v u l x rs = concatMap (tripsTo v u l x) rs
 
--- on a leg
+-- on a leg, to the nearest place
 abbrev pub firstLeg : List ℕ → (u : ℕ) → Leg → List Ride
-firstLeg v u g = firstOn v u (lineAt v (g .call .line)) (g .call .place) (g .reach)
+firstLeg v u g = firstOn v u (lineAt v (g .call .line)) (g .call .place) (nearest (g .reach))
 
+abbrev pub nearLeg : List ℕ → (u : ℕ) → Leg → List Ride
+nearLeg v u g = allOn v u (lineAt v (g .call .line)) (g .call .place) (nearest (g .reach))
+
+-- to all places
 abbrev pub allLeg : List ℕ → (u : ℕ) → Leg → List Ride
 allLeg v u g = allOn v u (lineAt v (g .call .line)) (g .call .place) (g .reach)
 
 -- from station a to station b at minute u, on all lines
 unfoldable pub firstRead : List ℕ → (a u b : ℕ) → List Ride
 firstRead v a u b = concatMap (firstLeg v u) (legs v (callsOf v a) (callsOf v b))
+
+unfoldable pub nearRead : List ℕ → (a u b : ℕ) → List Ride
+nearRead v a u b = concatMap (nearLeg v u) (legs v (callsOf v a) (callsOf v b))
 
 unfoldable pub allRead : List ℕ → (a u b : ℕ) → List Ride
 allRead v a u b = concatMap (allLeg v u) (legs v (callsOf v a) (callsOf v b))

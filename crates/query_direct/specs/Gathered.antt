@@ -1,9 +1,10 @@
--- What the code gathers from line tables: the first rides of the lines, and all direct rides. So the first rides have
--- the costs of all, and those of a valid timetable keep within the bounds of the code's numbers.
+-- What the code gathers from line tables: all direct rides, and of those from one place of a line the ones to the
+-- nearest place, on the first trip or on all. The nearest have the result of all, the first have their costs, and those
+-- of a valid timetable keep within the bounds of the code's numbers.
 use mathlib.Core.Path.{_≡_, refl, sym, ap, subst, _∙_}
 use mathlib.Core.Bool.{true}
-use mathlib.Core.Logic.{_↔_}
-use mathlib.Core.List.{List, [], map, Memᴰ·map, Memᴰ·of-map, Memᴰ·cast}
+use mathlib.Core.Logic.{_↔_, inl, inr}
+use mathlib.Core.List.{List, [], _∷_, map, Memᴰ·map, Memᴰ·of-map, Memᴰ·cast, List·Memᴰ·head as here}
 use Prim.Native.Nat.{ℕ, _≤_, _<_}
 use native.Mathlib.Omega.{arith}
 use lib.Dec.{T, leb}
@@ -11,11 +12,13 @@ use lib.ListN.{length, getD}
 use Rattle.timetable.specs.Timetable.{Trip, Timetable, counted, valid}
 use Rattle.lists.specs.Lists.{_∈_, firstOf}
 use Rattle.lists.specs.Tests.{reads, writes}
-use Rattle.results.specs.Results.{costs}
-use Rattle.results.specs.Kept.{costs-covered}
+use Rattle.lists.specs.Members.{none}
+use Rattle.results.specs.Results.{costs, Picked}
+use Rattle.results.specs.Domination.{NoWorse, Better, dominates-in}
+use Rattle.results.specs.Kept.{costs-covered, result-kept, empty-kept}
 use Rattle.connections.specs.Rides.{Ride, rideAt}
-use Rattle.connections.specs.Connections.{net, Connection, direct}
-use Rattle.connections.specs.Planner.{measure}
+use Rattle.connections.specs.Connections.{net, Connection, direct, cost}
+use Rattle.connections.specs.Planner.{measure, rowsOf}
 use Rattle.connections.specs.RideLaws.{Taken, rides-in, rides-out}
 use Rattle.connections.specs.Sound.{sound, ride-cheap}
 use Rattle.lines.specs.Lines.{lines, course}
@@ -29,7 +32,8 @@ use Rattle.lines_lookup.specs.Lookup.{lineAt}
 use Rattle.lines_lookup.specs.First.{firstTrip}
 use Rattle.lines_lookup.specs.Told.{Told}
 use Rattle.query_direct.specs.Bounds.{Bounds}
-use Rattle.query_direct.specs.Candidates.{firstRead, allRead}
+use Rattle.query_direct.specs.Candidates.{firstRead, nearRead, allRead}
+use Rattle.query_direct.specs.Nearest.{Nearer, nearer-sooner, nearer-ride}
 use Rattle.query_direct.specs.Foremost.{placed}
 use Rattle.query_direct.specs.Reached.{first-trip-in, first-trip-out}
 use Rattle.query_direct.specs.ByLine.{
@@ -44,6 +48,9 @@ use Rattle.query_direct.specs.ByLine.{
   all-listed,
   first-read-in,
   first-read-out,
+  near-listed,
+  near-read-in,
+  near-read-out,
   all-read-in,
   all-read-out,
   timely-by,
@@ -96,6 +103,10 @@ module _
           let listed = rides-in t z x y (trip-listed t z on-line) (k .pair .later) (omega arith) in
           direct-in timetable a u b (rideBy t i x y j) listed (search writes)
 
+    -- a nearer ride is no worse
+    nearer-cost : (e r : Ride) → Nearer e r → NoWorse (cost u (direct e)) (cost u (direct r))
+    nearer-cost e r k = omega (arith, k .points, nearer-sooner e r k)
+
     -- a direct ride ends at a listed station
     direct-listed : (c : Connection) → c ∈ directs (net timetable) a u b → (1 ≤ b) × (b ≤ n)
     direct-listed c m =
@@ -104,7 +115,7 @@ module _
         let to : r .0 .to ≡ b = search reads in
         subst (λ b. (1 ≤ b) × (b ≤ n)) to (sound timetable is-valid .arrives (r .0) (r .1))
 
-    -- ---- the first rides read are those of the lines
+    -- ---- the first rides read are those of the lines, to the nearest places
     first-to : (c : Connection) → c ∈ map direct (firstRead v a u b) → c ∈ firstRides t a u b
     first-to c m =
         let r = Memᴰ·of-map direct (firstRead v a u b) m in
@@ -113,7 +124,19 @@ module _
         let k = q .0 in
         Memᴰ·cast (sym (ap direct (k .is) ∙ r .2)) (by-first (k .i) (k .x) (k .y) (k .j) (k .by) (q .1))
 
-    first-back : (c : Connection) → c ∈ firstRides t a u b → c ∈ map direct (firstRead v a u b)
+    -- a ride to a nearer place of its line
+    nearer-by : (i x z y j : ℕ) → By t a b i x y j → x < z → z ≤ y → Nearer (rideBy t i x z j) (rideBy t i x y j)
+    nearer-by i x z y j k later nearer =
+        let g = getD (lineOf t i) j 0 in
+        let member = within (lineOf t i) j 0 (k .runs) in
+        let long = line-length t (lineOf t i) g (line-good t i (k .listed)) member in
+        let line = line-listed t i (k .listed) in
+        let on-line : OnLine t g = record { line = lineOf t i; listed = line; member = member } in
+        nearer-ride timetable is-valid g (trip-listed t g on-line) x z y later nearer (omega (arith, k .pair .inside))
+
+    -- each first ride of a line has one of these that is no worse
+    first-back : (c : Connection) → c ∈ firstRides t a u b
+        → (e : Connection) × (e ∈ map direct (firstRead v a u b)) × NoWorse (cost u e) (cost u c)
     first-back c m =
         let listed = direct-listed c (first-direct timetable a u b c m) in
         let r = first-ride t a u b c m in
@@ -125,10 +148,18 @@ module _
         let member = subst (λ l. r .z ∈ firstOf (inTime t u x) l) (sym (p .is)) (r .first) in
         let x-inside : x < length (course t (lineOf t i)) = omega (arith, pair .later, pair .inside) in
         let q = first-trip-out v t i (lineOf t i) (told .line i (p .inside)) x u x-inside (r .z) member in
-        let by : By t a b i x y (first i x) = record { listed = p .inside; pair = pair; runs = q .0 } in
+        let j = first i x in
+        let by : By t a b i x y j = record { listed = p .inside; pair = pair; runs = q .0 } in
         let same = ap (λ z. direct (rideAt (getD t z []) z x y)) (q .1) ∙ r .is in
-        Memᴰ·cast (sym same) (Memᴰ·map direct
-        (first-read-in v n t told a u b some inside (listed .0) (listed .1) i x y (first i x) by refl))
+        let near = first-read-in v n t told a u b some inside (listed .0) (listed .1) i x y j by refl in
+        let e = rideBy t i x (near .0) j in (
+          direct e,
+          Memᴰ·map direct (near .3),
+          subst
+              (λ c. NoWorse (cost u (direct e)) (cost u c))
+              same
+              (nearer-cost e (rideBy t i x y j) (nearer-by i x (near .0) y j by (near .1) (near .2))),
+        )
 
     -- ---- all rides read are the direct rides
     all-to : (c : Connection) → c ∈ map direct (allRead v a u b) → c ∈ directs (net timetable) a u b
@@ -187,17 +218,25 @@ module _
     pub all-read : (c : Connection) → c ∈ map direct (allRead v a u b) ↔ c ∈ directs (net timetable) a u b
     all-read c = (all-to c, all-back c)
 
-    -- ---- so the first rides have their costs
-    pub read-costs : costs (measure u) (map direct (firstRead v a u b))
-        ≡ costs (measure u) (directs (net timetable) a u b)
-    read-costs =
-        costs-covered
-        (measure u)
-        (firstRides t a u b)
-        (map direct (firstRead v a u b))
-        first-to
-        (λ c m. (c, first-back c m, omega arith))
-        ∙ direct-costs timetable a u b
+    -- ---- those to the nearest places are among them, and none is missed that is as good
+    pub near-all : (r : Ride) → r ∈ nearRead v a u b → r ∈ allRead v a u b
+    near-all r m =
+        let listed = near-listed v n t told a u b r m in
+        near-read-out v n t told a u b some inside (listed .0) (listed .1) r m
+
+    pub all-near : (r : Ride) → r ∈ allRead v a u b → (e : Ride) × (e ∈ nearRead v a u b) × Nearer e r
+    all-near r m =
+        let listed = all-listed v n t told a u b r m in
+        let q = all-read-out v n t told a u b some inside (listed .0) (listed .1) r m in
+        let k = q .0 in
+        let near =
+        near-read-in v n t told a u b some inside (listed .0) (listed .1) (k .i) (k .x) (k .y) (k .j) (k .by) (q .1) in
+        let e = rideBy t (k .i) (k .x) (near .0) (k .j) in (
+          e,
+          near .3,
+          subst (Nearer e) (k .is)
+              (nearer-by (k .i) (k .x) (near .0) (k .y) (k .j) (k .by) (near .1) (near .2)),
+        )
 
     -- ---- how large their numbers get
     trips-few : length t ≤ 256
@@ -229,3 +268,62 @@ module _
     pub first-bounds : (r : Ride) → r ∈ firstRead v a u b → Bounds u r
     first-bounds r m =
         direct-bounds r (first-direct timetable a u b (direct r) (first-to (direct r) (Memᴰ·map direct m)))
+
+    pub near-bounds : (r : Ride) → r ∈ nearRead v a u b → Bounds u r
+    near-bounds r m = all-bounds r (near-all r m)
+
+    -- ---- so the rides to the nearest places have the result of all
+    abbrev near : List Connection
+    near = map direct (nearRead v a u b)
+
+    abbrev whole : List Connection
+    whole = directs (net timetable) a u b
+
+    near-whole : (c : Connection) → c ∈ near → c ∈ whole
+    near-whole c m =
+        let r = Memᴰ·of-map direct (nearRead v a u b) m in
+        Memᴰ·cast (sym (r .2)) (all-to (direct (r .0)) (Memᴰ·map direct (near-all (r .0) (r .1))))
+
+    -- what is beaten is not picked
+    near-picked : (c : Connection) → Picked (measure u) whole c → c ∈ near
+    near-picked c p =
+        let r = Memᴰ·of-map direct (allRead v a u b) (all-back c (p .best .listed)) in
+        let e = all-near (r .0) (r .1) in
+        elim (e .2 .arrive) [
+          | inl same ↦ Memᴰ·cast (sym (ap direct same ∙ r .2)) (Memᴰ·map direct (e .1))
+          | inr less ↦
+              let bounds = near-bounds (e .0) (e .1) in
+              let better : Better (cost u (direct (e .0))) (cost u (direct (r .0)))
+              = omega (arith, e .2 .points, less, bounds .leaves, bounds .later) in
+              let beaten = dominates-in (cost u (direct (e .0))) (cost u (direct (r .0))) better in
+              absurd (subst (λ c. Picked (measure u) whole c) (sym (r .2)) p .best .free (direct (e .0))
+              (near-whole (direct (e .0)) (Memᴰ·map direct (e .1))) beaten)
+        ]
+
+    pub near-rows : rowsOf u (map direct (nearRead v a u b)) ≡ rowsOf u (directs (net timetable) a u b)
+    unfolding rowsOf
+    near-rows = result-kept (measure u) whole near near-whole near-picked
+
+    pub near-none : (map direct (nearRead v a u b) ≡ []) ↔ (directs (net timetable) a u b ≡ [])
+    near-none = (empty-kept (measure u) whole near near-whole near-picked, λ e. go near refl e)
+      where
+        go : (l : List Connection) → near ≡ l → whole ≡ [] → near ≡ []
+        go [] h e = h
+        go (c ∷ l) h e = none (subst (λ k. c ∈ k) e (near-whole c (rw h (here refl))))
+
+    -- and the first rides have their costs
+    pub read-costs : costs (measure u) (map direct (firstRead v a u b))
+        ≡ costs (measure u) (map direct (nearRead v a u b))
+    read-costs =
+        costs-covered (measure u) (firstRides t a u b) (map direct (firstRead v a u b)) first-to first-back
+        ∙ direct-costs timetable a u b
+        ∙ sym (costs-covered (measure u) whole near near-whole covered)
+      where
+        covered : (c : Connection) → c ∈ whole → (e : Connection) × (e ∈ near) × NoWorse (cost u e) (cost u c)
+        covered c m =
+            let r = Memᴰ·of-map direct (allRead v a u b) (all-back c m) in
+            let e = all-near (r .0) (r .1) in (
+              direct (e .0),
+              Memᴰ·map direct (e .1),
+              subst (λ c. NoWorse (cost u (direct (e .0))) (cost u c)) (r .2) (nearer-cost (e .0) (r .0) (e .2)),
+            )

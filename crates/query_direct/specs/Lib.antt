@@ -6,6 +6,7 @@ pub mod Bounds
 pub mod Picking
 pub mod Chosen
 pub mod Foremost
+pub mod Nearest
 pub mod Reached
 pub mod ByLine
 pub mod Gathered

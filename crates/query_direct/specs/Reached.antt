@@ -25,8 +25,14 @@ use Rattle.lines_lookup.specs.First.{firstTrip}
 use Rattle.lines_lookup.specs.Calls.{Call}
 use Rattle.lines_lookup.specs.Told.{LineTold, ride-difference}
 use Rattle.lines_lookup.specs.Rising.{Later, Rising}
-use Rattle.query_direct.specs.Candidates.{Reach, reachOf, rideOn}
+use Rattle.query_direct.specs.Candidates.{Reach, reachOf, nearest, rideOn}
 use Rattle.query_direct.specs.Foremost.{Foremost, foremost, first-at-in, first-at-out}
+
+-- the nearest place is one of them
+pub nearest-in : (rs : List Reach) (r : Reach) → r ∈ nearest rs → r ∈ rs
+unfolding nearest
+nearest-in [] r m = none m
+nearest-in (e ∷ rs) r m = cons-cases m here none
 
 -- a later place of station b on line l, and the penalty of the ride from place x
 pub record Reached (t : List Trip) (l : List ℕ) (x b : ℕ) (r : Reach) : Type 0 where
@@ -119,6 +125,48 @@ module _ (v : List ℕ) (t : List Trip) (i : ℕ) (l : List ℕ) (told : LineTol
             let front = k .behind d (here refl) .line in
             let back = k .rise .0 (record { line = i; place = y }) j .line in
             absurd (eqb-false (d .line) i e (omega arith)))
+
+    -- ---- the nearest of them
+    reach-call : (ds : List Call) (r : Reach) → r ∈ reachOf v line call ds
+        → (d : Call) × (d ∈ ds) × (d .line ≡ i) × (d .place ≡ r .place)
+    unfolding reachOf
+    reach-call [] r m = none m
+    reach-call (d ∷ ds) r m = go (eqb (d .line) i) refl m (reach-call ds r)
+      where
+        one : Reach
+        one = record { place = d .place; points = pointsBetween v line x (d .place) }
+
+        go : (q : Bool) → eqb (d .line) i ≡ q → r ∈ cond q (one ∷ reachOf v line call ds) []
+            → (r ∈ reachOf v line call ds → (e : Call) × (e ∈ ds) × (e .line ≡ i) × (e .place ≡ r .place))
+            → (e : Call) × (e ∈ d ∷ ds) × (e .line ≡ i) × (e .place ≡ r .place)
+        go true e m ih =
+            cons-cases
+            m
+            (λ p. (d, here refl, eqb-true (d .line) i e, ap (λ r. r .place) (sym p)))
+            (λ j. let k = ih j in (k .0, there (k .1), k .2, k .3))
+        go false e m ih = none m
+
+    pub reach-nearest : (ds : List Call) → Left t i l b x ds → (r : Reach) → r ∈ reachOf v line call ds
+        → (e : Reach) × (e ∈ nearest (reachOf v line call ds)) × (e .place ≤ r .place)
+    unfolding reachOf nearest
+    reach-nearest [] k r m = none m
+    reach-nearest (d ∷ ds) k r m = go (eqb (d .line) i) refl m
+      where
+        one : Reach
+        one = record { place = d .place; points = pointsBetween v line x (d .place) }
+
+        behind : d .line ≡ i → r ∈ reachOf v line call ds → d .place ≤ r .place
+        behind same m =
+            let c = reach-call ds r m in
+            let later = k .rise .0 (c .0) (c .1) .place (same ∙ sym (c .2)) in
+            omega (arith, c .3)
+
+        go : (q : Bool) → eqb (d .line) i ≡ q → r ∈ cond q (one ∷ reachOf v line call ds) []
+            → (e : Reach) × (e ∈ nearest (cond q (one ∷ reachOf v line call ds) [])) × (e .place ≤ r .place)
+        go true e m =
+            let same = eqb-true (d .line) i e in
+            (one, here refl, cons-cases m (λ p. omega (arith, ap (λ r. r .place) p)) (behind same))
+        go false e m = none m
 
   -- ---- the first trip that leaves in time
   module _ (x u : ℕ) (h : x < length (course t l)) where

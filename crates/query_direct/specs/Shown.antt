@@ -2,7 +2,7 @@
 use mathlib.Core.Path.{_≡_, refl, sym, ap, _∙_}
 use mathlib.Core.Bool.{true}
 use mathlib.Core.Logic.{_↔_}
-use mathlib.Core.List.{List, [], _∷_}
+use mathlib.Core.List.{List, [], _∷_, map}
 use Prim.Native.Nat.{ℕ, zero, suc, _*_, _≤_}
 use native.Mathlib.Omega.{arith}
 use borrow.Author.Tests.{le-leb, leb-true}
@@ -15,10 +15,13 @@ use Rattle.replies.specs.declared.Reply.{Reply}
 use Rattle.replies.specs.declared.Reply.the-variants.{Refused}
 use Rattle.replies.specs.Replies.{replyOf, wordsAfter, reply-refused, words-kept}
 use Rattle.replies.specs.Later.{asked-on, asked-out}
-use Rattle.timetable.specs.Timetable.{Timetable}
+use Rattle.timetable.specs.Timetable.{Timetable, valid}
 use Rattle.timetable.specs.Words.{timetableOf, isTimetable}
 use Rattle.timetable.specs.Access.{spelled-valid}
-use Rattle.results.specs.Results.{Cost}
+use Rattle.results.specs.Results.{Cost, costs}
+use Rattle.connections.specs.Rides.{Ride}
+use Rattle.connections.specs.Connections.{direct}
+use Rattle.connections.specs.Planner.{measure}
 use Rattle.lines_lookup.specs.Told.{Told}
 use Rattle.lines_lookup.specs.Holding.{holding}
 use Rattle.lines.specs.DirectRides.{directRows}
@@ -28,11 +31,11 @@ use Rattle.lines_check.specs.Yes.{Yes, query-asked, yes-all}
 use Rattle.lines_check.specs.Built.{begins-holds}
 use Rattle.promises.specs.Query.{rowWords}
 use Rattle.promises.specs.DirectQuery.{rides, rows, lastQuestions, directNumber, directReply, directWords}
-use Rattle.query_direct.specs.Candidates.{firstRead, allRead}
+use Rattle.query_direct.specs.Candidates.{firstRead, nearRead}
 use Rattle.query_minutes.specs.Minutes.{noPoints, noteAll, blank, leads}
 use Rattle.query_direct.specs.Choosing.{rowsFrom}
 use Rattle.query_direct.specs.Chosen.{rows-chosen, rows-count, none-chosen, rows-long}
-use Rattle.query_direct.specs.Gathered.{all-read, read-costs, all-bounds, first-bounds}
+use Rattle.query_direct.specs.Gathered.{read-costs, first-bounds, near-bounds, near-rows, near-none}
 
 -- the least penalties that are noted, from the first trips of the lines
 abbrev pub bestOf : (v : List ℕ) (a b u : ℕ) → List ℕ
@@ -52,31 +55,42 @@ module _
     told : Told v (length (t .stations)) (t .trips)
     told = holding v (length (t .stations)) (t .trips) (begins-holds v t .0 own)
 
-    pub shown-rows : rowsFrom u (allRead v a u b) (leads noPoints 0 (bestOf v a b u)) ≡ rows w a b u
+    abbrev firsts : List Ride
+    firsts = firstRead v a u b
+
+    abbrev near : List Ride
+    near = nearRead v a u b
+
+    is-valid : valid t ≡ true
+    is-valid = spelled-valid w accepted
+
+    same-costs : costs (measure u) (map direct firsts) ≡ costs (measure u) (map direct near)
+    same-costs = read-costs v t told a u b some inside is-valid
+
+    pub shown-rows : rowsFrom u (nearRead v a u b) (leads noPoints 0 (bestOf v a b u)) ≡ rows w a b u
     unfolding directRows
     shown-rows =
-        rows-chosen u (firstRead v a u b) (allRead v a u b) (rides w a b u)
-        (all-read v t told a u b some inside (spelled-valid w accepted))
-        (read-costs v t told a u b some inside (spelled-valid w accepted))
-        (first-bounds v t told a u b some inside (spelled-valid w accepted))
-        (all-bounds v t told a u b some inside (spelled-valid w accepted))
+        rows-chosen u firsts near (map direct near) (λ c. (λ m. m, λ m. m)) same-costs
+        (first-bounds v t told a u b some inside is-valid)
+        (near-bounds v t told a u b some inside is-valid)
+        ∙ near-rows v t told a u b some inside is-valid
 
     pub shown-count : length (leads noPoints 0 (bestOf v a b u)) ≡ length (rows w a b u)
     unfolding directRows
     shown-count =
-        rows-count u (firstRead v a u b) (allRead v a u b) (rides w a b u)
-        (all-read v t told a u b some inside (spelled-valid w accepted))
-        (read-costs v t told a u b some inside (spelled-valid w accepted))
-        (first-bounds v t told a u b some inside (spelled-valid w accepted))
-        (all-bounds v t told a u b some inside (spelled-valid w accepted))
+        rows-count u firsts near (map direct near) (λ c. (λ m. m, λ m. m)) same-costs
+        (first-bounds v t told a u b some inside is-valid)
+        (near-bounds v t told a u b some inside is-valid)
+        ∙ ap length (near-rows v t told a u b some inside is-valid)
 
     none : (leads noPoints 0 (bestOf v a b u) ≡ []) ↔ (rides w a b u ≡ [])
     none =
-        none-chosen u (firstRead v a u b) (allRead v a u b) (rides w a b u)
-        (all-read v t told a u b some inside (spelled-valid w accepted))
-        (read-costs v t told a u b some inside (spelled-valid w accepted))
-        (first-bounds v t told a u b some inside (spelled-valid w accepted))
-        (all-bounds v t told a u b some inside (spelled-valid w accepted))
+        let chosen =
+        none-chosen u firsts near (map direct near) (λ c. (λ m. m, λ m. m)) same-costs
+        (first-bounds v t told a u b some inside is-valid)
+        (near-bounds v t told a u b some inside is-valid) in
+        let all = near-none v t told a u b some inside is-valid in
+        (λ e. all .0 (chosen .0 e), λ e. chosen .1 (all .1 e))
 
     pub shown-none : length (leads noPoints 0 (bestOf v a b u)) ≡ 0 → length (rides w a b u) ≡ 0
     shown-none e = ap length (none .0 (no-length (leads noPoints 0 (bestOf v a b u)) e))
@@ -91,7 +105,7 @@ module _
     pub shown-long : length (rowWords (rows w a b u)) ≡ 6 * length (leads noPoints 0 (bestOf v a b u))
     shown-long =
         ap (λ l. length (rowWords l)) (sym shown-rows)
-        ∙ rows-long u (allRead v a u b) (leads noPoints 0 (bestOf v a b u))
+        ∙ rows-long u (nearRead v a u b) (leads noPoints 0 (bestOf v a b u))
 
 -- ---- the same as questions: 14 and 15 come after all others
 abbrev pub leadsOf : (v : List ℕ) (a b u : ℕ) → List Cost
@@ -103,7 +117,7 @@ foundNumber v a b u m =
     (ask 14 (leb 1 (length (leadsOf v a b u))) ∷ ask 15 (leb (6 * length (leadsOf v a b u)) m) ∷ [])
 
 abbrev pub foundWords : (v : List ℕ) (a b u : ℕ) → List ℕ
-foundWords v a b u = rowWords (rowsFrom u (allRead v a u b) (leadsOf v a b u))
+foundWords v a b u = rowWords (rowsFrom u (nearRead v a u b) (leadsOf v a b u))
 
 unfoldable pub foundReply : (v : List ℕ) (a b u m : ℕ) → Reply
 foundReply v a b u m = replyOf (foundNumber v a b u m) (length (leadsOf v a b u))

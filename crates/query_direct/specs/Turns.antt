@@ -9,7 +9,7 @@ use Rattle.results.specs.Results.{Cost}
 use Rattle.connections.specs.Rides.{Ride}
 use Rattle.lines_lookup.specs.Lookup.{Line}
 use Rattle.lines_lookup.specs.Calls.{Call}
-use Rattle.query_direct.specs.Candidates.{Reach, rideOn, legs, firstLeg, allLeg}
+use Rattle.query_direct.specs.Candidates.{Reach, rideOn, legs, firstLeg, nearLeg, allLeg}
 use Rattle.query_direct.specs.Choosing.{rowFor}
 use Rattle.query_direct.specs.Keeping.{keptAt}
 
@@ -20,6 +20,10 @@ firstCalls v u cs ds = concatMap (firstLeg v u) (legs v cs ds)
 -- the rides to a later place on the trips from place j of the line on
 abbrev pub tripsFrom : List ℕ → Line → (x j : ℕ) → Reach → List Ride
 tripsFrom v l x j r = map (λ i. rideOn v l x i r) (range j (l .trips - j))
+
+-- those to the nearest places
+unfoldable pub nearCalls : List ℕ → (u : ℕ) (cs ds : List Call) → List Ride
+nearCalls v u cs ds = concatMap (nearLeg v u) (legs v cs ds)
 
 -- all rides from the calls cs to the calls ds
 unfoldable pub allCalls : List ℕ → (u : ℕ) (cs ds : List Call) → List Ride

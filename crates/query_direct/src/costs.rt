@@ -6,7 +6,7 @@ ghost use lib.ListN.{length};
 ghost use Rattle.lines_lookup.specs.Lookup.{pointsBetween};
 ghost use Rattle.lines_lookup.specs.Calls.{Within};
 ghost use Rattle.query_minutes.specs.Minutes.{noteAll, blank};
-ghost use Rattle.query_direct.specs.Candidates.{rideOn, reachBy, firstRead};
+ghost use Rattle.query_direct.specs.Candidates.{rideOn, reachBy, nearest, firstRead};
 ghost use Rattle.query_direct.specs.Shown.{bestOf, leadsOf};
 use lines_lookup::Boarding;
 use results::Points;
@@ -24,28 +24,27 @@ pub fn ride_points(v: &[u16], g: Boarding, y: usize) -> Points
     Points((there - here) as u32)
 }
 
-// Notes all rides on the trip at place j of the line that is boarded, to the calls of the line that are left.
-fn note_reach(v: &[u16], g: Boarding, j: usize, best: &mut [u32])
+// Notes the ride on the trip at place j of the line that is boarded, to the nearest call of the line that is left. Who
+// rides on to a later one arrives later, and pays no less.
+fn note_nearest(v: &[u16], g: Boarding, j: usize, best: &mut [u32])
     requires { ⌜ Within (now v) g × (j < 65536) ⌝ }
     ensures { λ _. ⌜ now (best .exit)
         ≡ noteAll (now (best .entry))
-        (map (rideOn (now (v .entry)) (g .line) (g .call .place) j) (reachBy (now (v .entry)) g)) ⌝ }
+        (map (rideOn (now (v .entry)) (g .line) (g .call .place) j) (nearest (reachBy (now (v .entry)) g))) ⌝ }
     ensures { λ _. ⌜ length (now (best .exit)) ≡ length (now (best .entry)) ⌝ }
 {
-    let end = g.rest.end;
-    let mut k = g.rest.from;
-    while k + 1 < end {
-        let d = lines_lookup::call_at(v, k);
-        if d.line != g.call.line {
-            break;
-        }
-        let points = ride_points(v, g, d.place);
-        query_minutes::note(best, lines_lookup::arrive_at(v, g.line, d.place, j), points);
-        k += 2;
+    if g.rest.end <= g.rest.from + 1 {
+        return;
     }
+    let d = lines_lookup::call_at(v, g.rest.from);
+    if d.line != g.call.line {
+        return;
+    }
+    let points = ride_points(v, g, d.place);
+    query_minutes::note(best, lines_lookup::arrive_at(v, g.line, d.place, j), points);
 }
 
-// Notes, at each call of station from, the rides to station to on the first trip that leaves at the minute or later. A
+// Notes, at each call of station from, the ride to station to on the first trip that leaves at the minute or later. A
 // line of which no trip leaves then is passed over. Both lists rise: what stands before a call of from need not be
 // looked at again.
 fn note_first(v: &[u16], from: usize, to: usize, minute: usize, best: &mut [u32])
@@ -70,7 +69,7 @@ fn note_first(v: &[u16], from: usize, to: usize, minute: usize, best: &mut [u32]
             }
             j += 1;
         };
-        note_reach(v, g, first, best);
+        note_nearest(v, g, first, best);
     }
 }
 

@@ -5,7 +5,7 @@ ghost use lib.ListN.{length};
 ghost use Rattle.words.specs.Put.{put};
 ghost use Rattle.lists.specs.Lists.{concatMap};
 ghost use Rattle.lines_lookup.specs.Calls.{Within};
-ghost use Rattle.query_direct.specs.Candidates.{rideOn, reachBy, allRead};
+ghost use Rattle.query_direct.specs.Candidates.{rideOn, reachBy, nearest, nearRead};
 ghost use Rattle.query_direct.specs.Choosing.{goesBefore};
 ghost use Rattle.query_direct.specs.Keeping.{keptAt, rideWords, Unkept, keptWith, keptOn, keepAll, Keeps};
 ghost use Rattle.query_direct.specs.Turns.{tripsFrom};
@@ -187,36 +187,36 @@ fn keep_trips(
     }
 }
 
-// Keeps the rides from the call that is boarded at to the calls of its line that are left, on the line's trips from
-// place first on.
-fn keep_reach(v: &[u16], g: Boarding, first: usize, best: &[u32], kept: &mut [u32])
+// Keeps the rides from the call that is boarded at to the nearest call of its line that is left, on the line's trips
+// from place first on. Those to later calls arrive later and cost no less: no row shows them.
+fn keep_nearest(v: &[u16], g: Boarding, first: usize, best: &[u32], kept: &mut [u32])
     requires { ⌜ Within (now v) g
         × (first ≤ g .line .trips)
         × (length (now best) ≡ 2880)
         × (length (now kept) ≡ 11520) ⌝ }
     ensures { λ _. ⌜ now (kept .exit)
         ≡ keepAll (now (best .entry)) (now (kept .entry))
-        (concatMap (tripsFrom (now (v .entry)) (g .line) (g .call .place) first) (reachBy (now (v .entry)) g)) ⌝ }
+        (concatMap (tripsFrom (now (v .entry)) (g .line) (g .call .place) first)
+        (nearest (reachBy (now (v .entry)) g))) ⌝ }
     ensures { λ _. ⌜ length (now (kept .exit)) ≡ length (now (kept .entry)) ⌝ }
 {
-    let end = g.rest.end;
-    let mut k = g.rest.from;
-    while k + 1 < end {
-        let d = lines_lookup::call_at(v, k);
-        if d.line != g.call.line {
-            break;
-        }
-        let points = costs::ride_points(v, g, d.place);
-        keep_trips(v, g.line, g.call.place, d.place, first, points, best, kept);
-        k += 2;
+    if g.rest.end <= g.rest.from + 1 {
+        return;
     }
+    let d = lines_lookup::call_at(v, g.rest.from);
+    if d.line != g.call.line {
+        return;
+    }
+    let points = costs::ride_points(v, g, d.place);
+    keep_trips(v, g.line, g.call.place, d.place, first, points, best, kept);
 }
 
-// Goes once through all rides from one station to another that leave at the minute or later, and keeps them.
+// Goes once through the rides from the calls of one station to the nearest of another that leave at the minute or
+// later, and keeps them.
 fn keep_all(v: &[u16], from: usize, to: usize, minute: usize, best: &[u32], kept: &mut [u32])
     requires { ⌜ (length (now best) ≡ 2880) × (length (now kept) ≡ 11520) ⌝ }
     ensures { λ _. ⌜ now (kept .exit)
-        ≡ keepAll (now (best .entry)) (now (kept .entry)) (allRead (now (v .entry)) from minute to) ⌝ }
+        ≡ keepAll (now (best .entry)) (now (kept .entry)) (nearRead (now (v .entry)) from minute to) ⌝ }
     ensures { λ _. ⌜ length (now (kept .exit)) ≡ length (now (kept .entry)) ⌝ }
 {
     let mut rest = lines_lookup::list_of(v, to);
@@ -227,7 +227,7 @@ fn keep_all(v: &[u16], from: usize, to: usize, minute: usize, best: &[u32], kept
         let g = lines_lookup::boarding_at(v, k, rest);
         rest = g.rest;
         let first = lines_lookup::first_trip(v, g.line, g.call.place, minute);
-        keep_reach(v, g, first, best, kept);
+        keep_nearest(v, g, first, best, kept);
         k += 2;
     }
 }
@@ -235,7 +235,7 @@ fn keep_all(v: &[u16], from: usize, to: usize, minute: usize, best: &[u32], kept
 // Finds the rides that are shown, for each minute of arrival the one that goes before all others of its least penalty.
 pub fn find_rides(v: &[u16], from: usize, to: usize, minute: usize, best: &[u32], kept: &mut [u32])
     requires { ⌜ (length (now best) ≡ 2880) × (length (now kept) ≡ 11520) ⌝ }
-    ensures { λ _. ⌜ Keeps (now (best .entry)) (now (kept .exit)) (allRead (now (v .entry)) from minute to) ⌝ }
+    ensures { λ _. ⌜ Keeps (now (best .entry)) (now (kept .exit)) (nearRead (now (v .entry)) from minute to) ⌝ }
     ensures { λ _. ⌜ length (now (kept .exit)) ≡ length (now (kept .entry)) ⌝ }
 {
     fill_none(kept);

@@ -1,7 +1,7 @@
 -- What is left of the rides from call to call, and after the ride at which a cursor stands.
 use mathlib.Core.Path.{_≡_, refl, sym, ap, subst, _∙_}
 use mathlib.Core.Bool.{true, false, not}
-use mathlib.Core.List.{List, [], _∷_, _++_, append-assoc, map}
+use mathlib.Core.List.{List, [], _∷_, _++_, append-assoc, append-nil, map}
 use Prim.Native.Nat.{ℕ, _+_, _≤_, _<_}
 use native.Mathlib.Omega.{arith}
 use borrow.Author.Tests.{not-true, not-false}
@@ -14,8 +14,8 @@ use Rattle.connections.specs.Rides.{Ride}
 use Rattle.lines_lookup.specs.Lookup.{Line, numberAt, arriveAt, departAt}
 use Rattle.lines_lookup.specs.First.{firstTrip}
 use Rattle.lines_lookup.specs.Calls.{Piece, Boarding, callsOf, callsIn, BoardsAt}
-use Rattle.query_direct.specs.Candidates.{Reach, legs, rideOn, allLeg, allRead}
-use Rattle.query_direct.specs.Turns.{allCalls}
+use Rattle.query_direct.specs.Candidates.{Reach, nearest, legs, rideOn, nearLeg, nearRead, allLeg, allRead}
+use Rattle.query_direct.specs.Turns.{nearCalls, allCalls}
 use Rattle.query_direct.proofs.CallLaws.{legs-none, legs-more}
 use Rattle.query_rides.specs.declared.Place.{Place}
 use Rattle.query_rides.specs.declared.Cursor.{Cursor}
@@ -27,9 +27,12 @@ use Rattle.query_rides.specs.Riding.{
   tripsOf,
   rideOf,
   left,
+  nearFrom,
+  nearLeft,
   Good,
   Tells,
   left-none,
+  near-none,
 }
 
 -- ---- the rides to the places left of a line, and those after them
@@ -117,6 +120,74 @@ module _
           unfolding left
           call-found e = sym (placed first is-first ∙ at-place v g first s further (not-false (s .found) e))
 
+-- ---- from call to call, to the nearest places
+module _
+    (v : List ℕ)
+    (u k end : ℕ)
+    (others : Piece)
+    (whole : List Ride)
+    (so-far : whole ≡ nearFrom v u (record { from = k; end = end }) others)
+  where
+    pub near-calls-none : end ≤ k + 1 → (c : Cursor) → c .more ≡ false → nearLeft v u c ≡ whole
+    unfolding nearFrom nearCalls
+    near-calls-none h c e =
+        near-none v u c e ∙ sym (so-far ∙ ap (concatMap (nearLeg v u)) (legs-none v u k end others h))
+
+    module _
+        (more : k + 1 < end)
+        (inside : end ≤ length v)
+        (g : Boarding)
+        (is : BoardsAt v k others g)
+        (s : Place)
+        (is-s : rest v g (g .rest .from) ≡ restAt v g s)
+      where
+        abbrev beyond : List Ride
+        beyond = nearFrom v u (record { from = k + 2; end = end }) (g .rest)
+
+        near-step : (first : ℕ) → first ≡ firstTrip v (g .line) (g .call .place) u
+            → whole ≡ concatMap (tripsOf v g first) (nearest (rest v g (g .rest .from))) ++ beyond
+        unfolding nearFrom nearCalls rest
+        near-step first is-first =
+            so-far
+            ∙ ap (concatMap (nearLeg v u)) (legs-more v u k end others more inside g is)
+            ∙ rw (is-first, is .line)
+
+        near-placed : (first : ℕ) → first ≡ firstTrip v (g .line) (g .call .place) u
+            → whole ≡ concatMap (tripsOf v g first) (nearest (restAt v g s)) ++ beyond
+        near-placed first is-first =
+            near-step first is-first ∙ ap (λ m. concatMap (tripsOf v g first) (nearest m) ++ beyond) is-s
+
+        pub near-past : not (s .found) ≡ true → whole ≡ beyond
+        unfolding nearest restAt
+        near-past e =
+            near-placed (firstTrip v (g .line) (g .call .place) u) refl ∙ rw (not-true (s .found) e)
+
+        module _ (first : ℕ) (is-first : first ≡ firstTrip v (g .line) (g .call .place) u) where
+          pub near-late : g .line .trips ≤ first → whole ≡ beyond
+          near-late h =
+              near-placed first is-first ∙ ap (λ m. m ++ beyond) (no-trips v g first (nearest (restAt v g s)) h)
+
+          pub near-found : not (s .found) ≡ false
+              → nearLeft v u
+              (record {
+                more = true;
+                calls = record { from = k + 2; end = end };
+                boarding = g;
+                first = first;
+                to = s;
+                j = first;
+              })
+              ≡ whole
+          unfolding nearLeft nearest restAt
+          near-found e = sym (near-placed first is-first ∙ rw (not-false (s .found) e, append-nil))
+
+pub near-first : (v : List ℕ) (a b u : ℕ) (calls others : Piece) (whole : List Ride)
+    → whole ≡ nearFrom v u calls others → callsIn v calls ≡ callsOf v a → callsIn v others ≡ callsOf v b
+    → whole ≡ nearRead v a u b
+unfolding nearFrom nearCalls nearRead
+near-first v a b u calls others whole so-far e f =
+    so-far ∙ (λ i. concatMap (nearLeg v u) (legs v (e i) (f i)))
+
 pub calls-first : (v : List ℕ) (a b u : ℕ) (calls others : Piece) (whole : List Ride)
     → whole ≡ callsFrom v u calls others → callsIn v calls ≡ callsOf v a → callsIn v others ≡ callsOf v b
     → whole ≡ allRead v a u b
@@ -134,6 +205,12 @@ module _ (v : List ℕ) (u : ℕ) (c : Cursor) where
   left-some : c .more ≡ true → left v u c ≡ tripsOf v (c .boarding) (c .j) (reachAt (c .to)) ++ behind
   unfolding left
   left-some e = rw e
+
+  near-some : c .more ≡ true
+      → nearLeft v u c
+      ≡ tripsOf v (c .boarding) (c .j) (reachAt (c .to)) ++ nearFrom v u (c .calls) (c .boarding .rest)
+  unfolding nearLeft
+  near-some e = rw e
 
 module _ (v : List ℕ) (u : ℕ) (c : Cursor) (good : Good v c) (more : c .more ≡ true) where
   step-on : left v u c
@@ -185,6 +262,37 @@ module _ (v : List ℕ) (u : ℕ) (c : Cursor) (good : Good v c) (more : c .more
             → left v u c ≡ rideOf v c ∷ left v u r
         next-call f r e =
             past ∙ ap (λ m. rideOf v c ∷ m) (at-none v g (c .first) s (callsFrom v u calls (g .rest)) f ∙ sym e)
+
+      near-on : nearLeft v u c
+          ≡ rideOf v c
+          ∷ (tripsOf v (c .boarding) (c .j + 1) (reachAt (c .to)) ++ nearFrom v u (c .calls) (c .boarding .rest))
+      unfolding rideOf
+      near-on =
+          near-some v u c more
+          ∙ ap
+          (λ js.
+          map (λ i. rideOn v (c .boarding .line) (c .boarding .call .place) i (reachAt (c .to))) js
+          ++ nearFrom v u (c .calls) (c .boarding .rest))
+          (range-more (c .j) (c .boarding .line .trips) (good .at-trip more))
+
+      pub near-trip : (here : Place) → here ≡ c .to
+          → nearLeft v u c
+          ≡ rideOf v c ∷ nearLeft v u
+          (record { more = true; calls = calls; boarding = g; first = c .first; to = here; j = c .j + 1 })
+      unfolding nearLeft
+      near-trip here is-here = rw (is-g, is-calls, is-here) near-on
+
+      pub near-call : g .line .trips ≤ c .j + 1 → (r : Cursor) → nearLeft v u r ≡ nearFrom v u calls (g .rest)
+          → nearLeft v u c ≡ rideOf v c ∷ nearLeft v u r
+      near-call last r e =
+          near-on
+          ∙ ap
+          (λ js.
+          rideOf v c
+          ∷ (map (λ i. rideOn v (c .boarding .line) (c .boarding .call .place) i (reachAt (c .to))) js
+          ++ nearFrom v u (c .calls) (c .boarding .rest)))
+          (range-none (c .j + 1) (c .boarding .line .trips) (subst (λ g. g .line .trips ≤ c .j + 1) is-g last))
+          ∙ rw (← is-g, ← is-calls, e)
 
       -- the first trip stands no later than the one left, so there is one
       pub place-good : (s : Place) → s .place < 65536 → s .next ≤ 65536

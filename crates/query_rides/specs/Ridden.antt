@@ -19,9 +19,10 @@ use Rattle.lines_lookup.specs.Told.{Told}
 use Rattle.lines_lookup.specs.Holding.{holding}
 use Rattle.lines_check.specs.Question10.{areTables}
 use Rattle.lines_check.specs.Built.{begins-holds}
-use Rattle.query_direct.specs.Candidates.{rideOn, allRead}
+use Rattle.query_direct.specs.Candidates.{rideOn, nearRead, allRead}
 use Rattle.query_direct.specs.Bounds.{Bounds}
-use Rattle.query_direct.specs.Gathered.{all-read, all-bounds}
+use Rattle.query_direct.specs.Nearest.{Nearer}
+use Rattle.query_direct.specs.Gathered.{all-read, near-all, all-near, near-bounds}
 use Rattle.query_rides.specs.declared.Cursor.{Cursor}
 use Rattle.query_rides.specs.Riding.{reachAt, rideOf, left, Good}
 
@@ -70,8 +71,18 @@ module _
     pub read-rides : (r : Ride) → r ∈ allRead v a u b ↔ (Boards (net (timetableOf w)) a u r × (r .to ≡ b))
     read-rides = told-rides v (timetableOf w) told (spelled-valid w accepted) a b u some inside
 
-    pub read-bounds : (r : Ride) → r ∈ allRead v a u b → Bounds u r
-    read-bounds = all-bounds v (timetableOf w) told a u b some inside (spelled-valid w accepted)
+    -- those to the nearest places are among them, and none is missed that is as good
+    pub near-rides : (r : Ride) → r ∈ nearRead v a u b → Boards (net (timetableOf w)) a u r × (r .to ≡ b)
+    near-rides r m =
+        read-rides r .0 (near-all v (timetableOf w) told a u b some inside (spelled-valid w accepted) r m)
+
+    pub rides-near : (r : Ride) → Boards (net (timetableOf w)) a u r × (r .to ≡ b)
+        → (e : Ride) × (e ∈ nearRead v a u b) × Nearer e r
+    rides-near r k =
+        all-near v (timetableOf w) told a u b some inside (spelled-valid w accepted) r (read-rides r .1 k)
+
+    pub read-bounds : (r : Ride) → r ∈ nearRead v a u b → Bounds u r
+    read-bounds = near-bounds v (timetableOf w) told a u b some inside (spelled-valid w accepted)
 
 -- the ride at which a cursor stands is left
 pub ride-left : (v : List ℕ) (u : ℕ) (c : Cursor) → Good v c → c .more ≡ true → rideOf v c ∈ left v u c

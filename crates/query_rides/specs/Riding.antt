@@ -10,7 +10,7 @@ use Rattle.lists.specs.Lists.{concatMap}
 use Rattle.connections.specs.Rides.{Ride}
 use Rattle.lines_lookup.specs.Calls.{Piece, Boarding, callsIn, Inside, Within}
 use Rattle.query_direct.specs.Candidates.{Reach, reachOf, rideOn}
-use Rattle.query_direct.specs.Turns.{tripsFrom, allCalls}
+use Rattle.query_direct.specs.Turns.{tripsFrom, nearCalls, allCalls}
 use Rattle.query_rides.specs.declared.Ride.{Ride as RideStruct}
 use Rattle.query_rides.specs.declared.Place.{Place}
 use Rattle.query_rides.specs.declared.Cursor.{Cursor}
@@ -31,6 +31,10 @@ restAt v g s = cond (s .found) (reachAt s ∷ rest v g (s .next)) []
 unfoldable pub callsFrom : List ℕ → (u : ℕ) (calls others : Piece) → List Ride
 callsFrom v u calls others = allCalls v u (callsIn v calls) (callsIn v others)
 
+-- those to the nearest places
+unfoldable pub nearFrom : List ℕ → (u : ℕ) (calls others : Piece) → List Ride
+nearFrom v u calls others = nearCalls v u (callsIn v calls) (callsIn v others)
+
 -- the rides on the trips from place j on, from where one boards to a place
 abbrev pub tripsOf : List ℕ → Boarding → (j : ℕ) → Reach → List Ride
 tripsOf v g j r = tripsFrom v (g .line) (g .call .place) j r
@@ -47,6 +51,13 @@ left v u c =
     (tripsOf v (c .boarding) (c .j) (reachAt (c .to))
     ++ (concatMap (tripsOf v (c .boarding) (c .first)) (rest v (c .boarding) (c .to .next))
     ++ callsFrom v u (c .calls) (c .boarding .rest)))
+    []
+
+-- those to the nearest places: on the trips left to its place, and from the calls left
+unfoldable pub nearLeft : List ℕ → (u : ℕ) → Cursor → List Ride
+nearLeft v u c =
+    cond (c .more)
+    (tripsOf v (c .boarding) (c .j) (reachAt (c .to)) ++ nearFrom v u (c .calls) (c .boarding .rest))
     []
 
 -- what is known of a cursor: how large its numbers get, and that it stands at a trip
@@ -82,3 +93,12 @@ left-none v u c e = rw e
 pub left-falls : (v : List ℕ) (u : ℕ) (c d : Cursor) → left v u c ≡ rideOf v c ∷ left v u d
     → length (left v u d) < length (left v u c)
 left-falls v u c d e = omega (arith, ap length e)
+
+-- the same of those to the nearest places
+pub near-none : (v : List ℕ) (u : ℕ) (c : Cursor) → c .more ≡ false → nearLeft v u c ≡ []
+unfolding nearLeft
+near-none v u c e = rw e
+
+pub near-falls : (v : List ℕ) (u : ℕ) (c d : Cursor) → nearLeft v u c ≡ rideOf v c ∷ nearLeft v u d
+    → length (nearLeft v u d) < length (nearLeft v u c)
+near-falls v u c d e = omega (arith, ap length e)

@@ -1,5 +1,5 @@
-// The rides from one station to another that leave at a minute or later, one after the other, from line tables; and
-// what a change between two rides takes and costs.
+// The rides from one station to another that leave at a minute or later, one after the other, from line tables, all of
+// them or those to the nearest places; and what a change between two rides takes and costs.
 ghost use mathlib.Core.Path.{_≡_};
 ghost use mathlib.Core.Bool.{true, false};
 ghost use mathlib.Core.List.{_∷_};
@@ -7,8 +7,9 @@ ghost use Prim.Native.Nat.{_-_, _≤_, _<_};
 ghost use lib.ListN.{length};
 ghost use Rattle.timetable.specs.Words.{stationAt};
 ghost use Rattle.lines_lookup.specs.Calls.{Inside, Within};
-ghost use Rattle.query_direct.specs.Candidates.{allRead};
-ghost use Rattle.query_rides.specs.Riding.{Good, Tells, left, rideOf, callsFrom, rest, restAt};
+ghost use Rattle.query_direct.specs.Candidates.{nearRead, allRead};
+ghost use Rattle.query_rides.specs.Riding.{Good, Tells, left, nearLeft, rideOf, callsFrom};
+ghost use Rattle.query_rides.specs.Riding.{nearFrom, rest, restAt};
 use lines_lookup::Boarding;
 use lines_lookup::Call;
 use lines_lookup::Line;
@@ -85,6 +86,7 @@ fn seek_place(v: &[u16], g: Boarding, k: usize) -> Place
 fn seek_call(v: &[u16], minute: usize, calls: Piece, others: Piece) -> Cursor
     requires { ⌜ Inside (now v) calls × Inside (now v) others ⌝ }
     ensures { λ r. ⌜ (left (now (v .entry)) minute r ≡ callsFrom (now (v .entry)) minute calls others)
+        × (nearLeft (now (v .entry)) minute r ≡ nearFrom (now (v .entry)) minute calls others)
         × Good (now (v .entry)) r ⌝ }
 {
     let end = calls.end;
@@ -133,6 +135,7 @@ fn seek_call(v: &[u16], minute: usize, calls: Piece, others: Piece) -> Cursor
 // The first ride from one station to another.
 pub fn begin(v: &[u16], from: usize, to: usize, minute: usize) -> Cursor
     ensures { λ r. ⌜ (left (now (v .entry)) minute r ≡ allRead (now (v .entry)) from minute to)
+        × (nearLeft (now (v .entry)) minute r ≡ nearRead (now (v .entry)) from minute to)
         × Good (now (v .entry)) r ⌝ }
 {
     seek_call(
@@ -175,6 +178,30 @@ pub fn next(v: &[u16], minute: usize, c: Cursor) -> Cursor
         };
     }
     seek_call(v, minute, calls, g.rest)
+}
+
+// The ride after the one at which c stands, where only the nearest place is ridden to: on the next trip of the line;
+// else from the next call.
+pub fn next_nearest(v: &[u16], minute: usize, c: Cursor) -> Cursor
+    requires { ⌜ Good (now v) c × (c .more ≡ true) ⌝ }
+    ensures { λ r. ⌜ (nearLeft (now (v .entry)) minute c
+        ≡ rideOf (now (v .entry)) c ∷ nearLeft (now (v .entry)) minute r)
+        × Good (now (v .entry)) r ⌝ }
+{
+    let g = c.boarding;
+    let calls = c.calls;
+    let here = c.to;
+    if g.line.trips <= c.j + 1 {
+        return seek_call(v, minute, calls, g.rest);
+    }
+    Cursor {
+        more: true,
+        calls,
+        boarding: g,
+        first: c.first,
+        to: here,
+        j: c.j + 1,
+    }
 }
 
 // The ride at which c stands.

@@ -7,11 +7,11 @@ use native.Mathlib.Omega.{arith}
 use borrow.Author.Tests.{le-leb, lt-leb, ltb-true, ltb-false, not-true, not-false}
 use lib.Dec.{ltb}
 use lib.ListN.{getD}
-use Rattle.query_direct.specs.Candidates.{allRead}
+use Rattle.query_direct.specs.Candidates.{nearRead}
 use Rattle.query_minutes.specs.Minutes.{noPoints}
 use Rattle.query_rides.specs.declared.Ride.{Ride as RideStruct}
 use Rattle.query_rides.specs.declared.Cursor.{Cursor}
-use Rattle.query_rides.specs.Riding.{Tells, left, rideOf, left-none}
+use Rattle.query_rides.specs.Riding.{Tells, nearLeft, rideOf, near-none}
 use Rattle.query_shown.specs.Heads.{noRide, headOf}
 use Rattle.query_shown.specs.Turns.{tellsOf, tells-is, comesBefore, tried, triedAll, tried-all, Sized}
 
@@ -79,32 +79,32 @@ module _
 
 module _ (lines : List ℕ) (from to ready : ℕ) (first : Bool) (z : List ℕ) (p : ℕ) where
   abbrev whole : RideStruct
-  whole = triedAll first z p (tellsOf noRide) (allRead lines from ready to)
+  whole = triedAll first z p (tellsOf noRide) (nearRead lines from ready to)
 
-  pub choose-begins : (c : Cursor) → left lines ready c ≡ allRead lines from ready to
-      → whole ≡ triedAll first z p (tellsOf noRide) (left lines ready c)
+  pub choose-begins : (c : Cursor) → nearLeft lines ready c ≡ nearRead lines from ready to
+      → whole ≡ triedAll first z p (tellsOf noRide) (nearLeft lines ready c)
   choose-begins c e = ap (triedAll first z p (tellsOf noRide)) (sym e)
 
   -- the choice, once the rides left are tried too
   abbrev with : RideStruct → Cursor → RideStruct
-  with best c = triedAll first z p best (left lines ready c)
+  with best c = triedAll first z p best (nearLeft lines ready c)
 
   module _ (best : RideStruct) (c : Cursor) (so-far : whole ≡ with best c) where
     pub choose-more : (d : Cursor) (s new : RideStruct) → Tells s (rideOf lines c) → new ≡ tried first z p best s
-        → left lines ready c ≡ rideOf lines c ∷ left lines ready d
-        → whole ≡ triedAll first z p new (left lines ready d)
+        → nearLeft lines ready c ≡ rideOf lines c ∷ nearLeft lines ready d
+        → whole ≡ triedAll first z p new (nearLeft lines ready d)
     unfolding triedAll
     choose-more d s new t n e =
-        let rest = left lines ready d in
+        let rest = nearLeft lines ready d in
         let told = tells-is s (rideOf lines c) t in
         so-far
         ∙ ap (triedAll first z p best) e
         ∙ ap (λ b. triedAll first z p b rest) (ap (tried first z p best) (sym told) ∙ sym n)
 
-    pub choose-done : c .more ≡ false → best ≡ tellsOf (headOf first z p (allRead lines from ready to))
+    pub choose-done : c .more ≡ false → best ≡ tellsOf (headOf first z p (nearRead lines from ready to))
     unfolding triedAll
     choose-done e =
         sym
-        (sym (tried-all first z p (allRead lines from ready to))
+        (sym (tried-all first z p (nearRead lines from ready to))
         ∙ so-far
-        ∙ ap (triedAll first z p best) (left-none lines ready c e))
+        ∙ ap (triedAll first z p best) (near-none lines ready c e))

@@ -16,9 +16,9 @@ use Rattle.lists.specs.Lists.{_∈_}
 use Rattle.connections.specs.Rides.{Ride}
 use Rattle.connections.specs.RideLaws.{changes-in}
 use Rattle.connections.specs.Connections.{Change, Net, net, noStation, changeAt}
-use Rattle.query_direct.specs.Candidates.{allRead}
+use Rattle.query_direct.specs.Candidates.{nearRead}
 use Rattle.query_minutes.specs.Minutes.{blank}
-use Rattle.query_rides.specs.Ridden.{read-rides, read-bounds}
+use Rattle.query_rides.specs.Ridden.{near-rides, rides-near, read-bounds}
 use Rattle.query_shown.specs.Rests.{Rests, RestsAt}
 use Rattle.query_shown.specs.Spans.{Spans, Arrived}
 use Rattle.query_shown.specs.Stepping.{stepped, noted-spans, rests-before, rests-end}
@@ -90,7 +90,7 @@ module _ (w lines path : List ℕ) (j v : ℕ) (given : Given w lines path (j + 
       cp = (stationAt w (back - 1)) .points
 
       rides : List Ride
-      rides = allRead lines back (minute + cm) (getD path j 0)
+      rides = nearRead lines back (minute + cm) (getD path j 0)
 
       useful : (r : Ride) → r ∈ rides → (minute + cm ≤ r .depart) × (r .depart < r .arrive)
       useful r m =
@@ -180,7 +180,7 @@ module _ (w lines path : List ℕ) (r v : ℕ) (given : Given w lines path r v) 
         c = change-there w accepted x first most
 
         rides : ℕ → List Ride
-        rides cm = allRead lines x (minute + cm) y
+        rides cm = nearRead lines x (minute + cm) y
 
         after : (cm cp : ℕ) → List ℕ
         after cm cp = stepped minute cm cp z (rides cm)
@@ -189,10 +189,11 @@ module _ (w lines path : List ℕ) (r v : ℕ) (given : Given w lines path r v) 
         whole =
             let inside = station-inside w accepted x first most in
             let cm = c .change .minutes in
-            let told = read-rides w lines x y (minute + cm) accepted (given .own) first inside in
+            let told = near-rides w lines x y (minute + cm) accepted (given .own) first inside in
+            let near = rides-near w lines x y (minute + cm) accepted (given .own) first inside in
             let t = timetableOf w in
-            rests-before t (is-valid w accepted) b v minute q x y (c .change) (c .listed) (c .at) (rides cm) told z s
-            (omega (arith, given .timely))
+            rests-before t (is-valid w accepted) b v minute q x y (c .change) (c .listed) (c .at) (rides cm) told near
+            z s (omega (arith, given .timely))
 
         is : new ≡ after (c .change .minutes) (c .change .points)
         is = is-new ∙ (λ i. after (sym (c .minutes) i) (sym (c .points) i))

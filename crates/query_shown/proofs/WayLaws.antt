@@ -1,7 +1,7 @@
 -- From ride to ride along a path: the ride to take, what is written of it, and where one is behind it.
 use mathlib.Core.Path.{_≡_, refl, sym, ap, subst, _∙_}
 use mathlib.Core.Bool.{Bool, true, false, not, true≢false}
-use mathlib.Core.Logic.{_⊎_, inl, inr, _↔_}
+use mathlib.Core.Logic.{_⊎_, inl, inr}
 use mathlib.Core.List.{List, [], _∷_, _++_}
 use Prim.Native.Nat.{ℕ, _+_, _-_, _*_, _≤_, _<_}
 use native.Mathlib.Numerals.{add-one}
@@ -17,10 +17,11 @@ use Rattle.connections.specs.Connections.{Change, net, Connection, Boards, read
 use Rattle.lists.specs.Lists.{_∈_}
 use Rattle.connections.specs.Sound.{sound}
 use Rattle.connections.specs.Feasibility.{takes-time}
-use Rattle.query_direct.specs.Candidates.{allRead}
+use Rattle.query_direct.specs.Candidates.{nearRead}
+use Rattle.query_direct.specs.Nearest.{Nearer}
 use Rattle.optimality.specs.Greedy.{rideNumbers}
 use Rattle.query_rides.specs.declared.Ride.{Ride as RideStruct}
-use Rattle.query_rides.specs.Ridden.{read-rides}
+use Rattle.query_rides.specs.Ridden.{near-rides, rides-near}
 use Rattle.query_shown.specs.declared.At.{At}
 use Rattle.query_shown.specs.declared.Next.{Next}
 use Rattle.query_shown.specs.Showing.{Given, Fitting, FoundAt}
@@ -91,11 +92,11 @@ module _ (w lines path : List ℕ) (r v : ℕ) (given : Given w lines path r v) 
       → Standing w minute at
       → RestsAt w path r v minute i z
       → to ≡ getD path i 0
-      → s ≡ tellsOf (headOf first z (at .left .0) (allRead lines (at .from) (at .ready) to))
+      → s ≡ tellsOf (headOf first z (at .left .0) (nearRead lines (at .from) (at .ready) to))
       → Headed w path r v first i at s
   unfolding RestsAt Headed
   head-taken minute i to at first z s inside stands rests is-to is =
-      go (head-cases t (is-valid w accepted) b v minute q y x u p (stands .later) rides told z rests first)
+      go (head-cases t (is-valid w accepted) b v minute q y x u p (stands .later) rides told near z rests first)
     where
       y : ℕ
       y = getD path i 0
@@ -113,17 +114,22 @@ module _ (w lines path : List ℕ) (r v : ℕ) (given : Given w lines path r v) 
       p = at .left .0
 
       rides : List Ride
-      rides = allRead lines x u y
+      rides = nearRead lines x u y
 
-      told : (g : Ride) → g ∈ rides ↔ (Boards (net t) x u g × (g .to ≡ y))
-      told = read-rides w lines x y u accepted (given .own) (stands .least)
-          (station-inside w accepted x (stands .least) (stands .most))
+      from-inside : x ≤ length (t .stations)
+      from-inside = station-inside w accepted x (stands .least) (stands .most)
+
+      told : (g : Ride) → g ∈ rides → Boards (net t) x u g × (g .to ≡ y)
+      told = near-rides w lines x y u accepted (given .own) (stands .least) from-inside
+
+      near : (g : Ride) → Boards (net t) x u g × (g .to ≡ y) → (e : Ride) × (e ∈ rides) × Nearer e g
+      near = rides-near w lines x y u accepted (given .own) (stands .least) from-inside
 
       one : Ride
       one = headOf first z p rides
 
       tells : s ≡ tellsOf one
-      tells = is ∙ ap (λ y. tellsOf (headOf first z p (allRead lines x u y))) is-to
+      tells = is ∙ ap (λ y. tellsOf (headOf first z p (nearRead lines x u y))) is-to
 
       go : ((one ≡ noRide) × ((e : Connection) → ¬ Fitting t b v (y ∷ q) x u p e))
           ⊎ Chosen t b v first (y ∷ q) x u p one

@@ -1,8 +1,8 @@
 -- The ride to take next. With what is left behind each ride at hand, a test says exactly which rides begin a connection
 -- that arrives and pays as it should; the rule for equal cost picks one of them.
-use mathlib.Core.Path.{_≡_, refl, ap}
+use mathlib.Core.Path.{_≡_, refl, sym, ap}
 use mathlib.Core.Bool.{Bool, true, false, not, cond, _&&_}
-use mathlib.Core.Logic.{_↔_, _⊎_, inl, inr}
+use mathlib.Core.Logic.{_⊎_, inl, inr}
 use mathlib.Core.List.{List, [], _∷_}
 use Prim.Native.Nat.{ℕ, _+_, _-_, _≤_, _<_}
 use native.Mathlib.Omega.{arith}
@@ -12,7 +12,7 @@ use Rattle.timetable.specs.Timetable.{Timetable, lastMinute, counted, valid}
 use Rattle.lists.specs.Lists.{_∈_, before, filter}
 use Rattle.lists.specs.Tests.{either, reads, writes}
 use Rattle.lists.specs.Members.{filter-in, filter-out}
-use Rattle.lists.specs.Order.{before-head, before-tail}
+use Rattle.lists.specs.Order.{before-head, before-tail, before-cases, not-before-trans}
 use Rattle.connections.specs.Rides.{Ride}
 use Rattle.connections.specs.RideLaws.{rides-out}
 use Rattle.connections.specs.Connections.{Net, net, Connection, Boards}
@@ -21,7 +21,8 @@ use Rattle.connections.specs.Feasibility.{penalty-most}
 use Rattle.optimality.specs.Ways.{firstRide}
 use Rattle.optimality.specs.Greedy.{rideNumbers}
 use Rattle.query_minutes.specs.Minutes.{noPoints}
-use Rattle.query_shown.specs.Rests.{Rests, begun, parted}
+use Rattle.query_direct.specs.Nearest.{Nearer, nearer-sooner}
+use Rattle.query_shown.specs.Rests.{Rests, rest-earlier, begun, parted}
 use Rattle.query_shown.specs.Showing.{Fitting}
 use Rattle.query_shown.specs.Foremost.{foremost, foremost-cases, Leading}
 
@@ -44,6 +45,29 @@ takeable z p r = ltb (getD z (r .arrive) noPoints) noPoints && leb (r .points + 
 -- the ride to take
 unfoldable pub headOf : (first : Bool) (z : List ℕ) (p : ℕ) → List Ride → Ride
 headOf first z p rides = foremost (headKey first) noRide (filter (takeable z p) rides)
+
+-- ---- of two rides from one stop of a trip the nearer one
+module _ (e r : Ride) (k : Nearer e r) where
+  -- it comes no later
+  nearer-first : (first : Bool) → ¬ T (before (headKey first r) (headKey first e))
+  nearer-first first t =
+      let late : lateness first (r .depart) ≡ lateness first (e .depart) = ap (lateness first) (sym (k .depart)) in
+      elim (before-cases (lateness first (r .depart)) (lateness first (e .depart)) (rideNumbers r) (rideNumbers e) t) [
+        | inl h ↦ omega (arith, late)
+        | inr h ↦
+            elim (before-cases (r .trip) (e .trip) (r .board ∷ r .alight ∷ []) (e .board ∷ e .alight ∷ []) (h .1)) [
+              | inl g ↦ omega (arith, k .trip)
+              | inr g ↦
+                  elim (before-cases (r .board) (e .board) (r .alight ∷ []) (e .alight ∷ []) (g .1)) [
+                    | inl i ↦ omega (arith, k .board)
+                    | inr i ↦
+                        elim (before-cases (r .alight) (e .alight) [] [] (i .1)) [
+                          | inl j ↦ omega (arith, k .alight)
+                          | inr j ↦ j .1
+                        ]
+                  ]
+            ]
+      ]
 
 module _ (timetable : Timetable) (b v : ℕ) where
   -- ride r begins a connection that fits
@@ -104,7 +128,8 @@ module _ (timetable : Timetable) (okay : T (valid timetable)) (b v : ℕ) where
       (y x u p : ℕ)
       (later : t ≤ u)
       (rides : List Ride)
-      (told : (r : Ride) → r ∈ rides ↔ (Boards n x u r × (r .to ≡ y)))
+      (told : (r : Ride) → r ∈ rides → Boards n x u r × (r .to ≡ y))
+      (near : (r : Ride) → Boards n x u r × (r .to ≡ y) → (e : Ride) × (e ∈ rides) × Nearer e r)
       (z : List ℕ)
       (rests : Rests n b v t q y z)
     where
@@ -114,7 +139,7 @@ module _ (timetable : Timetable) (okay : T (valid timetable)) (b v : ℕ) where
           let test = f .1 in
           let left : getD z (r .arrive) noPoints < noPoints = search reads in
           let pays : r .points + getD z (r .arrive) noPoints ≤ p = search reads in
-          let h = told r .0 (f .0) in
+          let h = told r (f .0) in
           let c = begun n b v q y x u r (getD z (r .arrive) noPoints) (h .0) (h .1) (rests .some (r .arrive) left) in
           record {
             connection = c .connection;
@@ -123,17 +148,25 @@ module _ (timetable : Timetable) (okay : T (valid timetable)) (b v : ℕ) where
             begins = c .begins;
           }
 
-      starts-in : (c : Connection) → Fitting timetable b v (y ∷ q) x u p c → firstRide c ∈ filter (takeable z p) rides
+      -- a connection that fits begins with one of them, or with a ride on to a place behind it
+      starts-in : (c : Connection) → Fitting timetable b v (y ∷ q) x u p c
+          → (e : Ride) × (e ∈ filter (takeable z p) rides) × Nearer e (firstRide c)
       starts-in c f =
           let d = parted n b v q y x u c (f .feasible) (f .is) (f .timely) in
           let r = firstRide c in
+          let g = near r (d .boards, d .to) in
+          let e = g .0 in
+          let boards = told e (g .1) .0 in
           let most = penalty-most timetable okay x u b c (f .feasible) in
-          let forward = ok .forward r (d .boards .listed) in
+          let forward = ok .forward e (boards .listed) in
           let bounded = ok .bounded r (d .boards .listed) in
-          let low = rests .least (r .arrive) (d .points) (omega (arith, d .boards .timely)) (omega arith) (d .rest) in
-          let left : getD z (r .arrive) noPoints < noPoints = omega (arith, low, d .total, most) in
-          let pays : r .points + getD z (r .arrive) noPoints ≤ p = omega (arith, low, d .total, f .cheap) in
-          filter-in (takeable z p) (told r .1 (d .boards, d .to)) (search writes)
+          let sooner = nearer-sooner e r (g .2) in
+          let rest = rest-earlier n b v q y (e .arrive) (r .arrive) (d .points) sooner (d .rest) in
+          let low = rests .least (e .arrive) (d .points) (omega (arith, boards .timely)) (omega arith) rest in
+          let left : getD z (e .arrive) noPoints < noPoints = omega (arith, low, d .total, most) in
+          let pays : e .points + getD z (e .arrive) noPoints ≤ p
+          = omega (arith, low, d .total, f .cheap, g .2 .points) in
+          (e, filter-in (takeable z p) (g .1) (search writes), g .2)
 
       pub head-cases : (first : Bool)
           → ((headOf first z p rides ≡ noRide) × ((e : Connection) → ¬ Fitting timetable b v (y ∷ q) x u p e))
@@ -145,7 +178,7 @@ module _ (timetable : Timetable) (okay : T (valid timetable)) (b v : ℕ) where
           those = filter (takeable z p) rides
 
           listed : (r : Ride) → r ∈ those → r ∈ n .rides
-          listed r m = told r .0 (filter-out (takeable z p) rides m .0) .0 .listed
+          listed r m = told r (filter-out (takeable z p) rides m .0) .0 .listed
 
           ahead : (r : Ride) → r ∈ those → T (before (headKey first r) (headKey first noRide))
           ahead r m = ride-before first r (listed r m)
@@ -156,10 +189,14 @@ module _ (timetable : Timetable) (okay : T (valid timetable)) (b v : ℕ) where
           go : ((one ≡ noRide) × ((r : Ride) → ¬ (r ∈ those))) ⊎ Leading (headKey first) those one
               → ((one ≡ noRide) × ((e : Connection) → ¬ Fitting timetable b v (y ∷ q) x u p e))
               ⊎ Chosen timetable b v first (y ∷ q) x u p one
-          go (inl h) = inl (h .0, λ e f. h .1 (firstRide e) (starts-in e f))
+          go (inl h) = inl (h .0, λ e f. let k = starts-in e f in h .1 (k .0) (k .1))
           go (inr h) =
               inr (record {
                 starts = starts-out one (h .member);
                 few = trip-few one (listed one (h .member));
-                leads = λ e f. h .first (firstRide e) (starts-in e f);
+                leads = λ e f.
+                    let k = starts-in e f in
+                    not-before-trans (headKey first (firstRide e)) (headKey first (k .0)) (headKey first one)
+                    (nearer-first (k .0) (firstRide e) (k .2) first)
+                    (h .first (k .0) (k .1));
               })

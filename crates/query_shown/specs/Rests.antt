@@ -12,7 +12,7 @@ use Rattle.results.specs.Picks.{lead}
 use Rattle.connections.specs.Rides.{Ride}
 use Rattle.connections.specs.Connections.{Change, Net, net, Connection, direct, onward, Boards, Feasible}
 use Rattle.connections.specs.Connections.{arrival, penalty, stations}
-use Rattle.connections.specs.Feasibility.{has-stations}
+use Rattle.connections.specs.Feasibility.{has-stations, earlier}
 use Rattle.optimality.specs.Ways.{firstRide}
 use Rattle.query_minutes.specs.Minutes.{noPoints}
 
@@ -33,6 +33,23 @@ module _ (n : Net) (b v : ℕ) where
   abbrev pub Rest : (q : List ℕ) (x m s : ℕ) → Type 0
   Rest [] x m s = (x ≡ b) × (m ≤ v) × (s ≡ 0)
   Rest (y ∷ q) x m s = Onward (y ∷ q) x m s
+
+  -- who arrives earlier can wait
+  pub rest-earlier : (q : List ℕ) (x m k s : ℕ) → m ≤ k → Rest q x k s → Rest q x m s
+  rest-earlier [] x m k s h r = (r .0, omega arith, r .2)
+  rest-earlier (y ∷ q) x m k s h r =
+      record {
+        change = r .change;
+        connection = r .connection;
+        listed = r .listed;
+        at = r .at;
+        feasible =
+            earlier n (r .change .to) (m + r .change .minutes) (k + r .change .minutes) b (r .connection) (omega arith)
+            (r .feasible);
+        is = r .is;
+        timely = r .timely;
+        total = r .total;
+      }
 
   -- z holds, for each minute, the least penalty of what is left for one who arrives at x then; from minute t on it
   -- leaves nothing out

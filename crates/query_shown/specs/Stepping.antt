@@ -3,7 +3,7 @@
 -- what is left behind it.
 use mathlib.Core.Path.{_≡_, sym, ap, _∙_}
 use mathlib.Core.Bool.{Bool, not, _&&_}
-use mathlib.Core.Logic.{inl, inr, _↔_}
+use mathlib.Core.Logic.{inl, inr}
 use mathlib.Core.List.{List, [], _∷_, map, Memᴰ·map, Memᴰ·of-map}
 use Prim.Native.Nat.{ℕ, _+_, _-_, _≤_, _<_}
 use native.Mathlib.Omega.{arith}
@@ -19,9 +19,10 @@ use Rattle.connections.specs.Named.{named}
 use Rattle.connections.specs.Sound.{Sound, sound}
 use Rattle.connections.specs.Feasibility.{penalty-most}
 use Rattle.optimality.specs.Ways.{firstRide}
+use Rattle.query_direct.specs.Nearest.{Nearer, nearer-sooner}
 use Rattle.query_minutes.specs.Minutes.{noPoints, noteAll, blank}
 use Rattle.query_minutes.specs.Noted.{Noted, Arrives, all-noted, LeastNoted, least-noted, length-noted}
-use Rattle.query_shown.specs.Rests.{Rest, Rests, begun, parted}
+use Rattle.query_shown.specs.Rests.{Rest, Rests, rest-earlier, begun, parted}
 use Rattle.query_shown.specs.Settling.{settledFrom, length-from, from-kept, from-low, from-is}
 use Rattle.query_shown.specs.Spans.{Spans, Arrived, spans-blank, spans-in}
 
@@ -148,7 +149,8 @@ module _ (timetable : Timetable) (okay : T (valid timetable)) (b v t : ℕ) wher
       (listed : w ∈ n .changes)
       (at : w .from ≡ x)
       (rides : List Ride)
-      (told : (r : Ride) → r ∈ rides ↔ (Boards n x (t + w .minutes) r × (r .to ≡ y)))
+      (told : (r : Ride) → r ∈ rides → Boards n x (t + w .minutes) r × (r .to ≡ y))
+      (near : (r : Ride) → Boards n x (t + w .minutes) r × (r .to ≡ y) → (e : Ride) × (e ∈ rides) × Nearer e r)
       (old : List ℕ)
       (rests : Rests n b v t q y old)
     where
@@ -173,7 +175,7 @@ module _ (timetable : Timetable) (okay : T (valid timetable)) (b v t : ℕ) wher
           let test = f .1 in
           let left : getD old ((k .0) .arrive) noPoints < noPoints = search reads in
           let early : w .minutes ≤ (k .0) .depart = search reads in
-          let h = told (k .0) .0 (f .0) in
+          let h = told (k .0) (f .0) in
           record {
             ride = k .0;
             boards = h .0;
@@ -184,12 +186,12 @@ module _ (timetable : Timetable) (okay : T (valid timetable)) (b v t : ℕ) wher
             pays = sym (ap (λ r. r .points) (k .2));
           }
 
-      caught-in : (r : Ride) → Boards n x (t + w .minutes) r → r .to ≡ y → getD old (r .arrive) noPoints < noPoints
-          → w .minutes ≤ r .depart → caught (w .minutes) (w .points) old r ∈ those
+      caught-in : (r : Ride) → r ∈ rides → getD old (r .arrive) noPoints < noPoints → w .minutes ≤ r .depart
+          → caught (w .minutes) (w .points) old r ∈ those
       unfolding catches
-      caught-in r boards to left early =
+      caught-in r m left early =
           Memᴰ·map (caught (w .minutes) (w .points) old)
-          (filter-in (catchable (w .minutes) old) (told r .1 (boards, to)) (search writes))
+          (filter-in (catchable (w .minutes) old) m (search writes))
 
       in-time : (r : Ride) → r ∈ those → r .arrive < 2880
       in-time r m =
@@ -244,16 +246,22 @@ module _ (timetable : Timetable) (okay : T (valid timetable)) (b v t : ℕ) wher
               timely = omega (arith, d .boards .timely, minutes);
             }
             in
-            let forward = ok .forward r (d .boards .listed) in
+            let k = near r (boards, d .to) in
+            let f = k .0 in
+            let depart = k .2 .depart in
+            let sooner = nearer-sooner f r (k .2) in
+            let forward = ok .forward f (told f (k .1) .0 .listed) in
             let bounded = ok .bounded r (d .boards .listed) in
-            let low = rests .least (r .arrive) (d .points) (omega (arith, boards .timely)) (omega arith) (d .rest) in
-            let left : getD old (r .arrive) noPoints < noPoints = omega (arith, low, d .total, most) in
-            let early : w .minutes ≤ r .depart = omega (arith, d .boards .timely, minutes) in
-            let in-list = caught-in r boards (d .to) left early in
+            let rest = rest-earlier n b v q y (f .arrive) (r .arrive) (d .points) sooner (d .rest) in
+            let low = rests .least (f .arrive) (d .points) (omega (arith, boards .timely)) (omega arith) rest in
+            let left : getD old (f .arrive) noPoints < noPoints = omega (arith, low, d .total, most) in
+            let early : w .minutes ≤ f .depart = omega (arith, d .boards .timely, minutes) in
+            let in-list = caught-in f (k .1) left early in
             omega (
               arith,
-              from-low noPoints t after inside m (r .depart - w .minutes) h (omega (arith, d .boards .timely, minutes)),
-              noted .low (caught (w .minutes) (w .points) old r) in-list,
+              from-low noPoints t after inside m (f .depart - w .minutes) h (omega (arith, d .boards .timely, minutes)),
+              noted .low (caught (w .minutes) (w .points) old f) in-list,
+              k .2 .points,
               low,
               o .total,
               d .total,

@@ -8,7 +8,7 @@ use lib.ListN.{getD}
 use Rattle.timetable.specs.Words.{stationAt}
 use Rattle.lists.specs.Lists.{before, keep, filter}
 use Rattle.connections.specs.Rides.{Ride}
-use Rattle.query_direct.specs.Candidates.{allRead}
+use Rattle.query_direct.specs.Candidates.{nearRead}
 use Rattle.query_minutes.specs.Minutes.{noPoints, noteAll, blank, lowered}
 use Rattle.query_rides.specs.declared.Ride.{Ride as RideStruct}
 use Rattle.query_rides.specs.Riding.{Tells}
@@ -63,12 +63,13 @@ catches-more cm cp old z r l = go (catchable cm old r) refl
     go true e = rw e
     go false e = rw e
 
--- z once all rides from the station before station j of a path to station j are noted, old being what is left there
+-- z once the rides from the station before station j of a path to the nearest places of station j are noted, old being
+-- what is left there
 unfoldable pub gatherBack : (w lines : List ℕ) (minute : ℕ) (path : List ℕ) (j : ℕ) (old z : List ℕ) → List ℕ
 gatherBack w lines minute path j old z =
     let x = getD path (j - 1) 0 in
     let s = stationAt w (x - 1) in
-    noteAll z (catches (s .minutes) (s .points) old (allRead lines x (minute + s .minutes) (getD path j 0)))
+    noteAll z (catches (s .minutes) (s .points) old (nearRead lines x (minute + s .minutes) (getD path j 0)))
 
 -- what is left behind the station before station j of a path
 unfoldable pub stepBack : (w lines : List ℕ) (minute : ℕ) (path : List ℕ) (j : ℕ) (z : List ℕ) → List ℕ

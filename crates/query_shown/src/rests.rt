@@ -5,7 +5,7 @@
 ghost use mathlib.Core.Path.{_≡_};
 ghost use Prim.Native.Nat.{_+_, _-_, _≤_, _<_};
 ghost use lib.ListN.{length, getD};
-ghost use Rattle.query_direct.specs.Candidates.{allRead};
+ghost use Rattle.query_direct.specs.Candidates.{nearRead};
 ghost use Rattle.query_minutes.specs.Minutes.{noPoints, noteAll, blank, lowered};
 ghost use Rattle.query_shown.specs.Showing.{Given};
 ghost use Rattle.query_shown.specs.Rests.{RestsAt};
@@ -71,7 +71,8 @@ fn catch_ride(z: &mut [u32], old: &[u32], ride: Ride, change: Cost)
     }
 }
 
-// Notes all rides from one station to the next that leave at the minute or later.
+// Notes the rides from one station to the nearest place of the next that leave at the minute or later: who rides on to
+// a later place of it arrives later and pays no less.
 fn gather(
     lines: &[u16],
     from: usize,
@@ -84,14 +85,14 @@ fn gather(
     ensures { λ _. ⌜ now (z .exit)
         ≡ noteAll (now (z .entry))
         (catches (change .minutes .0) (change .points .0) (now (old .entry))
-        (allRead (now (lines .entry)) from minute to)) ⌝ }
+        (nearRead (now (lines .entry)) from minute to)) ⌝ }
     ensures { λ _. ⌜ length (now (z .exit)) ≡ length (now (z .entry)) ⌝ }
 {
     let mut c = query_rides::begin(lines, from, to, minute);
     while c.more {
         let ride = query_rides::tell(lines, c);
         catch_ride(z, old, ride, change);
-        c = query_rides::next(lines, minute, c);
+        c = query_rides::next_nearest(lines, minute, c);
     }
 }
 

@@ -5,7 +5,7 @@ ghost use mathlib.Core.List.{[], _∷_};
 ghost use Prim.Native.Nat.{_+_, _-_, _*_, _≤_, _<_};
 ghost use lib.ListN.{length, getD};
 ghost use Rattle.words.specs.Put.{put};
-ghost use Rattle.query_direct.specs.Candidates.{allRead};
+ghost use Rattle.query_direct.specs.Candidates.{nearRead};
 ghost use Rattle.query_shown.specs.Showing.{Given};
 ghost use Rattle.query_shown.specs.Spans.{Spans};
 ghost use Rattle.query_shown.specs.Heads.{lateness, headOf};
@@ -100,7 +100,8 @@ fn try_ride(first: bool, z: &[u32], left: Points, best: Ride, ride: Ride) -> Rid
     best
 }
 
-// The ride to take from one station to the next, at a minute and with points left to pay.
+// The ride to take from one station to the next, at a minute and with points left to pay. Of the rides from one stop of
+// a trip the one to the nearest place comes first, arrives first and costs no more: the others are not looked at.
 fn choose(
     lines: &[u16],
     from: usize,
@@ -111,7 +112,7 @@ fn choose(
     z: &[u32],
 ) -> Ride
     ensures { λ r. ⌜ (r
-        ≡ tellsOf (headOf first (now (z .entry)) (left .0) (allRead (now (lines .entry)) from ready to)))
+        ≡ tellsOf (headOf first (now (z .entry)) (left .0) (nearRead (now (lines .entry)) from ready to)))
         × Sized r ⌝ }
 {
     let mut best = Ride {
@@ -126,7 +127,7 @@ fn choose(
     while c.more {
         let ride = query_rides::tell(lines, c);
         best = try_ride(first, z, left, best, ride);
-        c = query_rides::next(lines, ready, c);
+        c = query_rides::next_nearest(lines, ready, c);
     }
     best
 }

@@ -1,12 +1,12 @@
--- What is kept so far, and then from the calls that are left, is what is kept of all rides of the query.
+-- What is kept so far, and then from the calls that are left, is what is kept of the rides to the nearest places.
 use mathlib.Core.Path.{_≡_}
 use Prim.Native.Nat.{_≤_, _<_, _-_}
 use lib.ListN.{length}
 use borrow.Author.Needs.{needs}
 use Rattle.lines_lookup.specs.Calls.{callsIn, Inside}
-use Rattle.query_direct.specs.Candidates.{allRead}
+use Rattle.query_direct.specs.Candidates.{nearRead}
 use Rattle.query_direct.specs.Keeping.{keepAll}
-use Rattle.query_direct.specs.Turns.{allCalls}
+use Rattle.query_direct.specs.Turns.{nearCalls}
 use Rattle.query_direct.proofs.ReachLaws as piece
 use Rattle.query_direct.proofs.KeepLaws.{all-begins, all-more, all-done}
 use Rattle.query_direct.proofs.rides.keep_all.Statement.{statement}
@@ -19,8 +19,8 @@ Inv-loop v from to minute best kept₀ rest₀ end k₀ kept rest k =
     × (end ≤ length v)
     × Inside v rest
     × (length kept ≡ 11520)
-    × (keepAll best kept₀ (allRead v from minute to)
-    ≡ keepAll best kept (allCalls v minute (callsIn v (piece.from k end)) (callsIn v rest)))
+    × (keepAll best kept₀ (nearRead v from minute to)
+    ≡ keepAll best kept (nearCalls v minute (callsIn v (piece.from k end)) (callsIn v rest)))
 
 abbrev μ-loop : tie.MeasureT-loop
 μ-loop v from to minute best kept₀ rest₀ end k₀ kept rest k = end - k

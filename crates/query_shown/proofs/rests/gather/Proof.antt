@@ -1,10 +1,10 @@
--- The rides noted so far, and then those that the cursor has left, make the same words as all rides.
+-- The rides noted so far, and then those that the cursor has left, make the same words as all to the nearest places.
 use mathlib.Core.Path.{_≡_}
 use lib.ListN.{length}
 use borrow.Author.Needs.{needs}
-use Rattle.query_direct.specs.Candidates.{allRead}
+use Rattle.query_direct.specs.Candidates.{nearRead}
 use Rattle.query_minutes.specs.Minutes.{noteAll}
-use Rattle.query_rides.specs.Riding.{Good, left, left-falls}
+use Rattle.query_rides.specs.Riding.{Good, nearLeft, near-falls}
 use Rattle.query_shown.specs.Stepping.{catches}
 use Rattle.query_shown.proofs.GatherLaws.{gather-begins, gather-more, gather-done}
 use Rattle.query_shown.proofs.rests.gather.Statement.{statement}
@@ -14,17 +14,17 @@ abbrev Inv-loop : tie.InvT-loop
 Inv-loop lines from to minute change old z₀ c₀ z c =
     Good lines c
     × (length z ≡ length z₀)
-    × (noteAll z₀ (catches (change .minutes .0) (change .points .0) old (allRead lines from minute to))
-    ≡ noteAll z (catches (change .minutes .0) (change .points .0) old (left lines minute c)))
+    × (noteAll z₀ (catches (change .minutes .0) (change .points .0) old (nearRead lines from minute to))
+    ≡ noteAll z (catches (change .minutes .0) (change .points .0) old (nearLeft lines minute c)))
 
 abbrev μ-loop : tie.MeasureT-loop
-μ-loop lines from to minute change old z₀ c₀ z c = length (left lines minute c)
+μ-loop lines from to minute change old z₀ c₀ z c = length (nearLeft lines minute c)
 
 loop-holds : tie.Need-loop-holds Inv-loop μ-loop
 loop-holds c = (search needs, search needs, search gather-begins)
 
 loop-less : tie.Need-loop-less Inv-loop μ-loop
-loop-less c = search left-falls
+loop-less c = search near-falls
 
 loop-again : tie.Need-loop-again Inv-loop μ-loop
 loop-again c = (search needs, search needs, search gather-more)

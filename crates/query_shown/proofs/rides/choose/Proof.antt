@@ -1,9 +1,9 @@
--- The best ride so far, and then those that the cursor has left, make the same choice as all rides.
+-- The best ride so far, and then those that the cursor has left, make the same choice as all to the nearest places.
 use mathlib.Core.Path.{_≡_}
 use lib.ListN.{length}
 use borrow.Author.Needs.{needs}
-use Rattle.query_direct.specs.Candidates.{allRead}
-use Rattle.query_rides.specs.Riding.{Good, left as rides-left, left-falls}
+use Rattle.query_direct.specs.Candidates.{nearRead}
+use Rattle.query_rides.specs.Riding.{Good, nearLeft, near-falls}
 use Rattle.query_shown.specs.Heads.{noRide}
 use Rattle.query_shown.specs.Turns.{tellsOf, triedAll, Sized}
 use Rattle.query_shown.proofs.ChooseLaws.{sized-told, choose-begins, choose-more, choose-done}
@@ -14,11 +14,11 @@ abbrev Inv-loop : tie.InvT-loop
 Inv-loop lines from to ready first left z best₀ c₀ best c =
     Good lines c
     × Sized best
-    × (triedAll first z (left .0) (tellsOf noRide) (allRead lines from ready to)
-    ≡ triedAll first z (left .0) best (rides-left lines ready c))
+    × (triedAll first z (left .0) (tellsOf noRide) (nearRead lines from ready to)
+    ≡ triedAll first z (left .0) best (nearLeft lines ready c))
 
 abbrev μ-loop : tie.MeasureT-loop
-μ-loop lines from to ready first left z best₀ c₀ best c = length (rides-left lines ready c)
+μ-loop lines from to ready first left z best₀ c₀ best c = length (nearLeft lines ready c)
 
 loop-holds : tie.Need-loop-holds Inv-loop μ-loop
 loop-holds c = (search needs, search needs, search choose-begins)
@@ -27,7 +27,7 @@ try-ride-requires : tie.Need-try-ride-requires Inv-loop μ-loop
 try-ride-requires c κs = (search needs, search sized-told)
 
 loop-less : tie.Need-loop-less Inv-loop μ-loop
-loop-less c = search left-falls
+loop-less c = search near-falls
 
 loop-again : tie.Need-loop-again Inv-loop μ-loop
 loop-again c = (search needs, search needs, search choose-more)
