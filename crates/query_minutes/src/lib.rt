@@ -7,7 +7,7 @@ ghost use mathlib.Core.Path.{_≡_};
 ghost use mathlib.Core.Bool.{cond};
 ghost use mathlib.Core.List.{[], _∷_};
 ghost use Prim.Native.Nat.{_+_, _-_, _≤_, _<_, min};
-ghost use lib.Dec.{ltb, eqb};
+ghost use lib.Dec.{leb, ltb, eqb};
 ghost use lib.ListN.{length, getD, set};
 ghost use Rattle.words.specs.Put.{put};
 ghost use Rattle.query_minutes.specs.Minutes.{noPoints, blank, lowered, leads};
@@ -90,6 +90,13 @@ pub fn minute_after(minute: usize, wait: Minutes) -> usize
     ensures { λ r. ⌜ r ≡ minute + wait .0 ⌝ }
 {
     minute + wait.0 as usize
+}
+
+// Whether a minute of the day has so many minutes before it.
+pub fn has_before(minute: usize, wait: Minutes) -> bool
+    ensures { λ r. ⌜ r ≡ leb (wait .0) minute ⌝ }
+{
+    wait.0 as usize <= minute
 }
 
 // The minute of the day so many minutes before another.
