@@ -26,7 +26,13 @@ returns : tie.Need-returns Inv-loop μ-loop
 returns c = (search none-there, search needs)
 
 loop-holds : tie.Need-loop-holds Inv-loop μ-loop
-loop-holds c = (onward-first (c .before .before .before .before .before .before .before .before .before .before .before .before .before .before .before .before .before .before .before .args .p) (search starts), search needs, search needs, search needs)
+loop-holds c = (
+  let run = c .before .before .before .before .before .before .before .before .before .before in
+      onward-first (run .before .before .before .before .before .before .before .before .before .args .p) (search starts),
+  search needs,
+  search needs,
+  search needs,
+)
 
 ride-on-requires-2 : tie.Need-ride-on-requires-2 Inv-loop μ-loop
 ride-on-requires-2 c κs = (
