@@ -27,8 +27,8 @@ returns c = (search none-there, search needs)
 
 loop-holds : tie.Need-loop-holds Inv-loop μ-loop
 loop-holds c = (
-  let run = c .before .before .before .before .before .before .before .before .before .before in
-      onward-first (run .before .before .before .before .before .before .before .before .before .args .p) (search starts),
+  let run = c .before .before .before .before .before .before .before .before .before .before .before .before in
+      onward-first (run .before .before .before .before .before .before .before .args .p) (search starts),
   search needs,
   search needs,
   search needs,

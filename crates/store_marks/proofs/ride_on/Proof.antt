@@ -49,7 +49,13 @@ returns : tie.Need-returns Inv-loop μ-loop
 returns c = (search (ride-ends, same-yes), search needs)
 
 loop-again : tie.Need-loop-again Inv-loop μ-loop
-loop-again c = (search (on-goes, same-no), search (on-points, same-no), search more-most, search needs, search (ride-on, same-no))
+loop-again c = (
+  search (on-goes, same-no),
+  search (on-points, same-no),
+  search more-most,
+  search needs,
+  search (ride-on, same-no),
+)
 
 pub ride-on-spec : {M : Type 1} → statement M
 ride-on-spec =
