@@ -6,8 +6,8 @@
 ghost use mathlib.Core.Path.{_≡_};
 ghost use mathlib.Core.Bool.{cond};
 ghost use mathlib.Core.List.{[], _∷_};
-ghost use Prim.Native.Nat.{_+_, _-_, _≤_, _<_, min};
-ghost use lib.Dec.{ltb, eqb};
+ghost use Prim.Native.Nat.{_+_, _-_, _^_, _≤_, _<_, min, max};
+ghost use lib.Dec.{leb, ltb, eqb};
 ghost use lib.ListN.{length, getD, set};
 ghost use Rattle.words.specs.Put.{put};
 ghost use Rattle.query_minutes.specs.Minutes.{noPoints, blank, lowered, leads};
@@ -28,6 +28,13 @@ pub fn less(a: Points, b: Points) -> bool
     a.0 < b.0
 }
 
+// Whether a is b or more.
+pub fn at_least(a: Points, b: Points) -> bool
+    ensures { λ r. ⌜ r ≡ leb (b .0) (a .0) ⌝ }
+{
+    b.0 <= a.0
+}
+
 // Whether the two are the same.
 pub fn same(a: Points, b: Points) -> bool
     ensures { λ r. ⌜ r ≡ eqb (a .0) (b .0) ⌝ }
@@ -45,9 +52,19 @@ pub fn lesser(a: Points, b: Points) -> Points
     a
 }
 
+// The larger of two.
+pub fn larger(a: Points, b: Points) -> Points
+    ensures { λ r. ⌜ r .0 ≡ max (a .0) (b .0) ⌝ }
+{
+    if b.0 <= a.0 {
+        return a;
+    }
+    b
+}
+
 // The sum of two that fits.
 pub fn sum(a: Points, b: Points) -> Points
-    requires { ⌜ a .0 + b .0 ≤ 4294967295 ⌝ }
+    requires { ⌜ a .0 + b .0 < 2 ^ 32 ⌝ }
     ensures { λ r. ⌜ r .0 ≡ a .0 + b .0 ⌝ }
 {
     Points(a.0 + b.0)
@@ -90,6 +107,13 @@ pub fn minute_after(minute: usize, wait: Minutes) -> usize
     ensures { λ r. ⌜ r ≡ minute + wait .0 ⌝ }
 {
     minute + wait.0 as usize
+}
+
+// Whether a minute of the day has so many minutes before it.
+pub fn has_before(minute: usize, wait: Minutes) -> bool
+    ensures { λ r. ⌜ r ≡ leb (wait .0) minute ⌝ }
+{
+    wait.0 as usize <= minute
 }
 
 // The minute of the day so many minutes before another.

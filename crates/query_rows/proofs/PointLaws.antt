@@ -1,8 +1,11 @@
 -- The laws of the pass where the points of the minute are read as a value: p is what stands for minute m.
 use mathlib.Core.Path.{_≡_, sym, subst, _∙_, ap}
+use mathlib.Core.Bool.{Bool, true, false, not}
 use mathlib.Core.List.{List}
 use Prim.Native.Nat.{ℕ, _+_, _-_, _≤_, _<_, min}
 use native.Mathlib.Omega.{arith}
+use borrow.Author.Tests.{ltb-true, ltb-false, not-true, not-false}
+use lib.Dec.{ltb}
 use lib.ListN.{length, getD, take, set}
 use Rattle.words.specs.Put.{put}
 use Rattle.promises.specs.Query.{kept, rows, rowWords}
@@ -24,13 +27,17 @@ module _
     (long : length best ≡ 2880)
     (k : Going best (rows w s a b u) here least m)
     (more : m < 2880)
+    (below : Bool)
+    (is-below : below ≡ ltb p least)
   where
-    pub skip-at : least ≤ p → Going best (rows w s a b u) here least (m + 1)
-    skip-at h = going-skip w v s best a b u here least m g is-least long k more (omega (arith, is))
+    pub skip-at : not below ≡ true → Going best (rows w s a b u) here least (m + 1)
+    skip-at h =
+        going-skip w v s best a b u here least m g is-least long k more
+        (omega (arith, is, ltb-false p least (sym is-below ∙ not-true below h)))
 
-    module _ (low : p < least) where
+    module _ (low : not below ≡ false) where
       lower : getD best m 0 < least
-      lower = omega (arith, is)
+      lower = omega (arith, is, ltb-true p least (sym is-below ∙ not-false below low))
 
       pub leading-at : Leading w s a b u m p
       leading-at =
@@ -74,13 +81,17 @@ module _
     (long : length best ≡ 2880)
     (k : Counting best who (rows w s a b u) here least m)
     (more : m < 2880)
+    (below : Bool)
+    (is-below : below ≡ ltb p least)
   where
-    pub count-skip-at : least ≤ p → Counting best who (rows w s a b u) here least (m + 1)
-    count-skip-at h = counting-skip w v s best who a b u here least m g is-least long k more (omega (arith, is))
+    pub count-skip-at : not below ≡ true → Counting best who (rows w s a b u) here least (m + 1)
+    count-skip-at h =
+        counting-skip w v s best who a b u here least m g is-least long k more
+        (omega (arith, is, ltb-false p least (sym is-below ∙ not-true below h)))
 
-    module _ (low : p < least) where
+    module _ (low : not below ≡ false) where
       less : getD best m 0 < least
-      less = omega (arith, is)
+      less = omega (arith, is, ltb-true p least (sym is-below ∙ not-false below low))
 
       pub count-leading-at : Leading w s a b u m p
       count-leading-at =

@@ -1,13 +1,13 @@
 -- The least penalties of one arc alone, merged into those of the arcs before it. With each minute goes the arc that
 -- alone reaches it for the least penalty: its number and one more, or 0 where several do or it is not known.
 use mathlib.Core.Path.{_≡_, refl, sym, ap, subst, _∙_}
-use mathlib.Core.Bool.{cond}
+use mathlib.Core.Bool.{Bool, true, false, cond}
 use mathlib.Core.Logic.{_⊎_, inl, inr}
 use mathlib.Core.List.{List}
 use Prim.Native.Nat.{ℕ, suc, _+_, _≤_, _<_, min}
 use native.Mathlib.Omega.{arith, min-cases}
-use borrow.Author.Tests.{lt-ltb, le-ltb}
-use lib.Dec.{ltb, ltb→lt, nltb→le}
+use borrow.Author.Tests.{lt-ltb, le-ltb, eqb-true}
+use lib.Dec.{ltb, eqb, ltb→lt, nltb→le}
 use lib.ListN.{length, getD, set, replicate, length-replicate}
 use lib.Seq.{getD-set-same, getD-set-other, ext-getD}
 use Rattle.lists.specs.Tests.{either}
@@ -29,18 +29,19 @@ unnamed = replicate 2880 0
 unfoldable pub soleOf : (k b o x : ℕ) → ℕ
 soleOf k b o x = cond (ltb x b) (k + 1) (cond (ltb b x) o 0)
 
-module _ (k b o x : ℕ) where
-  pub sole-less : x < b → k + 1 ≡ soleOf k b o x
+module _ (k b o x : ℕ) (less : Bool) (is-less : less ≡ ltb x b) where
+  pub sole-less : less ≡ true → k + 1 ≡ soleOf k b o x
   unfolding soleOf
-  sole-less h = rw (lt-ltb x b h)
+  sole-less h = rw (sym is-less ∙ h)
 
-  pub sole-more : b ≤ x → b < x → o ≡ soleOf k b o x
-  unfolding soleOf
-  sole-more g h = rw (le-ltb x b g, lt-ltb b x h)
+  module _ (h : less ≡ false) (more : Bool) (is-more : more ≡ ltb b x) where
+    pub sole-more : more ≡ true → o ≡ soleOf k b o x
+    unfolding soleOf
+    sole-more g = rw (sym is-less ∙ h, sym is-more ∙ g)
 
-  pub sole-same : b ≤ x → x ≤ b → 0 ≡ soleOf k b o x
-  unfolding soleOf
-  sole-same g h = rw (le-ltb x b g, le-ltb b x h)
+    pub sole-same : more ≡ false → 0 ≡ soleOf k b o x
+    unfolding soleOf
+    sole-same g = rw (sym is-less ∙ h, sym is-more ∙ g)
 
 -- its least penalty and its word before, the penalty of arc k alone, and both afterwards
 pub record MergedAt (k b o x b′ o′ : ℕ) : Type 0 where
@@ -55,16 +56,16 @@ merged-sole k b o x = record { least = refl; sole = sole }
         either (ltb x b)
         (λ t.
         let h = ltb→lt x b t in
-        inl (omega (arith, e, sole-less k b o x h), h))
+        inl (omega (arith, e, sole-less k b o x (ltb x b) refl (lt-ltb x b h)), h))
         (λ t.
-        let g = nltb→le x b t in
+        let g = le-ltb x b (nltb→le x b t) in
         either (ltb b x)
         (λ q.
         let h = ltb→lt b x q in
-        inr (sole-more k b o x g h ∙ e, h))
+        inr (sole-more k b o x (ltb x b) refl g (ltb b x) refl (lt-ltb b x h) ∙ e, h))
         (λ q.
-        let h = nltb→le b x q in
-        absurd (omega (arith, e, sole-same k b o x g h))))
+        let h = le-ltb b x (nltb→le b x q) in
+        absurd (omega (arith, e, sole-same k b o x (ltb x b) refl g (ltb b x) refl h))))
 
 merged-none : (k b o x : ℕ) → b ≤ noPoints → ((j : ℕ) → o ≡ suc j → b < noPoints) → x ≡ noPoints
     → MergedAt k b o x b o
@@ -214,9 +215,10 @@ module _ (k from to : ℕ) (mine₀ best₀ who₀ : List ℕ) (bound : Bound be
       last m h f g = either (ltb m i) (λ t. f (ltb→lt m i t)) (λ t. g (omega (arith, nltb→le m i t)))
 
       -- a minute that is not reached
-      pub merging-skip : i < to → to ≤ 2880 → length mine ≡ 2880 → (p : ℕ) → p ≡ getD mine i 0 → p ≡ noPoints
+      pub merging-skip : i < to → to ≤ 2880 → length mine ≡ 2880 → (p : ℕ) → p ≡ getD mine i 0
+          → (unreached : Bool) → unreached ≡ eqb p noPoints → unreached ≡ true
           → Merging k (i + 1) mine₀ best₀ who₀ mine best who
-      merging-skip inside most long p is none-there =
+      merging-skip inside most long p is unreached is-unreached none-there =
           record {
             done = λ m h. last m h (so-far .done m) (λ z. kept m (omega (arith, z)) (none m z));
             gone = λ m h. last m h (so-far .gone m) (none m);
@@ -226,7 +228,7 @@ module _ (k from to : ℕ) (mine₀ best₀ who₀ : List ℕ) (bound : Bound be
           }
         where
           e : getD mine i 0 ≡ noPoints
-          e = sym is ∙ none-there
+          e = sym is ∙ eqb-true p noPoints (sym is-unreached ∙ none-there)
 
           none : (m : ℕ) → m ≡ i → getD mine m noPoints ≡ noPoints
           none m z = ap (λ j. getD mine j noPoints) z ∙ getD-any mine i noPoints 0 (omega arith) ∙ e

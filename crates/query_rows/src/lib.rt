@@ -98,10 +98,10 @@ fn sole_arc(k: usize, best: Points, named: u16, points: Points) -> u16
     requires { ⌜ k + 1 < 65536 ⌝ }
     ensures { λ r. ⌜ r ≡ soleOf k (best .0) named (points .0) ⌝ }
 {
-    if points.0 < best.0 {
+    if query_minutes::less(points, best) {
         return (k + 1) as u16;
     }
-    if best.0 < points.0 {
+    if query_minutes::less(best, points) {
         return named;
     }
     0
@@ -157,7 +157,7 @@ fn merge(k: usize, from: usize, to: usize, mine: &mut [u32], best: &mut [u32], w
     while m < to {
         let here = m;
         m += 1;
-        if query_minutes::points_at(mine, here).0 == NO_POINTS {
+        if query_minutes::same(query_minutes::points_at(mine, here), Points(NO_POINTS)) {
             continue;
         }
         merge_minute(k, here, mine, best, who);
@@ -534,7 +534,7 @@ pub fn measure(
         let arrive = m;
         let points = query_minutes::points_at(best, m);
         m += 1;
-        if least.0 <= points.0 {
+        if !query_minutes::less(points, least) {
             continue;
         }
         least = points;
@@ -690,7 +690,7 @@ pub fn write_rows(
         let arrive = m;
         let points = query_minutes::points_at(best, m);
         m += 1;
-        if least.0 <= points.0 {
+        if !query_minutes::less(points, least) {
             continue;
         }
         least = points;

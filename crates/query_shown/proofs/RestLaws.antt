@@ -4,8 +4,8 @@ use mathlib.Core.Bool.{Bool, true, false}
 use mathlib.Core.List.{List, [], _∷_, _++_}
 use Prim.Native.Nat.{ℕ, suc, _+_, _-_, _≤_, _<_, _^_, min}
 use native.Mathlib.Omega.{arith}
-use borrow.Author.Tests.{le-leb, lt-leb}
-use lib.Dec.{ltb}
+use borrow.Author.Tests.{leb-true}
+use lib.Dec.{leb, ltb}
 use lib.ListN.{length, getD, set, take, drop, take-append-drop, List·getD-eq-default}
 use lib.Seq.{drop-cons, take-suc, append-snoc, set-at, getD-at, getD-drop, length-take-le}
 use Rattle.query_minutes.specs.Minutes.{noPoints, blank, lowered}
@@ -86,17 +86,20 @@ module _
     unfolding caughtBy
     catch-none h = simp (some, h)
 
-    module _ (h : r ≡ true) where
-      pub catch-late : s .depart < cm → z ≡ caughtBy cm cp old z s
+    module _ (h : r ≡ true) (early : Bool) (is-early : early ≡ leb cm (s .depart)) where
+      pub catch-late : early ≡ false → z ≡ caughtBy cm cp old z s
       unfolding caughtBy
-      catch-late g = simp (some, h, lt-leb cm (s .depart) g)
+      catch-late g = simp (some, h, sym is-early ∙ g)
 
-      pub catch-one : (new : List ℕ) (m : ℕ) → cm ≤ s .depart → m ≡ s .depart - cm
+      pub catch-one : (new : List ℕ) (m : ℕ) → early ≡ true → m ≡ s .depart - cm
           → new ≡ lowered z m (cp + s .points .0 + left) → new ≡ caughtBy cm cp old z s
       unfolding caughtBy
       catch-one new m g is-m e =
-          rw (some, h, le-leb cm (s .depart) g)
+          rw (some, h, sym is-early ∙ g)
           (e ∙ (λ i. lowered z (is-m i) (cp + s .points .0 + is i)))
+
+pub changed-in-time : (a b : ℕ) (early : Bool) → early ≡ leb a b → early ≡ true → a ≤ b
+changed-in-time a b early is h = leb-true a b (sym is ∙ h)
 
 -- ---- settled from the end
 module _ (old : List ℕ) (t v : ℕ) (timely : v ≤ 2879) (spans : Spans t v old) where

@@ -307,7 +307,7 @@ module _ (w lines path : List ℕ) (r v : ℕ) (given : Given w lines path r v) 
           under = under-first old new some rooms rode found;
         }
 
-    none-there : (old new : List ℕ) → Rode w path r v true 0 (record { from = a; ready = m; left = p }) old new step
+    pub none-there : (old new : List ℕ) → Rode w path r v true 0 (record { from = a; ready = m; left = p }) old new step
         → not (step .found) ≡ true
         → FoundAt w path r v a m (p .0) (record { found = false; depart = 0 }) new
     unfolding Rode FoundAt
@@ -317,12 +317,6 @@ module _ (w lines path : List ℕ) (r v : ℕ) (given : Given w lines path r v) 
             → (e : Connection) → ¬ Fitting t b v (take r path) a m (p .0) e
         go (inl h) = h .none
         go (inr h) = absurd (true≢false (sym e ∙ ap not (h .found)))
-
-  pub none-fits : (a m p : ℕ) (step : Next) (old new : List ℕ)
-      → Rode w path r v true 0 (record { from = a; ready = m; left = record { 0 = p } }) old new step
-      → not (step .found) ≡ true
-      → FoundAt w path r v a m p (record { found = false; depart = 0 }) new
-  none-fits a m p = none-there a m (record { 0 = p })
 
 module _
     (w lines path : List ℕ)
@@ -364,6 +358,75 @@ module _
         let end : i ≡ r = omega (arith, riding .past) in
         let going = riding .under .going in
         subst (Goes r) (slice-empty r path) (subst (λ i. Goes i (slice i r path)) end going)
+
+-- the same after the first ride, for as many points as one began with: they are no longer at hand
+pub record Onward
+    (w lines path : List ℕ)
+    (r v a m d : ℕ)
+    (begun : List ℕ)
+    (start : At)
+    (i : ℕ)
+    (rides : List ℕ)
+    (at : At)
+    : Type 0
+  where
+    pub rooms : length rides ≡ 192
+    pub points : ℕ
+    pub began : Riding w lines path r v a m points d 1 begun start
+    pub onward : (p : ℕ) → Riding w lines path r v a m p d 1 begun start → Riding w lines path r v a m p d i rides at
+
+pub onward-first : {w lines path : List ℕ} {r v a m d : ℕ} {begun : List ℕ} {start : At} (p : Points)
+    → Riding w lines path r v a m (p .0) d 1 begun start
+    → Onward w lines path r v a m d begun start 1 begun start
+onward-first p k = record { rooms = k .rooms; points = p .0; began = k; onward = λ p k. k }
+
+module _
+    (w lines path : List ℕ)
+    (r v : ℕ)
+    (given : Given w lines path r v)
+    (a m : ℕ)
+    (p : Points)
+    (step : Next)
+    (old begun : List ℕ)
+    (some : 1 ≤ r)
+    (rooms : length old ≡ 192)
+    (same : length begun ≡ length old)
+    (rode : Rode w path r v true 0 (record { from = a; ready = m; left = p }) old begun step)
+    (found : not (step .found) ≡ false)
+  where
+    first : Riding w lines path r v a m (p .0) (step .depart) 1 begun (step .at)
+    first = starts w lines path r v given a m p step old begun some rooms same rode found
+
+    pub onward-arrives : (i : ℕ) (rides : List ℕ) (at : At)
+        → Onward w lines path r v a m (step .depart) begun (step .at) i rides at
+        → r ≤ i
+        → FoundAt w path r v a m (p .0) (record { found = true; depart = step .depart }) rides
+    onward-arrives i rides at k h =
+        arrives w lines path r v a m (p .0) (step .depart) i rides at (k .onward (p .0) first) h
+
+module _
+    (w lines path : List ℕ)
+    (r v a m d : ℕ)
+    (begun : List ℕ)
+    (start : At)
+    (i : ℕ)
+    (rides : List ℕ)
+    (at : At)
+    (k : Onward w lines path r v a m d begun start i rides at)
+  where
+    pub onward-stands : i < r → Standing w m at
+    onward-stands = stands-there w lines path r v a m (k .points) d i rides at (k .onward (k .points) (k .began))
+
+    pub onward-more : (step : Next) (new : List ℕ) → i < r → Rode w path r v false i at rides new step
+        → length new ≡ length rides
+        → Onward w lines path r v a m d begun start (i + 1) new (step .at)
+    onward-more step new inside rode same =
+        record {
+          rooms = same ∙ k .rooms;
+          points = k .points;
+          began = k .began;
+          onward = λ p z. rides-on w lines path r v a m p d i rides at (k .onward p z) step new inside rode same;
+        }
 
 -- ---- what became of a ride
 module _

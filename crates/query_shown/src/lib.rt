@@ -59,11 +59,10 @@ fn first_in_time(
     ensures { λ f. ⌜ FoundAt (now (words .entry)) (now (path .entry)) r v source minute (p .0) f (now (rides .exit)) ⌝ }
     ensures { λ _. ⌜ length (now (rides .exit)) ≡ length (now (rides .entry)) ⌝ }
 {
-    let most = p.0;
     let start = At {
         from: source,
         ready: minute,
-        left: Points(most),
+        left: p,
     };
     let head = rides::ride_on(
         words,

@@ -64,7 +64,7 @@ fn catch_ride(z: &mut [u32], old: &[u32], ride: Ride, change: Cost)
     let price = change.points;
     let points = ride.points;
     if query_minutes::less(left, Points(NO_POINTS)) {
-        if wait.0 as usize <= ride.depart {
+        if query_minutes::has_before(ride.depart, wait) {
             let m = query_minutes::minute_before(ride.depart, wait);
             note_sum(z, m, price, points, left);
         }

@@ -5,7 +5,7 @@ use mathlib.Core.Path.{_≡_, refl, sym, ap, subst, _∙_}
 use mathlib.Core.Bool.{cond, _&&_}
 use mathlib.Core.Logic.{_↔_, _≢_}
 use mathlib.Core.List.{List}
-use Prim.Native.Nat.{ℕ, suc, _+_, _≤_, _<_, min}
+use Prim.Native.Nat.{ℕ, suc, _+_, _^_, _≤_, _<_, min}
 use native.Mathlib.Omega.{arith}
 use native.Mathlib.Decide.{ℕ-discrete, decLt}
 use borrow.Author.Tests.{lt-ltb, le-ltb, eq-eqb, ne-eqb}
@@ -118,6 +118,9 @@ module _ (before low u : ℕ) where
   pub mark-other : u < before → (u ≡ low → ⊥) → 0 ≡ markOf before low u
   unfolding markOf
   mark-other h g = rw (lt-ltb u before h, ne-eqb u low g)
+
+  pub mark-fits : u < before → before < 2 ^ 32 → u + 1 < 2 ^ 32
+  mark-fits h g = omega arith
 
   pub mark-low : (r : ℕ) → r ≡ u + 1 → u < before → u ≡ low → r ≡ markOf before low u
   unfolding markOf

@@ -67,7 +67,7 @@ fn least(arrivals: &[u16], p: usize, q: usize, v: &[u32], top: Points) -> Points
     let mut r = p;
     while r < q {
         let j = words::word(arrivals, r) as usize;
-        low = store_points::lesser(low, store_points::get(v, j));
+        low = query_minutes::lesser(low, query_minutes::points_at(v, j));
         r += 1;
     }
     low
@@ -78,13 +78,13 @@ fn least(arrivals: &[u16], p: usize, q: usize, v: &[u32], top: Points) -> Points
 fn mark(before: Points, low: Points, u: Points) -> Points
     ensures { λ r. ⌜ r .0 ≡ markOf (before .0) (low .0) (u .0) ⌝ }
 {
-    if before.0 <= u.0 {
+    if query_minutes::at_least(u, before) {
         return Points(0);
     }
-    if u.0 != low.0 {
+    if !query_minutes::same(u, low) {
         return Points(0);
     }
-    store_points::plus(u, Points(1))
+    query_minutes::sum(u, Points(1))
 }
 
 // Marks the arrivals at places p up to q.
@@ -96,8 +96,8 @@ fn mark_all(arrivals: &[u16], p: usize, q: usize, before: Points, low: Points, v
     let mut r = p;
     while r < q {
         let j = words::word(arrivals, r) as usize;
-        let u = store_points::get(v, j);
-        store_points::put(v, j, mark(before, low, u));
+        let u = query_minutes::points_at(v, j);
+        query_minutes::set_points(v, j, mark(before, low, u));
         r += 1;
     }
 }
@@ -125,9 +125,9 @@ fn allow_station(
         let j = words::word(arrivals, p) as usize;
         // Most are not reached or have paid no less than someone earlier: whoever else arrives in their minute, they
         // are not on the frontier.
-        let u = store_points::get(v, j);
+        let u = query_minutes::points_at(v, j);
         if low.0 <= u.0 {
-            store_points::put(v, j, Points(0));
+            query_minutes::set_points(v, j, Points(0));
             p += 1;
             continue;
         }
@@ -218,7 +218,10 @@ fn onto_bound(words: &[u16], catch: &[u16], q: &[u32], j: usize) -> Points
     let f = words::word(catch, j) as usize;
     if f < NOWHERE {
         let c = timetable::stop_at(words, j).station as usize;
-        return store_points::less(store_points::get(q, f), store_points::of_change(words, c));
+        return query_minutes::left_of(
+            query_minutes::points_at(q, f),
+            store_points::of_change(words, c),
+        );
     }
     Points(0)
 }
@@ -246,12 +249,12 @@ fn leave_bound(
         (now (leaving .entry)) i ⌝ }
 {
     let onto = onto_bound(words, catch, q, i + 1);
-    let here = store_points::larger(
-        store_points::get(e, i + 1),
-        store_points::get(leaving, i + 1),
+    let here = query_minutes::larger(
+        query_minutes::points_at(e, i + 1),
+        query_minutes::points_at(leaving, i + 1),
     );
-    store_points::less(
-        store_points::larger(onto, here),
+    query_minutes::left_of(
+        query_minutes::larger(onto, here),
         store_points::of_ride(timetable::stop_at(words, i)),
     )
 }
@@ -267,10 +270,10 @@ fn note(i: usize, c: usize, bound: Points, q: &mut [u32], leaving: &mut [u32], h
         × (length (now (leaving .exit)) ≡ length (now (leaving .entry)))
         × (length (now (high .exit)) ≡ length (now (high .entry))) ⌝ }
 {
-    let highest = store_points::larger(store_points::get(high, c), bound);
-    store_points::put(leaving, i, bound);
-    store_points::put(high, c, highest);
-    store_points::put(q, i, highest);
+    let highest = query_minutes::larger(query_minutes::points_at(high, c), bound);
+    query_minutes::set_points(leaving, i, bound);
+    query_minutes::set_points(high, c, highest);
+    query_minutes::set_points(q, i, highest);
 }
 
 // The departure at place p of the order, at minute d or later, those after it having been passed.

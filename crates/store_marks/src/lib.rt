@@ -79,7 +79,7 @@ pub fn label_root(
     let end = begin_of(first, source + 1);
     while k < end {
         let g = words::word(chain, k) as usize;
-        store_points::put(x, g, root_label(words, g, d));
+        query_minutes::set_points(x, g, root_label(words, g, d));
         k += 1;
     }
 }
@@ -95,7 +95,7 @@ fn clear(chain: &[u16], begin: usize, end: usize, x: &mut [u32])
     let mut k = begin;
     while k < end {
         let g = words::word(chain, k) as usize;
-        store_points::put(x, g, UNREACHED);
+        query_minutes::set_points(x, g, UNREACHED);
         k += 1;
     }
 }
@@ -152,7 +152,7 @@ fn ride_turn(
         e,
         s.station as usize,
         j,
-        store_points::plus(y, cost),
+        query_minutes::sum(y, cost),
         x,
     );
     onward(s, c)
@@ -180,10 +180,10 @@ fn ride_on(words: &[u16], catch: &[u16], c: usize, e: usize, i: usize, paid: Poi
     let mut ride = store_points::of_ride(timetable::stop_at(words, i));
     let mut j = i;
     loop {
-        y = store_points::plus(y, ride);
+        y = query_minutes::sum(y, ride);
         j += 1;
         ride = ride_turn(words, catch, c, e, cost, j, y, x);
-        if ride.0 == NO_MORE.0 {
+        if query_minutes::same(ride, NO_MORE) {
             return;
         }
     }
@@ -199,8 +199,8 @@ fn ride_to(words: &[u16], catch: &[u16], c: usize, e: usize, i: usize, x: &mut [
         (boarding (now (words .entry)) c (now (x .entry)) i) (now (x .entry)) ⌝ }
     ensures { λ _. ⌜ length (now (x .exit)) ≡ 2048 ⌝ }
 {
-    let paid = store_points::get(x, i);
-    if UNREACHED.0 <= paid.0 {
+    let paid = query_minutes::points_at(x, i);
+    if query_minutes::at_least(paid, UNREACHED) {
         return;
     }
     ride_on(words, catch, c, e, i, paid, x);
@@ -242,8 +242,8 @@ fn settle(chain: &[u16], begin: usize, end: usize, x: &mut [u32])
     let mut k = begin;
     while k < end {
         let g = words::word(chain, k) as usize;
-        low = store_points::lesser(low, store_points::get(x, g));
-        store_points::put(x, g, low);
+        low = query_minutes::lesser(low, query_minutes::points_at(x, g));
+        query_minutes::set_points(x, g, low);
         k += 1;
     }
 }
@@ -311,7 +311,7 @@ fn raise(flags: &mut [u8], b: usize, paid: Points, bound: Points)
     ensures { λ _. ⌜ now (flags .exit) ≡ raised (ltb (paid .0) (bound .0)) (b - 1) (now (flags .entry)) ⌝ }
     ensures { λ _. ⌜ length (now (flags .exit)) ≡ 64 ⌝ }
 {
-    if paid.0 < bound.0 {
+    if query_minutes::less(paid, bound) {
         flags[b - 1] = 1;
     }
 }
@@ -321,7 +321,7 @@ fn peek(q: &[u32], f: usize) -> Points
     ensures { λ r. ⌜ r .0 ≡ getD (now (q .entry)) f 0 ⌝ }
 {
     if f < q.len() {
-        return store_points::get(q, f);
+        return query_minutes::points_at(q, f);
     }
     Points(0)
 }
@@ -350,8 +350,8 @@ fn mark_arrival(
         (b - 1) (now (kids .entry)) ⌝ }
     ensures { λ _. ⌜ (length (now (arcs .exit)) ≡ 64) × (length (now (kids .exit)) ≡ 64) ⌝ }
 {
-    raise(arcs, b, y, store_points::get(allowed, j));
-    let changed = store_points::plus(y, store_points::of_change(words, b));
+    raise(arcs, b, y, query_minutes::points_at(allowed, j));
+    let changed = query_minutes::sum(y, store_points::of_change(words, b));
     raise(kids, b, changed, peek(q, words::word(catch, j) as usize));
 }
 
@@ -428,10 +428,10 @@ fn mark_on(
     let mut ride = store_points::of_ride(timetable::stop_at(words, i));
     let mut j = i;
     loop {
-        y = store_points::plus(y, ride);
+        y = query_minutes::sum(y, ride);
         j += 1;
         ride = mark_turn(words, catch, allowed, q, c, j, y, arcs, kids);
-        if ride.0 == NO_MORE.0 {
+        if query_minutes::same(ride, NO_MORE) {
             return;
         }
     }
@@ -461,8 +461,8 @@ fn mark_ride(
         (boarding (now (words .entry)) c (now (x .entry)) i) (now (kids .entry)) ⌝ }
     ensures { λ _. ⌜ (length (now (arcs .exit)) ≡ 64) × (length (now (kids .exit)) ≡ 64) ⌝ }
 {
-    let paid = store_points::get(x, i);
-    if UNREACHED.0 <= paid.0 {
+    let paid = query_minutes::points_at(x, i);
+    if query_minutes::at_least(paid, UNREACHED) {
         return;
     }
     mark_on(words, catch, allowed, q, c, i, paid, arcs, kids);

@@ -10,10 +10,36 @@ ghost use Rattle.store_frontier.specs.Routes.{Routes};
 ghost use Rattle.store_frontier.specs.Arrivals.{Arrivals};
 ghost use Rattle.store_nodes.specs.Standing.{StandingTo, Judged, ArcsAt, KidsAt};
 ghost use Rattle.store_nodes.specs.Chunk.{Down, Raised};
+ghost use Rattle.store_minutes.specs.Allowed.{AllowedAt};
 ghost use Rattle.store_minutes.specs.Seeking.{Sought, Chunked};
 
 // No departure is at this minute.
 const NO_MINUTE: usize = 2880;
+
+// What is allowed at minute d, in v. What q holds is of no further use.
+fn allow_at(
+    words: &[u16],
+    order: &[u16],
+    n: usize,
+    arrivals: &[u16],
+    begins: &[u32],
+    catch: &[u16],
+    source: usize,
+    d: usize,
+    v: &mut [u32],
+    q: &mut [u32],
+)
+    requires { ⌜ Routes (now words) (now order) n (now catch)
+        × Arrivals (now words) (now arrivals) (now begins)
+        × (length (now v) ≡ 2048)
+        × (length (now q) ≡ 2048) ⌝ }
+    ensures { λ _. ⌜ AllowedAt (now (words .entry)) source d (now (v .exit))
+        × (length (now (v .exit)) ≡ 2048)
+        × (length (now (q .exit)) ≡ 2048) ⌝ }
+{
+    store_penalties::least_penalties(words, order, n, catch, source, d, v, q);
+    store_frontier::allow(words, arrivals, begins, source, v);
+}
 
 // What is allowed at minute d, in v, and who can still end well then, in q. What x holds is of no further use.
 fn judge(
@@ -39,8 +65,7 @@ fn judge(
         × (length (now (q .exit)) ≡ 2048)
         × (length (now (x .exit)) ≡ 2048) ⌝ }
 {
-    store_penalties::least_penalties(words, order, n, catch, source, d, v, q);
-    store_frontier::allow(words, arrivals, begins, source, v);
+    allow_at(words, order, n, arrivals, begins, catch, source, d, v, q);
     store_frontier::prospects(words, order, n, catch, d, v, q, x);
 }
 

@@ -15,6 +15,7 @@ ghost use Rattle.store_penalties.specs.Boarding.{boarding};
 ghost use Rattle.store_penalties.specs.Arranged.{Arranged, departures};
 use results::Points;
 use store_points::UNREACHED;
+use store_points::UNREACHED_WORD;
 use timetable::Stop;
 
 // All words become unreached.
@@ -26,7 +27,7 @@ fn fill(a: &mut [u32])
     let n = a.len();
     let mut k = 0;
     while k < n {
-        store_points::put(a, k, UNREACHED);
+        query_minutes::set_points(a, k, UNREACHED);
         k += 1;
     }
 }
@@ -38,7 +39,7 @@ fn boarding(source: usize, c: usize, stay: Points, change: Points) -> Points
     if c == source {
         return Points(0);
     }
-    store_points::lesser(stay, change)
+    query_minutes::lesser(stay, change)
 }
 
 // Who has caught departure i, at station c, can board there from now on. Returns the least that one has paid who boards
@@ -49,12 +50,12 @@ fn board(source: usize, c: usize, i: usize, v: &[u32], q: &[u32], low: &mut [u32
     ensures { λ r. ⌜ r .0 ≡ boarding source c (getD (now (v .entry)) i 0) (getD (now (low .exit)) c 0) ⌝ }
     ensures { λ _. ⌜ length (now (low .exit)) ≡ length (now (low .entry)) ⌝ }
 {
-    store_points::lower(low, c, store_points::get(q, i));
+    store_points::lower(low, c, query_minutes::points_at(q, i));
     boarding(
         source,
         c,
-        store_points::get(v, i),
-        store_points::get(low, c),
+        query_minutes::points_at(v, i),
+        query_minutes::points_at(low, c),
     )
 }
 
@@ -73,11 +74,11 @@ fn arrive(words: &[u16], catches: &[u16], j: usize, p: Points, v: &mut [u32], q:
     ensures { λ _. ⌜ (length (now (v .exit)) ≡ length (now (v .entry)))
         × (length (now (q .exit)) ≡ length (now (q .entry))) ⌝ }
 {
-    let u = store_points::lesser(UNREACHED, p);
-    store_points::put(v, j, u);
+    let u = query_minutes::lesser(UNREACHED, p);
+    query_minutes::set_points(v, j, u);
     let f = words::word(catches, j) as usize;
     let cost = store_points::of_change(words, timetable::stop_at(words, j).station as usize);
-    store_points::lower(q, f, store_points::plus(u, cost));
+    store_points::lower(q, f, query_minutes::sum(u, cost));
 }
 
 // The ride that begins at stop i, which is s.
@@ -115,7 +116,7 @@ fn ride(
         × (length (now (low .exit)) ≡ length (now (low .entry))) ⌝ }
 {
     let b = board(source, s.station as usize, i, v, q, low);
-    if UNREACHED.0 <= b.0 {
+    if query_minutes::at_least(b, UNREACHED) {
         return;
     }
     arrive(words, catches, i + 1, store_points::after_ride(b, s), v, q);
@@ -208,7 +209,7 @@ pub fn least_penalties(
 {
     fill(v);
     fill(q);
-    let mut low = [UNREACHED.0; 65];
+    let mut low = [UNREACHED_WORD; 65];
     // Before minute d there is no one: those departures stand in front, and are left out.
     let begin = store_departures::first_from(words, order, 0, n, d);
     sweep(words, order, n, begin, catches, source, d, v, q, &mut low);

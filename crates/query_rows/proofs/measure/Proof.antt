@@ -46,6 +46,7 @@ measure-spec =
     (λ c. search needs)
     (λ c. search needs)
     (λ c. search needs)
+    (λ c. search needs)
     loop-again
     name-arc-requires
     (λ c. search needs)

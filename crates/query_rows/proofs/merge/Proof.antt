@@ -43,6 +43,7 @@ merge-spec =
     (λ c. search needs)
     (λ c. search needs)
     (λ c. search needs)
+    (λ c. search needs)
     loop-again
     merge-minute-requires
     (λ c. search needs)

@@ -10,6 +10,8 @@ sole-arc-spec =
     (tie.spec
     (λ c. search needs)
     (λ c. search needs)
+    (λ c. search needs)
     (λ c. search sole-less)
+    (λ c. search needs)
     (λ c. search sole-more)
     (λ c. search sole-same))

@@ -53,6 +53,7 @@ write-rows-spec =
     (λ c. search needs)
     (λ c. search needs)
     (λ c. search needs)
+    (λ c. search needs)
     loop-again
     write-row-requires
     (λ c. search needs)

@@ -2,6 +2,7 @@
 use mathlib.Core.Path.{_≡_, refl}
 use Prim.Native.Nat.{_≤_, _-_, _+_, _*_}
 use borrow.Author.Needs.{needs}
+use Rattle.query_minutes.specs.Compared.{same-yes, same-no}
 use lib.ListN.{length}
 use Rattle.timetable.specs.Access.{stations-few}
 use Rattle.store_stops.specs.Stopwise.{Goes, points as pointsOf}
@@ -45,10 +46,16 @@ ride-turn-requires c κs = (
 )
 
 returns : tie.Need-returns Inv-loop μ-loop
-returns c = (search ride-ends, search needs)
+returns c = (search (ride-ends, same-yes), search needs)
 
 loop-again : tie.Need-loop-again Inv-loop μ-loop
-loop-again c = (search on-goes, search on-points, search more-most, search needs, search ride-on)
+loop-again c = (
+  search (on-goes, same-no),
+  search (on-points, same-no),
+  search more-most,
+  search needs,
+  search (ride-on, same-no),
+)
 
 pub ride-on-spec : {M : Type 1} → statement M
 ride-on-spec =
@@ -63,6 +70,7 @@ ride-on-spec =
     (λ c κs. search more-fits)
     (λ c. record { fits = search next-counts })
     ride-turn-requires
+    (λ c. search needs)
     (λ c. search needs)
     returns
     (λ c. search nearer)

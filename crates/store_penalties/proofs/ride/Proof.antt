@@ -1,6 +1,7 @@
 -- Either no one boards, and no one arrives, or someone arrives at the next stop.
 use mathlib.Core.Path.{refl}
 use borrow.Author.Needs.{needs}
+use Rattle.query_minutes.specs.Compared.{at-least-yes, at-least-no}
 use Rattle.store_penalties.proofs.RideLaws.{
   read-at,
   read-low,
@@ -25,9 +26,10 @@ ride-spec =
     (λ c. search needs)
     (λ c. search needs)
     (λ c. search needs)
-    (λ c. (search passed, (refl, refl, search needs)))
+    (λ c. search needs)
+    (λ c. (search (passed, at-least-yes), (refl, refl, search needs)))
     (λ c. record { fits = search next-fits })
-    (λ c κs. search sum-fits)
+    (λ c κs. search (sum-fits, at-least-no))
     (λ c κs. (
       (search needs, search needs, search next-few),
       ((search next-some, search next-most, search next-cheap), (search needs, search needs)),

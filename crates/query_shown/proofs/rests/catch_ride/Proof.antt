@@ -1,5 +1,5 @@
 -- A ride behind which nothing is left, or that leaves too early, changes nothing; any other is noted.
-use Rattle.query_shown.proofs.RestLaws.{catch-none, catch-late, catch-one}
+use Rattle.query_shown.proofs.RestLaws.{catch-none, catch-late, catch-one, changed-in-time}
 use borrow.Author.Needs.{needs}
 use Rattle.query_shown.proofs.rests.catch_ride.Statement.{statement}
 use Rattle.query_shown.proofs.rests.catch_ride.Tie as tie
@@ -20,7 +20,7 @@ catch-ride-spec =
     (λ c. search needs)
     (λ c. search needs)
     (λ c. search needs)
-    (λ c. search needs)
+    (λ c κs. search changed-in-time)
     (λ c. search needs)
     (λ c. search needs)
     returns
