@@ -1,0 +1,5 @@
+pub mod ByTrip
+pub mod Turning
+pub mod Turned
+pub mod Laid
+pub mod Found
