@@ -34,6 +34,13 @@ slicesNumber w k n m = firstNo (slicesQuestions w k n m)
 unfoldable pub turnNumber : (w : List ℕ) (k n m : ℕ) (own : Bool) → ℕ
 turnNumber w k n m own = firstNo (slicesQuestions w k n m ++ (ask 10 own ∷ []))
 
+-- where the slices and the timetable have their yes, question 10 alone is left
+unfoldable pub ownReply : (w : List ℕ) (own : Bool) → Reply
+ownReply w own = replyOf (firstNo (ask 10 own ∷ [])) (lineCount (timetableOf w))
+
+unfoldable pub ownWords : (own : Bool) (result old : List ℕ) → List ℕ
+ownWords own result old = wordsAfter (firstNo (ask 10 own ∷ [])) result old
+
 -- ---- to times by trip: the timetable w, line tables v, working space of n words, the words of the result slice
 abbrev pub byTripNumber : (w v : List ℕ) (n m : ℕ) → ℕ
 byTripNumber w v n m = turnNumber w (length v) n m (areTables w v)
