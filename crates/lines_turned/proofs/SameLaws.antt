@@ -146,7 +146,7 @@ module _ (v u : List ℕ) (trips stops from at j : ℕ)
 
 -- ---- all words of a line
 module _ (v u : List ℕ) (l : Line) (from : ℕ) (begin : from ≡ timesFrom l) (fits : lineEnd l ≤ 16384)
-    (inside : length v ≡ 16384) (r : Bool) (is-r : r ≡ starts (slice (l .at) from v) (drop (l .at) u)) where
+    (inside : 16384 ≤ length v) (r : Bool) (is-r : r ≡ starts (slice (l .at) from v) (drop (l .at) u)) where
   line-parts : starts (turnedLine v l) (drop (l .at) u)
       ≡ (r
       && starts (turnedTrips v (timesFrom l) (l .trips) (l .positions) (l .trips)) (drop (timesFrom l) u))

@@ -8,7 +8,7 @@ use native.Mathlib.Omega.{arith}
 use lib.ListN.{length, getD, set, drop}
 use lib.Seq.{slice, slice-cons, slice-empty, length-slice}
 use Rattle.words.specs.Put.{put, put-none, put-one, put-append}
-use Rattle.lines_lookup.specs.Lookup.{Line, callsPlace}
+use Rattle.lines_lookup.specs.Lookup.{Line}
 use Rattle.lines_turned.specs.Turned.{
   stepped,
   turnedTrips,
@@ -139,10 +139,3 @@ line-written v old mid out l from begin fits inside room first second =
     ∙ ap (put (timesFrom l) times) (first ∙ ap (λ k. put (l .at) (slice (l .at) k v) old) begin)
     ∙ ap (λ k. put k times (put (l .at) part old)) there
     ∙ put-append (l .at) (2 + l .trips + 3 * l .positions) part times old many (omega arith)
-
--- ---- where the tables end
-pub end-read : (v : List ℕ) (index stations end : ℕ) → index ≡ getD v 3 0 → stations ≡ getD v 0 0
-    → end ≡ getD v (index + stations) 0 → end ≡ callsPlace v (getD v 0 0)
-unfolding callsPlace
-end-read v index stations end is-index is-stations is-end =
-    is-end ∙ (λ z. getD v (is-index z + is-stations z) 0)

@@ -170,6 +170,9 @@ module _ (n : ℕ) (t : List Trip) where
         (line-in t n (lineByTrip t) (as-many t) byTrip whole i h),
       )
 
+  pub index-inside : lineStart t (length (lines t)) ≤ length byTrip
+  index-inside = omega (arith, long, start-last t)
+
   -- ---- words that hold the tables, times by stop
   module _ (v : List ℕ) (holds : Holds v n t) where
     pub place-found : (i : ℕ) → i < length (lines t) → linePlace v i ≡ lineStart t i

@@ -3,3 +3,4 @@ pub mod Turning
 pub mod Turned
 pub mod Laid
 pub mod Found
+pub mod Held

@@ -10,9 +10,10 @@ ghost use Rattle.timetable.specs.Words.{timetableOf, isTimetable};
 ghost use Rattle.replies.specs.Replies.{valuesOf};
 ghost use Rattle.lines_tables.specs.Building.{tablesOf};
 ghost use Rattle.lines_check.specs.Question10.{areTables};
-ghost use Rattle.lines_lookup.specs.Lookup.{lineAt, callsPlace};
+ghost use Rattle.lines_lookup.specs.Lookup.{lineAt};
 ghost use Rattle.lines_turned.specs.ByTrip.{tablesByTrip};
 ghost use Rattle.lines_turned.specs.Turned.{stepped, turnedTrips, timesFrom, lineEnd, turnedLine, starts};
+ghost use Rattle.lines_turned.specs.Held.{Held};
 ghost use Rattle.lines_turned.specs.Turning.{areByTrip, slicesNumber, ownReply, ownWords};
 ghost use Rattle.lines_turned.specs.Turning.{byTripReply, byTripValues, byTripWords};
 ghost use Rattle.lines_turned.specs.Turning.{byStopReply, byStopValues, byStopWords};
@@ -99,14 +100,31 @@ fn copy_part(lines: &[u16], from: usize, end: usize, out: &mut [u16])
     }
 }
 
-// The index where the tables end: the last word of those that say where the lists of stations begin.
-fn tables_end(lines: &[u16]) -> usize
-    ensures { λ r. ⌜ r ≡ callsPlace (now (lines .entry)) (getD (now (lines .entry)) 0 0) ⌝ }
+// Writes the timetable's tables, which are lent with times by stop, with times by trip.
+fn write_turned(words: &[u16], lines: &[u16], other: &mut [u16])
+    requires { ⌜ (16384 ≤ length (now words))
+        × Held (now words) (now lines)
+        × (16384 ≤ length (now lines))
+        × (16384 ≤ length (now other)) ⌝ }
+    ensures { λ _. ⌜ now (other .exit)
+        ≡ put 0 (tablesByTrip (timetableOf (now (words .entry)))) (now (other .entry)) ⌝ }
+    ensures { λ _. ⌜ length (now (other .exit)) ≡ length (now (other .entry)) ⌝ }
 {
-    lines_lookup::peek(
+    let count = lines_lookup::peek(lines, 1);
+    copy_part(lines, 0, 4 + count, other);
+    let mut i = 0;
+    while i < count {
+        write_line(lines, lines_lookup::line_at(lines, i), other);
+        i += 1;
+    }
+    let stations = words::word(words, 0) as usize;
+    let index = lines_lookup::peek(lines, 3);
+    copy_part(
         lines,
-        lines_lookup::peek(lines, 3) + lines_lookup::peek(lines, 0),
-    )
+        index,
+        lines_lookup::peek(lines, index + stations),
+        other,
+    );
 }
 
 // Question 10 to line tables, and their words with times by trip. Returns the number of lines.
@@ -126,21 +144,9 @@ fn turn(words: &[u16], lines: &[u16], work: &mut [u32], other: &mut [u16]) -> Re
     if !lines_check::are_tables(words, lines, work) {
         return Reply::Refused { number: 10 };
     }
-    let count = lines_lookup::peek(lines, 1);
-    copy_part(lines, 0, 4 + count, other);
-    let mut i = 0;
-    while i < count {
-        write_line(lines, lines_lookup::line_at(lines, i), other);
-        i += 1;
-    }
-    copy_part(
-        lines,
-        lines_lookup::peek(lines, 3),
-        tables_end(lines),
-        other,
-    );
+    write_turned(words, lines, other);
     Reply::Done {
-        count: count as u32,
+        count: words::word(lines, 1),
     }
 }
 
@@ -243,7 +249,7 @@ fn same_trips(work: &[u32], l: Line, other: &[u16]) -> bool
 
 // Whether all words of a line stand there, with times by trip.
 fn same_line(work: &[u32], l: Line, other: &[u16]) -> bool
-    requires { ⌜ (lineEnd l ≤ 16384) × (length (now work) ≡ 16384) × (16384 ≤ length (now other)) ⌝ }
+    requires { ⌜ (lineEnd l ≤ 16384) × (16384 ≤ length (now work)) × (16384 ≤ length (now other)) ⌝ }
     ensures { λ r. ⌜ r ≡ starts (turnedLine (now (work .entry)) l) (drop (l .at) (now (other .entry))) ⌝ }
 {
     let from = times_from(l);
@@ -251,4 +257,171 @@ fn same_line(work: &[u32], l: Line, other: &[u16]) -> bool
         return false;
     }
     same_trips(work, l, other)
+}
+
+// Whether the words are the timetable's tables with times by trip, where working space holds them with times by stop.
+fn is_turned(words: &[u16], work: &[u32], other: &[u16]) -> bool
+    requires { ⌜ (16384 ≤ length (now words))
+        × Held (now words) (now work)
+        × (16384 ≤ length (now work))
+        × (16384 ≤ length (now other)) ⌝ }
+    ensures { λ r. ⌜ r ≡ areByTrip (now (words .entry)) (now (other .entry)) ⌝ }
+{
+    let count = long_at(work, 1) as usize;
+    if !same_part(work, 0, 4 + count, other) {
+        return false;
+    }
+    let mut i = 0;
+    while i < count {
+        if !same_line(work, long_line(work, i), other) {
+            return false;
+        }
+        i += 1;
+    }
+    let stations = words::word(words, 0) as usize;
+    let index = long_at(work, 3) as usize;
+    same_part(
+        work,
+        index,
+        long_at(work, index + stations) as usize,
+        other,
+    )
+}
+
+// Question 10 to tables with times by trip, and their words with times by stop. Returns the number of lines.
+fn turn_back(words: &[u16], other: &[u16], work: &mut [u32], lines: &mut [u16]) -> Reply
+    requires { ⌜ (16384 ≤ length (now words))
+        × (isTimetable (now words) ≡ true)
+        × (16384 ≤ length (now other))
+        × (length (now work) ≡ 16384)
+        × (16384 ≤ length (now lines)) ⌝ }
+    ensures { λ r. ⌜ r ≡ ownReply (now (words .entry)) (areByTrip (now (words .entry)) (now (other .entry))) ⌝ }
+    ensures { λ _. ⌜ now (lines .exit)
+        ≡ ownWords
+        (areByTrip (now (words .entry)) (now (other .entry)))
+        (tablesOf (timetableOf (now (words .entry))))
+        (now (lines .entry)) ⌝ }
+{
+    let count = lines_tables::write_tables(words, work);
+    if !is_turned(words, work, other) {
+        return Reply::Refused { number: 10 };
+    }
+    words::narrow(lines, work, count);
+    Reply::Done { count: work[1] }
+}
+
+// Questions 8 and 9 to a timetable, to tables, working space and a result slice of so many words: 0, or the number of
+// the first no.
+fn slices_number(words: &[u16], tables: usize, work: usize, result: usize) -> u32
+    ensures { λ r. ⌜ r ≡ slicesNumber (now (words .entry)) tables work result ⌝ }
+{
+    if words.len() < WORDS_LEAST {
+        return 8;
+    }
+    if tables < WORDS_LEAST {
+        return 8;
+    }
+    if work < WORDS_LEAST {
+        return 8;
+    }
+    if result < WORDS_LEAST {
+        return 8;
+    }
+    if timetable::is_timetable(words) {
+        return 0;
+    }
+    9
+}
+
+// Writes line tables with times by trip if no question is in the way.
+fn by_trip_asked(words: &[u16], lines: &[u16], work: &mut [u32], other: &mut [u16]) -> Reply
+    ensures { λ r. ⌜ r
+        ≡ byTripReply
+        (now (words .entry))
+        (now (lines .entry))
+        (length (now (work .entry)))
+        (length (now (other .entry))) ⌝ }
+    ensures { λ _. ⌜ now (other .exit)
+        ≡ byTripWords
+        (now (words .entry))
+        (now (lines .entry))
+        (length (now (work .entry)))
+        (now (other .entry)) ⌝ }
+{
+    let number = slices_number(words, lines.len(), work.len(), other.len());
+    if number != 0 {
+        return Reply::Refused { number };
+    }
+    turn(words, lines, &mut work[0..WORDS_LEAST], other)
+}
+
+// Writes line tables with times by stop if no question is in the way.
+fn by_stop_asked(words: &[u16], other: &[u16], work: &mut [u32], lines: &mut [u16]) -> Reply
+    ensures { λ r. ⌜ r
+        ≡ byStopReply
+        (now (words .entry))
+        (now (other .entry))
+        (length (now (work .entry)))
+        (length (now (lines .entry))) ⌝ }
+    ensures { λ _. ⌜ now (lines .exit)
+        ≡ byStopWords
+        (now (words .entry))
+        (now (other .entry))
+        (length (now (work .entry)))
+        (now (lines .entry)) ⌝ }
+{
+    let number = slices_number(words, other.len(), work.len(), lines.len());
+    if number != 0 {
+        return Reply::Refused { number };
+    }
+    turn_back(words, other, &mut work[0..WORDS_LEAST], lines)
+}
+
+// Translates line tables to times by trip, then by stop. Working space may hold any words afterwards.
+pub fn by_trip(words: &[u16], lines: &[u16], work: &mut [u32], other: &mut [u16]) -> Reply
+    ensures reply { λ r. ⌜ r
+        ≡ byTripReply
+        (now (words .entry))
+        (now (lines .entry))
+        (length (now (work .entry)))
+        (length (now (other .entry))) ⌝ }
+    ensures values { λ r. ⌜ valuesOf r
+        ≡ byTripValues
+        (now (words .entry))
+        (now (lines .entry))
+        (length (now (work .entry)))
+        (length (now (other .entry))) ⌝ }
+    ensures words { λ _. ⌜ now (other .exit)
+        ≡ byTripWords
+        (now (words .entry))
+        (now (lines .entry))
+        (length (now (work .entry)))
+        (now (other .entry)) ⌝ }
+{
+    by_trip_asked(words, lines, work, other)
+}
+
+// Translates line tables with times by trip back to times by stop, then by trip. Working space may hold any words
+// afterwards.
+pub fn by_stop(words: &[u16], other: &[u16], work: &mut [u32], lines: &mut [u16]) -> Reply
+    ensures reply { λ r. ⌜ r
+        ≡ byStopReply
+        (now (words .entry))
+        (now (other .entry))
+        (length (now (work .entry)))
+        (length (now (lines .entry))) ⌝ }
+    ensures values { λ r. ⌜ valuesOf r
+        ≡ byStopValues
+        (now (words .entry))
+        (now (other .entry))
+        (length (now (work .entry)))
+        (length (now (lines .entry))) ⌝ }
+    ensures words { λ _. ⌜ now (lines .exit)
+        ≡ byStopWords
+        (now (words .entry))
+        (now (other .entry))
+        (length (now (work .entry)))
+        (now (lines .entry)) ⌝ }
+{
+    by_stop_asked(words, other, work, lines)
 }
