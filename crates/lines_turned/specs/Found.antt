@@ -134,11 +134,11 @@ module _ (n : ℕ) (t : List Trip) where
   abbrev byTrip : List ℕ
   byTrip = wordsByTrip n t
 
-  turned-stand : (u : List ℕ) → take (length byTrip) u ≡ byTrip → Stands (laid t n (lineByTrip t) (as-many t)) u 0
+  pub turned-stand : (u : List ℕ) → take (length byTrip) u ≡ byTrip → Stands (laid t n (lineByTrip t) (as-many t)) u 0
   unfolding wordsByTrip
   turned-stand u h = front-stands (wordsByTrip n t) u h
 
-  straight-stand : (v : List ℕ) → Holds v n t → Stands (laid t n (lineWords t) (λ l. refl)) v 0
+  pub straight-stand : (v : List ℕ) → Holds v n t → Stands (laid t n (lineWords t) (λ l. refl)) v 0
   unfolding tableWords allLineWords
   straight-stand v h = front-stands (tableWords n t) v (h .is)
 
@@ -167,7 +167,7 @@ module _ (n : ℕ) (t : List Trip) where
         arith,
         start-next t i h,
         part-inside (lineByTrip t (getD (lines t) i [])) byTrip (lineStart t i)
-        (line-in t n (lineByTrip t) (as-many t) byTrip whole i h),
+            (line-in t n (lineByTrip t) (as-many t) byTrip whole i h),
       )
 
   pub index-inside : lineStart t (length (lines t)) ≤ length byTrip
@@ -204,7 +204,7 @@ module _ (n : ℕ) (t : List Trip) where
 
     pub index-found : getD v 3 0 ≡ lineStart t (length (lines t))
     index-found = word-at (front t n) v 0 (front-in t n (lineWords t) (λ l. refl) v (straight-stand v holds)) 3 (omega arith)
-      ∙ sym (start-last t)
+        ∙ sym (start-last t)
 
     pub end-of-tables : callsPlace v (getD v 0 0) ≡ length byTrip
     unfolding allCallPairs

@@ -80,7 +80,7 @@ module _ (t : List Trip) where
         length-range 0 (length c),
       )
 
-  length-tripTimes : (stops z : ℕ) → length (tripTimes t stops z) ≡ 2 * stops
+  pub length-tripTimes : (stops z : ℕ) → length (tripTimes t stops z) ≡ 2 * stops
   unfolding tripTimes
   length-tripTimes stops z =
       let times : ℕ → List ℕ = λ p. (stopOf t z p) .arrive ∷ (stopOf t z p) .depart ∷ [] in

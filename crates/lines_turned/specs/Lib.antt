@@ -4,3 +4,6 @@ pub mod Turned
 pub mod Laid
 pub mod Found
 pub mod Held
+pub mod Claims
+pub mod SameLookups
+pub mod Proved

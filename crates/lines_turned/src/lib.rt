@@ -35,14 +35,7 @@ fn times_from(l: Line) -> usize
 
 // Writes the times of one trip at so many stops, from index at on. Its first arrival stands at index from of the tables,
 // on a line of so many trips.
-fn write_trip(
-    lines: &[u16],
-    from: usize,
-    trips: usize,
-    stops: usize,
-    out: &mut [u16],
-    at: usize,
-)
+fn write_trip(lines: &[u16], from: usize, trips: usize, stops: usize, out: &mut [u16], at: usize)
     requires { ⌜ (from ≤ 32768) × (trips ≤ 16384) × (stops ≤ 16384) × (at + 2 * stops ≤ length (now out)) ⌝ }
     ensures { λ _. ⌜ now (out .exit) ≡ put at (stepped (now (lines .entry)) from trips stops) (now (out .entry)) ⌝ }
     ensures { λ _. ⌜ length (now (out .exit)) ≡ length (now (out .entry)) ⌝ }
@@ -280,12 +273,7 @@ fn is_turned(words: &[u16], work: &[u32], other: &[u16]) -> bool
     }
     let stations = words::word(words, 0) as usize;
     let index = long_at(work, 3) as usize;
-    same_part(
-        work,
-        index,
-        long_at(work, index + stations) as usize,
-        other,
-    )
+    same_part(work, index, long_at(work, index + stations) as usize, other)
 }
 
 // Question 10 to tables with times by trip, and their words with times by stop. Returns the number of lines.

@@ -4,17 +4,8 @@ use borrow.Author.Needs.{needs}
 use Rattle.lines_turned.proofs.by_stop.Statement.{statement}
 use Rattle.lines_turned.proofs.by_stop.Tie as tie
 
-by-stop-asked-requires : tie.Need-by-stop-asked-requires
-by-stop-asked-requires c κs = search needs
-
-same-length : tie.Need-same-length
-same-length c = search needs
-
-same-length-2 : tie.Need-same-length-2
-same-length-2 c = search needs
-
 returns : tie.Need-returns
 returns c = (search needs, (search by-stop-values, search needs))
 
 pub by-stop-spec : {M : Type 1} → statement M
-by-stop-spec = tie.close (tie.spec by-stop-asked-requires same-length same-length-2 returns)
+by-stop-spec = tie.close (tie.spec (λ c. search needs) (λ c. search needs) (λ c. search needs) returns)

@@ -5,29 +5,14 @@ use borrow.Author.Needs.{needs}
 use Rattle.lines_turned.proofs.by_stop_asked.Statement.{statement}
 use Rattle.lines_turned.proofs.by_stop_asked.Tie as tie
 
-slices-number-requires : tie.Need-slices-number-requires
-slices-number-requires c κs = search needs
-
 returns : tie.Need-returns
 returns c = (search stop-refused-reply, search stop-refused-words)
-
-sub-turn-back : tie.Need-sub-turn-back
-sub-turn-back c = search needs
-
-part-turn-back-start : tie.Need-part-turn-back-start
-part-turn-back-start c = search needs
 
 part-turn-back-end : tie.Need-part-turn-back-end
 part-turn-back-end c = search work-long
 
 turn-back-requires : tie.Need-turn-back-requires
 turn-back-requires c κs = (search words-long, search accepted, search tables-long, search (part-long, work-long), search result-long)
-
-same-length : tie.Need-same-length
-same-length c = search needs
-
-same-length-2 : tie.Need-same-length-2
-same-length-2 c = search needs
 
 returns-2 : tie.Need-returns-2
 returns-2 c = (search stop-reply, search stop-words)
@@ -36,12 +21,12 @@ pub by-stop-asked-spec : {M : Type 1} → statement M
 by-stop-asked-spec =
     tie.close
     (tie.spec
-    slices-number-requires
+    (λ c. search needs)
     returns
-    sub-turn-back
-    part-turn-back-start
+    (λ c. search needs)
+    (λ c. search needs)
     part-turn-back-end
     turn-back-requires
-    same-length
-    same-length-2
+    (λ c. search needs)
+    (λ c. search needs)
     returns-2)

@@ -5,29 +5,14 @@ use borrow.Author.Needs.{needs}
 use Rattle.lines_turned.proofs.by_trip_asked.Statement.{statement}
 use Rattle.lines_turned.proofs.by_trip_asked.Tie as tie
 
-slices-number-requires : tie.Need-slices-number-requires
-slices-number-requires c κs = search needs
-
 returns : tie.Need-returns
 returns c = (search trip-refused-reply, search trip-refused-words)
-
-sub-turn : tie.Need-sub-turn
-sub-turn c = search needs
-
-part-turn-start : tie.Need-part-turn-start
-part-turn-start c = search needs
 
 part-turn-end : tie.Need-part-turn-end
 part-turn-end c = search work-long
 
 turn-requires : tie.Need-turn-requires
 turn-requires c κs = (search words-long, search accepted, search tables-long, search (part-long, work-long), search result-long)
-
-same-length : tie.Need-same-length
-same-length c = search needs
-
-same-length-2 : tie.Need-same-length-2
-same-length-2 c = search needs
 
 returns-2 : tie.Need-returns-2
 returns-2 c = (search trip-reply, search trip-words)
@@ -36,12 +21,12 @@ pub by-trip-asked-spec : {M : Type 1} → statement M
 by-trip-asked-spec =
     tie.close
     (tie.spec
-    slices-number-requires
+    (λ c. search needs)
     returns
-    sub-turn
-    part-turn-start
+    (λ c. search needs)
+    (λ c. search needs)
     part-turn-end
     turn-requires
-    same-length
-    same-length-2
+    (λ c. search needs)
+    (λ c. search needs)
     returns-2)

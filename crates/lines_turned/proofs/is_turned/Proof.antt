@@ -22,15 +22,6 @@ Inv-loop words work other count i₀ i =
 abbrev μ-loop : tie.MeasureT-loop
 μ-loop words work other count i₀ i = count - i
 
-long-at-requires : tie.Need-long-at-requires Inv-loop μ-loop
-long-at-requires c κs = search needs
-
-cast-count : tie.Need-cast-count Inv-loop μ-loop
-cast-count c = search needs
-
-add-same-part : tie.Need-add-same-part Inv-loop μ-loop
-add-same-part c = search needs
-
 same-part-requires : tie.Need-same-part-requires Inv-loop μ-loop
 same-part-requires c κs = (search needs, search front-inside, search front-inside)
 
@@ -49,35 +40,8 @@ same-line-requires c κs = (search line-fits, search needs, search needs)
 returns-2 : tie.Need-returns-2 Inv-loop μ-loop
 returns-2 c = search lines-differ
 
-add-i : tie.Need-add-i Inv-loop μ-loop
-add-i c = search needs
-
-loop-less : tie.Need-loop-less Inv-loop μ-loop
-loop-less c = search needs
-
 loop-again : tie.Need-loop-again Inv-loop μ-loop
 loop-again c = (search needs, search lines-agree)
-
-word-requires : tie.Need-word-requires Inv-loop μ-loop
-word-requires c κs = search needs
-
-cast-stations : tie.Need-cast-stations Inv-loop μ-loop
-cast-stations c = search needs
-
-long-at-requires-2 : tie.Need-long-at-requires-2 Inv-loop μ-loop
-long-at-requires-2 c κs = search needs
-
-cast-index : tie.Need-cast-index Inv-loop μ-loop
-cast-index c = search needs
-
-add-long-at : tie.Need-add-long-at Inv-loop μ-loop
-add-long-at c = search needs
-
-long-at-requires-3 : tie.Need-long-at-requires-3 Inv-loop μ-loop
-long-at-requires-3 c κs = search needs
-
-cast-same-part : tie.Need-cast-same-part Inv-loop μ-loop
-cast-same-part c = search needs
 
 same-part-requires-2 : tie.Need-same-part-requires-2 Inv-loop μ-loop
 same-part-requires-2 c κs = (search lists-order, search lists-inside, search lists-inside)
@@ -91,24 +55,24 @@ is-turned-spec =
     (tie.spec
     Inv-loop
     μ-loop
-    long-at-requires
-    cast-count
-    add-same-part
+    (λ c. search needs)
+    (λ c. search needs)
+    (λ c. search needs)
     same-part-requires
     returns
     loop-holds
     long-line-requires
     same-line-requires
     returns-2
-    add-i
-    loop-less
+    (λ c. search needs)
+    (λ c. search needs)
     loop-again
-    word-requires
-    cast-stations
-    long-at-requires-2
-    cast-index
-    add-long-at
-    long-at-requires-3
-    cast-same-part
+    (λ c. search needs)
+    (λ c. search needs)
+    (λ c. search needs)
+    (λ c. search needs)
+    (λ c. search needs)
+    (λ c. search needs)
+    (λ c. search needs)
     same-part-requires-2
     returns-3)

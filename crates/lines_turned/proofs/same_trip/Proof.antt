@@ -22,29 +22,8 @@ abbrev μ-loop : tie.MeasureT-loop
 loop-holds : tie.Need-loop-holds Inv-loop μ-loop
 loop-holds c = (search needs, search needs, simp (add-zero, sub-zero))
 
-mul-same-stop : tie.Need-mul-same-stop Inv-loop μ-loop
-mul-same-stop c = search needs
-
-add-same-stop : tie.Need-add-same-stop Inv-loop μ-loop
-add-same-stop c = search needs
-
-same-stop-requires : tie.Need-same-stop-requires Inv-loop μ-loop
-same-stop-requires c κs = search needs
-
 returns : tie.Need-returns Inv-loop μ-loop
 returns c = search trip-differs
-
-mul-k : tie.Need-mul-k Inv-loop μ-loop
-mul-k c = search needs
-
-add-k : tie.Need-add-k Inv-loop μ-loop
-add-k c = search needs
-
-add-p : tie.Need-add-p Inv-loop μ-loop
-add-p c = search needs
-
-loop-less : tie.Need-loop-less Inv-loop μ-loop
-loop-less c = search needs
 
 loop-again : tie.Need-loop-again Inv-loop μ-loop
 loop-again c = (search needs, search needs, search trip-agrees)
@@ -59,13 +38,13 @@ same-trip-spec =
     Inv-loop
     μ-loop
     loop-holds
-    mul-same-stop
-    add-same-stop
-    same-stop-requires
+    (λ c. search needs)
+    (λ c. search needs)
+    (λ c. search needs)
     returns
-    mul-k
-    add-k
-    add-p
-    loop-less
+    (λ c. search needs)
+    (λ c. search needs)
+    (λ c. search needs)
+    (λ c. search needs)
     loop-again
     returns-2)

@@ -20,32 +20,14 @@ Inv-loop work l other from at₀ j₀ at j =
 abbrev μ-loop : tie.MeasureT-loop
 μ-loop work l other from at₀ j₀ at j = l .trips - j
 
-times-from-requires : tie.Need-times-from-requires Inv-loop μ-loop
-times-from-requires c κs = search needs
-
 loop-holds : tie.Need-loop-holds Inv-loop μ-loop
 loop-holds c = (search needs, search trips-begin, simp (add-zero, sub-zero))
-
-add-same-trip : tie.Need-add-same-trip Inv-loop μ-loop
-add-same-trip c = search needs
 
 same-trip-requires : tie.Need-same-trip-requires Inv-loop μ-loop
 same-trip-requires c κs = (search needs, search needs, search needs, search trip-inside)
 
 returns : tie.Need-returns Inv-loop μ-loop
 returns c = search trips-differ
-
-mul-at : tie.Need-mul-at Inv-loop μ-loop
-mul-at c = search needs
-
-add-at : tie.Need-add-at Inv-loop μ-loop
-add-at c = search needs
-
-add-j : tie.Need-add-j Inv-loop μ-loop
-add-j c = search needs
-
-loop-less : tie.Need-loop-less Inv-loop μ-loop
-loop-less c = search needs
 
 loop-again : tie.Need-loop-again Inv-loop μ-loop
 loop-again c =
@@ -62,14 +44,14 @@ same-trips-spec =
     (tie.spec
     Inv-loop
     μ-loop
-    times-from-requires
+    (λ c. search needs)
     loop-holds
-    add-same-trip
+    (λ c. search needs)
     same-trip-requires
     returns
-    mul-at
-    add-at
-    add-j
-    loop-less
+    (λ c. search needs)
+    (λ c. search needs)
+    (λ c. search needs)
+    (λ c. search needs)
     loop-again
     returns-2)

@@ -16,9 +16,6 @@ returns-3 c = search work-short
 returns-4 : tie.Need-returns-4
 returns-4 c = search result-short
 
-is-timetable-requires : tie.Need-is-timetable-requires
-is-timetable-requires c κs = search needs
-
 returns-5 : tie.Need-returns-5
 returns-5 c = search all-long
 
@@ -28,4 +25,4 @@ returns-6 c = search no-timetable
 pub slices-number-spec : {M : Type 1} → statement M
 slices-number-spec =
     tie.close
-    (tie.spec returns returns-2 returns-3 returns-4 is-timetable-requires returns-5 returns-6)
+    (tie.spec returns returns-2 returns-3 returns-4 (λ c. search needs) returns-5 returns-6)

@@ -5,26 +5,11 @@ use borrow.Author.Needs.{needs}
 use Rattle.lines_turned.proofs.turn.Statement.{statement}
 use Rattle.lines_turned.proofs.turn.Tie as tie
 
-are-tables-requires : tie.Need-are-tables-requires
-are-tables-requires c κs = search needs
-
-same-length : tie.Need-same-length
-same-length c = search needs
-
 returns : tie.Need-returns
 returns c = (search refused-reply, search refused-words)
 
 write-turned-requires : tie.Need-write-turned-requires
 write-turned-requires c κs = (search needs, search held-own, search needs, search needs)
-
-word-requires : tie.Need-word-requires
-word-requires c κs = search needs
-
-same-length-2 : tie.Need-same-length-2
-same-length-2 c = search needs
-
-same-length-3 : tie.Need-same-length-3
-same-length-3 c = search needs
 
 returns-2 : tie.Need-returns-2
 returns-2 c = (search (done-reply, held-own), search done-words)
@@ -33,11 +18,11 @@ pub turn-spec : {M : Type 1} → statement M
 turn-spec =
     tie.close
     (tie.spec
-    are-tables-requires
-    same-length
+    (λ c. search needs)
+    (λ c. search needs)
     returns
     write-turned-requires
-    word-requires
-    same-length-2
-    same-length-3
+    (λ c. search needs)
+    (λ c. search needs)
+    (λ c. search needs)
     returns-2)

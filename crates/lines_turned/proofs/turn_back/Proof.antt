@@ -9,14 +9,8 @@ use borrow.Author.Needs.{needs}
 use Rattle.lines_turned.proofs.turn_back.Statement.{statement}
 use Rattle.lines_turned.proofs.turn_back.Tie as tie
 
-write-tables-requires : tie.Need-write-tables-requires
-write-tables-requires c κs = search needs
-
 is-turned-requires : tie.Need-is-turned-requires
 is-turned-requires c κs = (search needs, search held-written, search written-long, search needs)
-
-same-length : tie.Need-same-length
-same-length c = search needs
 
 returns : tie.Need-returns
 returns c = (search refused-reply, search refused-words)
@@ -28,15 +22,6 @@ narrow-requires c κs =
     let small : (i : ℕ) → getD w i 0 < 65536 = λ i. omega (arith, known .shared-slice-known .given i) in
     (search lines-room, search work-room, search (taken-narrow, small))
 
-slice-read-t18 : tie.Need-slice-read-t18
-slice-read-t18 c = search needs
-
-same-length-2 : tie.Need-same-length-2
-same-length-2 c = search needs
-
-same-length-3 : tie.Need-same-length-3
-same-length-3 c = search needs
-
 returns-2 : tie.Need-returns-2
 returns-2 c = (search built-reply, search (built-words, tables-copied))
 
@@ -44,12 +29,12 @@ pub turn-back-spec : {M : Type 1} → statement M
 turn-back-spec =
     tie.close
     (tie.spec
-    write-tables-requires
+    (λ c. search needs)
     is-turned-requires
-    same-length
+    (λ c. search needs)
     returns
     narrow-requires
-    slice-read-t18
-    same-length-2
-    same-length-3
+    (λ c. search needs)
+    (λ c. search needs)
+    (λ c. search needs)
     returns-2)

@@ -21,35 +21,14 @@ Inv-loop lines l out₀ from at₀ j₀ out at j =
 abbrev μ-loop : tie.MeasureT-loop
 μ-loop lines l out₀ from at₀ j₀ out at j = l .trips - j
 
-times-from-requires : tie.Need-times-from-requires Inv-loop μ-loop
-times-from-requires c κs = search needs
-
 loop-holds : tie.Need-loop-holds Inv-loop μ-loop
 loop-holds c = (search needs, search trips-begin, refl, simp (add-zero, sub-zero))
-
-add-write-trip : tie.Need-add-write-trip Inv-loop μ-loop
-add-write-trip c = search needs
 
 write-trip-requires : tie.Need-write-trip-requires Inv-loop μ-loop
 write-trip-requires c κs = (search needs, search needs, search needs, search trip-room)
 
-mul-at : tie.Need-mul-at Inv-loop μ-loop
-mul-at c = search needs
-
-add-at : tie.Need-add-at Inv-loop μ-loop
-add-at c = search needs
-
-add-j : tie.Need-add-j Inv-loop μ-loop
-add-j c = search needs
-
-loop-less : tie.Need-loop-less Inv-loop μ-loop
-loop-less c = search needs
-
 loop-again : tie.Need-loop-again Inv-loop μ-loop
 loop-again c = (search needs, search trip-on, search needs, search (trips-more, trip-room))
-
-same-length : tie.Need-same-length Inv-loop μ-loop
-same-length c = search needs
 
 returns : tie.Need-returns Inv-loop μ-loop
 returns c = (search trips-done, search needs)
@@ -60,14 +39,14 @@ write-trips-spec =
     (tie.spec
     Inv-loop
     μ-loop
-    times-from-requires
+    (λ c. search needs)
     loop-holds
-    add-write-trip
+    (λ c. search needs)
     write-trip-requires
-    mul-at
-    add-at
-    add-j
-    loop-less
+    (λ c. search needs)
+    (λ c. search needs)
+    (λ c. search needs)
+    (λ c. search needs)
     loop-again
-    same-length
+    (λ c. search needs)
     returns)

@@ -23,29 +23,14 @@ Inv-loop words lines other₀ count i₀ other i =
 abbrev μ-loop : tie.MeasureT-loop
 μ-loop words lines other₀ count i₀ other i = count - i
 
-peek-requires : tie.Need-peek-requires Inv-loop μ-loop
-peek-requires c κs = search needs
-
-add-copy-part : tie.Need-add-copy-part Inv-loop μ-loop
-add-copy-part c = search needs
-
 copy-part-requires : tie.Need-copy-part-requires Inv-loop μ-loop
 copy-part-requires c κs = (search needs, search front-inside, search front-inside)
 
 loop-holds : tie.Need-loop-holds Inv-loop μ-loop
 loop-holds c = (search needs, refl, search needs, refl)
 
-line-at-requires : tie.Need-line-at-requires Inv-loop μ-loop
-line-at-requires c κs = search needs
-
 write-line-requires : tie.Need-write-line-requires Inv-loop μ-loop
 write-line-requires c κs = (search line-fits, search needs, search needs)
-
-add-i : tie.Need-add-i Inv-loop μ-loop
-add-i c = search needs
-
-loop-less : tie.Need-loop-less Inv-loop μ-loop
-loop-less c = search needs
 
 loop-again : tie.Need-loop-again Inv-loop μ-loop
 loop-again c =
@@ -60,26 +45,8 @@ loop-again c =
     (turn .loop .inv .2) (found .line-at .ensures .0) (call .write-line .ensures .0) in
     (search needs, search needs, search needs, more)
 
-word-requires : tie.Need-word-requires Inv-loop μ-loop
-word-requires c κs = search needs
-
-cast-stations : tie.Need-cast-stations Inv-loop μ-loop
-cast-stations c = search needs
-
-peek-requires-2 : tie.Need-peek-requires-2 Inv-loop μ-loop
-peek-requires-2 c κs = search needs
-
-add-peek : tie.Need-add-peek Inv-loop μ-loop
-add-peek c = search needs
-
-peek-requires-3 : tie.Need-peek-requires-3 Inv-loop μ-loop
-peek-requires-3 c κs = search needs
-
 copy-part-requires-2 : tie.Need-copy-part-requires-2 Inv-loop μ-loop
 copy-part-requires-2 c κs = (search lists-order, search lists-inside, search lists-inside)
-
-same-length : tie.Need-same-length Inv-loop μ-loop
-same-length c = search needs
 
 returns : tie.Need-returns Inv-loop μ-loop
 returns c = (search all-written, search needs)
@@ -90,20 +57,20 @@ write-turned-spec =
     (tie.spec
     Inv-loop
     μ-loop
-    peek-requires
-    add-copy-part
+    (λ c. search needs)
+    (λ c. search needs)
     copy-part-requires
     loop-holds
-    line-at-requires
+    (λ c. search needs)
     write-line-requires
-    add-i
-    loop-less
+    (λ c. search needs)
+    (λ c. search needs)
     loop-again
-    word-requires
-    cast-stations
-    peek-requires-2
-    add-peek
-    peek-requires-3
+    (λ c. search needs)
+    (λ c. search needs)
+    (λ c. search needs)
+    (λ c. search needs)
+    (λ c. search needs)
     copy-part-requires-2
-    same-length
+    (λ c. search needs)
     returns)
