@@ -64,7 +64,7 @@ impl Both {
     }
 }
 
-/// The other layout of tables by their words alone: the times of each line are taken as a matrix of positions and trips.
+/// The other layout of tables by their words alone: the times of a line are taken as a matrix of positions and trips.
 fn transposed(words: &[u16]) -> Vec<u16> {
     let mut turned = words.to_vec();
     for line in 0..usize::from(words[1]) {

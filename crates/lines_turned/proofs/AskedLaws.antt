@@ -17,7 +17,7 @@ use Rattle.replies.specs.Later.{Asked, asked-none, asked-more, asked-on, asked-
 use Rattle.words.specs.Put.{put, length-put}
 use Rattle.timetable.specs.Words.{timetableOf, isTimetable}
 use Rattle.lines_tables.specs.Building.{slicesLeast, lineCount, tablesOf}
-use Rattle.lines_tables.specs.Model.{linesAt, tableAt}
+use Rattle.lines_tables.specs.Model.{tableAt}
 use Rattle.lines_tables.specs.Fits.{table-fits}
 use Rattle.lines_tables.proofs.BuildLaws.{tables-are}
 use Rattle.lines_lookup.specs.Holding.{holding}
@@ -234,7 +234,8 @@ module _ (w v : List ℕ) (n number : ℕ) where
         → new ≡ ownWords (areTables w v) (tablesByTrip (timetableOf w)) old → new ≡ byTripWords w v n old
     unfolding byTripWords
     trip-words new e f =
-        later-words w (length v) n (length old) number is-number (areTables w v) (tablesByTrip (timetableOf w)) old new e f
+        later-words w (length v) n (length old) number is-number (areTables w v) (tablesByTrip (timetableOf w)) old new e
+        f
 
 -- ---- and back
 module _ (w u : List ℕ) (n number : ℕ) where

@@ -1,7 +1,7 @@
 -- The words before here agree, so all depends on those from here on: one turn of each loop that compares, and its end.
 use mathlib.Core.Path.{_≡_, refl, sym, ap, _∙_}
 use mathlib.Core.Bool.{Bool, true, false, not, _&&_}
-use mathlib.Core.List.{List, [], _∷_, _++_}
+use mathlib.Core.List.{List}
 use Prim.Native.Nat.{ℕ, suc, _+_, _-_, _*_, _≤_, _<_}
 use native.Mathlib.Numerals.{add-one}
 use native.Mathlib.Omega.{arith}
@@ -56,7 +56,10 @@ module _ (v u : List ℕ) (from end k : ℕ)
       sym (left ∙ ap (λ m. starts (slice m end v) (drop k u)) here ∙ rw (slice-empty end v))
 
 -- ---- the times at a stop
-module _ (v u : List ℕ) (k trips at x y : ℕ) (room : at + 2 ≤ length u) (is-x : x ≡ getD v k 0) (is-y : y ≡ getD u at 0) where
+module _ (v u : List ℕ) (k trips at x y : ℕ)
+    (room : at + 2 ≤ length u)
+    (is-x : x ≡ getD v k 0)
+    (is-y : y ≡ getD u at 0) where
   two : starts (stepped v k trips 1) (drop at u) ≡ (eqb x y && (eqb (getD v (k + trips) 0) (getD u (at + 1) 0) && true))
   unfolding starts stepped
   two =

@@ -1,8 +1,8 @@
--- The front, the lines and the lists of stations follow one another: what is written or compared so far is the beginning
--- of all words of the other layout.
+-- The front, the lines and the lists of stations follow one another: what is written or compared so far is the
+-- beginning of all words of the other layout.
 use mathlib.Core.Path.{_≡_, refl, sym, ap, subst, _∙_}
 use mathlib.Core.Bool.{Bool, true, false, not, _&&_}
-use mathlib.Core.List.{List, [], _∷_, _++_}
+use mathlib.Core.List.{List, [], _++_}
 use Prim.Native.Nat.{ℕ, _+_, _≤_, _<_}
 use native.Mathlib.Omega.{arith}
 use borrow.Author.Tests.{not-true, not-false}
@@ -118,7 +118,8 @@ module _ (w v : List ℕ) (held : Held w v) where
 
   -- ---- written: behind the front, which stands in `mid`, the words from the next line on are left
   module _ (mid out : List ℕ) (i : ℕ)
-      (left : put (lineStart t 0) (drop (lineStart t 0) whole) mid ≡ put (lineStart t i) (drop (lineStart t i) whole) out)
+      (left : put (lineStart t 0) (drop (lineStart t 0) whole) mid
+      ≡ put (lineStart t i) (drop (lineStart t i) whole) out)
       (count : ℕ) (is-count : count ≡ getD v 1 0) where
     pub line-more : (next : List ℕ) (l : Line) → i < count → 16384 ≤ length out → l ≡ lineAt v i
         → next ≡ put (l .at) (turnedLine v l) out

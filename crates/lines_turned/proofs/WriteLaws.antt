@@ -1,22 +1,15 @@
 -- What is left to write goes to the words from here on: one turn of each loop that writes, and its end.
 use mathlib.Core.Path.{_≡_, refl, sym, ap, _∙_}
-use mathlib.Core.List.{List, [], _∷_, _++_}
+use mathlib.Core.List.{List, [], _∷_}
 use Prim.Native.Nat.{ℕ, suc, _+_, _-_, _*_, _≤_, _<_}
 use native.Mathlib.Nat.{suc-mul, sub-zero}
 use native.Mathlib.Numerals.{add-one}
 use native.Mathlib.Omega.{arith}
-use lib.ListN.{length, getD, set, drop}
+use lib.ListN.{length, getD, set}
 use lib.Seq.{slice, slice-cons, slice-empty, length-slice}
 use Rattle.words.specs.Put.{put, put-none, put-one, put-append}
 use Rattle.lines_lookup.specs.Lookup.{Line}
-use Rattle.lines_turned.specs.Turned.{
-  stepped,
-  turnedTrips,
-  timesFrom,
-  lineEnd,
-  turnedLine,
-  length-stepped,
-}
+use Rattle.lines_turned.specs.Turned.{stepped, turnedTrips, timesFrom, lineEnd, turnedLine, length-stepped}
 
 -- ---- a part as it is
 module _ (v old out : List ℕ) (from end k : ℕ)
@@ -38,8 +31,9 @@ module _ (v old out : List ℕ) (from end k : ℕ)
 -- ---- the times of a trip
 module _ (v old out : List ℕ) (from trips stops at k p : ℕ)
     (left : put at (stepped v from trips stops) old ≡ put (at + 2 * p) (stepped v k trips (stops - p)) out) where
-  pub trip-more : (arrive depart : ℕ) (next : List ℕ) → p < stops → at + 2 * stops ≤ length old → length out ≡ length old
-      → arrive ≡ getD v k 0 → depart ≡ getD v (k + trips) 0 → next ≡ put (at + 2 * p) (arrive ∷ depart ∷ []) out
+  pub trip-more : (arrive depart : ℕ) (next : List ℕ) → p < stops → at + 2 * stops ≤ length old
+      → length out ≡ length old → arrive ≡ getD v k 0 → depart ≡ getD v (k + trips) 0
+      → next ≡ put (at + 2 * p) (arrive ∷ depart ∷ []) out
       → put at (stepped v from trips stops) old
       ≡ put (at + 2 * (p + 1)) (stepped v (k + 2 * trips) trips (stops - (p + 1))) next
   unfolding stepped
@@ -85,9 +79,6 @@ module _ (l : Line) (at j : ℕ)
   pub trip-inside : (u : List ℕ) → 16384 ≤ length u → at + 2 * l .positions ≤ length u
   trip-inside u room = omega (arith, trips-left (l .trips) (l .positions) j more)
 
-  pub trip-few : at ≤ 16384
-  trip-few = omega (arith, trips-left (l .trips) (l .positions) j more)
-
   pub trip-on : at + 2 * l .positions + (l .trips - (j + 1)) * (2 * l .positions) ≡ lineEnd l
   trip-on = omega (arith, trips-left (l .trips) (l .positions) j more)
 
@@ -106,7 +97,8 @@ module _ (v old out : List ℕ) (l : Line) (from at j : ℕ)
       let on : from + j + 1 ≡ from + (j + 1) = omega arith in
       left
       ∙ ap (λ n. put at (turnedTrips v (from + j) (l .trips) (l .positions) n) out) more
-      ∙ sym (put-append at (2 * l .positions) this rest out (length-stepped v (from + j) (l .trips) (l .positions)) room)
+      ∙ sym
+      (put-append at (2 * l .positions) this rest out (length-stepped v (from + j) (l .trips) (l .positions)) room)
       ∙ ap (put (at + 2 * l .positions) rest) (sym is-next)
       ∙ ap
       (λ k. put (at + 2 * l .positions) (turnedTrips v k (l .trips) (l .positions) (l .trips - (j + 1))) next)

@@ -1,5 +1,5 @@
--- What is claimed of the two layouts and of the calls between them. Document 02, Twelve: "Show that there and back gives
--- the same words, and that every lookup on one gives what it gives on the other." Statements only; `claims` in
+-- What is claimed of the two layouts and of the calls between them. Document 02, Twelve: "Show that there and back
+-- gives the same words, and that every lookup on one gives what it gives on the other." Statements only; `claims` in
 -- Proved.antt proves them.
 use mathlib.Core.Path.{_≡_}
 use mathlib.Core.Bool.{true}
@@ -27,13 +27,7 @@ use Rattle.lines_lookup.specs.Calls.{callsOf}
 use Rattle.lines_lookup.specs.Told.{Holds}
 use Rattle.lines_check.specs.Question10.{areTables}
 use Rattle.lines_turned.specs.ByTrip.{wordsByTrip, arriveByTrip, departByTrip, firstByTrip}
-use Rattle.lines_turned.specs.Turning.{
-  areByTrip,
-  byTripReply,
-  byTripWords,
-  byStopReply,
-  byStopWords,
-}
+use Rattle.lines_turned.specs.Turning.{areByTrip, byTripReply, byTripWords, byStopReply, byStopWords}
 
 -- ---- Lookups: v holds the tables of some trips with times by stop, u with times by trip.
 

@@ -15,25 +15,14 @@ use Rattle.lines_tables.specs.Tables.{
   stopOf,
   lineTimes,
   lineWords,
-  linePlaces,
   allLineWords,
   callPairs,
   allCallPairs,
   indexPlace,
   tableWords,
 }
-use Rattle.lines_lookup.specs.Lookup.{
-  Line,
-  lineCount,
-  linePlace,
-  lineAt,
-  coursePlace,
-  timesPlace,
-  arriveAt,
-  departAt,
-  callsPlace,
-}
-use Rattle.lines_lookup.specs.Told.{LineTold, Told, Holds}
+use Rattle.lines_lookup.specs.Lookup.{Line, linePlace, lineAt, timesPlace, arriveAt, departAt, callsPlace}
+use Rattle.lines_lookup.specs.Told.{LineTold, Holds}
 use Rattle.lines_lookup.specs.Places.{Stands, front-stands, part-slice, word-at, part-inside, left-stands, rowPlace}
 use Rattle.lines_lookup.specs.Holding.{holding, length-callPlaces, line-place-told, calls-place-told}
 use Rattle.lines_turned.specs.ByTrip.{tripTimes, timesByTrip, lineByTrip, wordsByTrip}
@@ -94,7 +83,8 @@ module _ (v : List ℕ) (t : List Trip) (i : ℕ) (l : List ℕ) (told : LineTol
       let first : k ≡ timesPlace line 0 + j = omega (arith, f, zero-mul (line .trips)) in
       let this : stepped v k (line .trips) (line .positions) ≡ tripTimes t stops (getD l j 0) =
       ap (stepped v k (line .trips)) (told .positions) ∙ trip-found j (omega arith) stops 0 k (omega arith) first in
-      let others : turnedTrips v (k + 1) (line .trips) (line .positions) n ≡ concatMap (tripTimes t stops) (drop (suc j) l) =
+      let others : turnedTrips v (k + 1) (line .trips) (line .positions) n
+      ≡ concatMap (tripTimes t stops) (drop (suc j) l) =
       trips-found n (suc j) (k + 1) (omega arith) (omega (arith, f)) in
       (λ z. this z ++ others z) ∙ ap (concatMap (tripTimes t stops)) (sym (drop-cons l j 0 (omega arith)))
 
@@ -203,8 +193,9 @@ module _ (n : ℕ) (t : List Trip) where
         ∙ ap (λ k. take k v) (sym here)
 
     pub index-found : getD v 3 0 ≡ lineStart t (length (lines t))
-    index-found = word-at (front t n) v 0 (front-in t n (lineWords t) (λ l. refl) v (straight-stand v holds)) 3 (omega arith)
-        ∙ sym (start-last t)
+    index-found =
+        let here = front-in t n (lineWords t) (λ l. refl) v (straight-stand v holds) in
+        word-at (front t n) v 0 here 3 (omega arith) ∙ sym (start-last t)
 
     pub end-of-tables : callsPlace v (getD v 0 0) ≡ length byTrip
     unfolding allCallPairs

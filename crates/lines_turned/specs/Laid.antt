@@ -1,12 +1,12 @@
 -- Both layouts lay the same words out but for those of each line, which are as many: so the front, each line and the
 -- lists of stations stand at the same places in both.
 use mathlib.Core.Path.{_≡_, refl, sym, ap, subst, _∙_}
-use mathlib.Core.Bool.{true, false, cond}
+use mathlib.Core.Bool.{true, false}
 use mathlib.Core.List.{List, [], _∷_, _++_, map, append-assoc}
-use Prim.Native.Nat.{ℕ, zero, suc, _+_, _*_, _≤_, _<_}
+use Prim.Native.Nat.{ℕ, zero, suc, _+_, _*_, _<_}
 use native.Mathlib.Nat.{mul-comm, mul-left-comm}
 use native.Mathlib.Omega.{arith}
-use lib.ListN.{length, getD, take, drop, length-append, length-map}
+use lib.ListN.{length, getD, drop, length-append, length-map}
 use lib.Seq.{drop-at}
 use Rattle.lists.specs.Lists.{concatMap, range}
 use Rattle.lists.specs.Ranges.{length-range}
@@ -23,20 +23,11 @@ use Rattle.lines_tables.specs.Tables.{
   lineWords,
   linePlaces,
   allLineWords,
-  callPairs,
   allCallPairs,
   callPlaces,
   indexPlace,
 }
-use Rattle.lines_lookup.specs.Places.{
-  Stands,
-  front-stands,
-  left-stands,
-  right-stands,
-  rowPlace,
-  row-stands,
-  row-next,
-}
+use Rattle.lines_lookup.specs.Places.{Stands, left-stands, right-stands, rowPlace, row-stands, row-next}
 use Rattle.lines_lookup.specs.Holding.{length-linePlaces}
 use Rattle.lines_turned.specs.ByTrip.{tripTimes, timesByTrip, lineByTrip}
 
@@ -55,7 +46,8 @@ all-rows f (x ∷ l) = omega (arith, length-append (f x) (concatMap f l), all-ro
 -- ---- what stands behind a part
 pub stands-drop : (part v : List ℕ) (k : ℕ) → Stands part v k → drop k v ≡ part ++ drop (k + length part) v
 stands-drop part v k s =
-    let up-to : length (s .before ++ part) ≡ k + length part = omega (arith, s .place, length-append (s .before) part) in
+    let up-to : length (s .before ++ part) ≡ k + length part =
+    omega (arith, s .place, length-append (s .before) part) in
     let whole : v ≡ s .before ++ (part ++ s .past) = s .is ∙ append-assoc (s .before) part (s .past) in
     ap (drop k) whole
     ∙ drop-at (s .before) (part ++ s .past) k (s .place)

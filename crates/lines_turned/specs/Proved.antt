@@ -11,7 +11,7 @@ use Rattle.lists.specs.Lists.{same}
 use Rattle.lists.specs.Tests.{T-true, and-left, and-right}
 use Rattle.lists.specs.Members.{same-eq, same-refl}
 use Rattle.questions.specs.Question.{ask, firstNo, yes-here, yes-later}
-use Rattle.replies.specs.Replies.{numberOf, replyOf, reply-number, wordsAfter, words-done}
+use Rattle.replies.specs.Replies.{numberOf, replyOf, reply-number, words-done}
 use Rattle.words.specs.Put.{put, take-put, length-put}
 use Rattle.timetable.specs.Words.{timetableOf, isTimetable}
 use Rattle.lines_tables.specs.Building.{slicesLeast, lineCount, tablesOf}
@@ -23,7 +23,6 @@ use Rattle.lines_turned.specs.Claims.{ThereAndBack, BackAndThere, Claims
 use Rattle.lines_turned.specs.SameLookups.{same-lookups}
 use Rattle.lines_turned.specs.Turning.{
   areByTrip,
-  slicesQuestions,
   turnNumber,
   byTripNumber,
   byTripReply,
@@ -75,7 +74,8 @@ module _ (w : List ℕ) (k n m : ℕ) (own : Bool) (none : turnNumber w k n m ow
       (and-right (leb slicesLeast (length w) && leb slicesLeast k && leb slicesLeast n) (leb slicesLeast m) yes-8)
 
   -- then a call lent what was written, and slices long enough, succeeds too
-  again : (j s r : ℕ) → j ≡ m → slicesLeast ≤ s → slicesLeast ≤ r → (own' : Bool) → own' ≡ true → turnNumber w j s r own' ≡ 0
+  again : (j s r : ℕ) → j ≡ m → slicesLeast ≤ s → slicesLeast ≤ r → (own' : Bool) → own' ≡ true
+      → turnNumber w j s r own' ≡ 0
   unfolding turnNumber
   again j s r e h g own' yes' =
       rw (
@@ -94,8 +94,8 @@ module _ (w : List ℕ) where
   as-long = same-length (length ((timetableOf w) .stations)) ((timetableOf w) .trips)
 
   -- what was written keeps the length
-  kept : (x old : List ℕ) → isTimetable w ≡ true → length x ≡ length (tablesOf (timetableOf w)) → slicesLeast ≤ length old
-      → length (put 0 x old) ≡ length old
+  kept : (x old : List ℕ) → isTimetable w ≡ true → length x ≡ length (tablesOf (timetableOf w))
+      → slicesLeast ≤ length old → length (put 0 x old) ≡ length old
   kept x old accepted e h = length-put 0 x old (omega (arith, tables-fit w accepted))
 
 -- ---- there and back
@@ -123,7 +123,8 @@ module _ (w v : List ℕ) (n : ℕ) (old : List ℕ) (k : ℕ) (back : List ℕ)
   none-then =
       again w (length v) n (length old) own none (length (byTripWords w v n old)) k (length back)
       (ap length written
-      ∙ kept w (tablesByTrip (timetableOf w)) old accepted (as-long w) (result-long w (length v) n (length old) own none))
+      ∙ kept w (tablesByTrip (timetableOf w)) old accepted (as-long w)
+      (result-long w (length v) n (length old) own none))
       h g (areByTrip w (byTripWords w v n old)) asked-then
 
   first-words : take (length (tablesOf (timetableOf w))) v ≡ tablesOf (timetableOf w)
@@ -137,7 +138,9 @@ module _ (w v : List ℕ) (n : ℕ) (old : List ℕ) (k : ℕ) (back : List ℕ)
         asked = asked-then;
         replies = ap (λ x. replyOf x (lineCount (timetableOf w))) (none-then ∙ sym none);
         words =
-            sym (words-done (byStopNumber w (byTripWords w v n old) k (length back)) (tablesOf (timetableOf w)) back none-then)
+            sym
+            (words-done (byStopNumber w (byTripWords w v n old) k (length back)) (tablesOf (timetableOf w)) back
+            none-then)
             ∙ ap (λ x. put 0 x back) (sym first-words);
       }
 
@@ -183,7 +186,8 @@ module _ (w u : List ℕ) (n : ℕ) (old : List ℕ) (k : ℕ) (back : List ℕ)
         replies = ap (λ x. replyOf x (lineCount (timetableOf w))) (none-then-2 ∙ sym none-2);
         words =
             sym
-            (words-done (byTripNumber w (byStopWords w u n old) k (length back)) (tablesByTrip (timetableOf w)) back none-then-2)
+            (words-done (byTripNumber w (byStopWords w u n old) k (length back)) (tablesByTrip (timetableOf w)) back
+            none-then-2)
             ∙ ap (λ x. put 0 x back) (sym first-words-2);
       }
 

@@ -1,5 +1,5 @@
--- Every lookup on one layout gives what it gives on the other: words before the times of a line stand at the same places,
--- and a time stands where the trip and then the stop say.
+-- Every lookup on one layout gives what it gives on the other: words before the times of a line stand at the same
+-- places, and a time stands where the trip and then the stop say.
 use mathlib.Core.Path.{_≡_, refl, sym, ap, subst, _∙_}
 use mathlib.Core.Bool.{Bool, true, false, cond, _&&_}
 use mathlib.Core.List.{List, [], _∷_, _++_}
@@ -9,21 +9,13 @@ use native.Mathlib.Numerals.{add-one}
 use native.Mathlib.Omega.{arith}
 use borrow.Author.Tests.{le-leb, leb-true}
 use lib.Dec.{leb}
-use lib.ListN.{length, getD, take, length-append}
+use lib.ListN.{length, getD, length-append}
 use lib.Seq.{slice}
-use Rattle.lists.specs.Lists.{concatMap, range}
+use Rattle.lists.specs.Lists.{range}
 use Rattle.lists.specs.Ranges.{length-range}
 use Rattle.timetable.specs.Timetable.{Trip}
 use Rattle.lines.specs.Lines.{lines, course}
-use Rattle.lines_tables.specs.Tables.{
-  stopOf,
-  lineTimes,
-  lineWords,
-  callPairs,
-  callPlaces,
-  allCallPairs,
-  indexPlace,
-}
+use Rattle.lines_tables.specs.Tables.{stopOf, lineTimes, lineWords, callPairs, allCallPairs, indexPlace}
 use Rattle.lines_lookup.specs.Lookup.{
   Line,
   lineCount,
@@ -322,7 +314,8 @@ module _ (v u : List ℕ) (n : ℕ) (t : List Trip) (holds : Holds v n t) (turne
   list-same zero = refl
   list-same (suc s) =
       let stations : getD u 0 0 ≡ getD v 0 0 = front-word 0 (omega arith) in
-      ap (λ k. cond (leb 1 (suc s) && leb (suc s) k) (slice (callsPlace u (suc s - 1)) (callsPlace u (suc s)) u) []) stations
+      ap (λ k. cond (leb 1 (suc s) && leb (suc s) k) (slice (callsPlace u (suc s - 1)) (callsPlace u (suc s)) u) [])
+      stations
       ∙ go (leb (suc s) (getD v 0 0)) refl
     where
       go : (b : Bool) → leb (suc s) (getD v 0 0) ≡ b

@@ -1,13 +1,13 @@
 -- The other layout as the code finds it, word by word, from tables that have times by stop: a trip's times stand there
 -- in steps, at each stop an arrival and, behind those of all trips, a departure.
-use mathlib.Core.Path.{_≡_, refl, sym, ap, _∙_}
+use mathlib.Core.Path.{_≡_, refl, ap, _∙_}
 use mathlib.Core.Bool.{Bool, true, false, _&&_}
 use mathlib.Core.List.{List, [], _∷_, _++_}
-use Prim.Native.Nat.{ℕ, zero, suc, _+_, _*_, _≤_, _<_}
+use Prim.Native.Nat.{ℕ, zero, suc, _+_, _*_}
 use native.Mathlib.Omega.{arith}
 use lib.Dec.{eqb}
 use lib.ListN.{length, getD, take, drop, length-append}
-use lib.Seq.{slice, length-slice}
+use lib.Seq.{slice}
 use Rattle.lists.specs.Lists.{same}
 use Rattle.lines_lookup.specs.Lookup.{Line, coursePlace}
 

@@ -1,8 +1,8 @@
-// Line tables with times by trip, then by stop: the layout that no other call takes, and the two calls that translate to
-// it and back.
+// Line tables with times by trip, then by stop: the layout that no other call takes, and the two calls that translate
+// to it and back.
 ghost use mathlib.Core.Path.{_≡_};
-ghost use mathlib.Core.Bool.{true, cond};
-ghost use Prim.Native.Nat.{_+_, _-_, _*_, _≤_, _<_};
+ghost use mathlib.Core.Bool.{true};
+ghost use Prim.Native.Nat.{_+_, _*_, _≤_, _<_};
 ghost use lib.ListN.{length, getD, drop};
 ghost use lib.Seq.{slice};
 ghost use Rattle.words.specs.Put.{put};
@@ -33,8 +33,8 @@ fn times_from(l: Line) -> usize
     l.at + 2 + l.trips + POSITION_WORDS * l.positions
 }
 
-// Writes the times of one trip at so many stops, from index at on. Its first arrival stands at index from of the tables,
-// on a line of so many trips.
+// Writes the times of one trip at so many stops, from index at on. Its first arrival stands at index from of the
+// tables, on a line of so many trips.
 fn write_trip(lines: &[u16], from: usize, trips: usize, stops: usize, out: &mut [u16], at: usize)
     requires { ⌜ (from ≤ 32768) × (trips ≤ 16384) × (stops ≤ 16384) × (at + 2 * stops ≤ length (now out)) ⌝ }
     ensures { λ _. ⌜ now (out .exit) ≡ put at (stepped (now (lines .entry)) from trips stops) (now (out .entry)) ⌝ }

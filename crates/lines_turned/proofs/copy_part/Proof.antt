@@ -1,6 +1,6 @@
 -- What is left goes to the words from index k on.
 use mathlib.Core.Path.{_≡_, refl}
-use Prim.Native.Nat.{_≤_, _+_, _-_, _*_}
+use Prim.Native.Nat.{_≤_, _-_}
 use lib.ListN.{length}
 use lib.Seq.{slice}
 use Rattle.words.specs.Put.{put}

@@ -1,13 +1,24 @@
 -- The words before the next line agree, so all depends on those from it on.
-use mathlib.Core.Path.{_≡_, refl}
-use Prim.Native.Nat.{_≤_, _+_, _-_, _*_}
+use mathlib.Core.Path.{_≡_}
+use Prim.Native.Nat.{_≤_, _-_}
 use lib.ListN.{drop}
 use Rattle.timetable.specs.Words.{timetableOf}
 use Rattle.lines_turned.specs.ByTrip.{tablesByTrip}
 use Rattle.lines_turned.specs.Turned.{starts}
 use Rattle.lines_turned.specs.Turning.{areByTrip}
 use Rattle.lines_turned.specs.Laid.{lineStart}
-use Rattle.lines_turned.proofs.TurnLaws.{line-few, front-inside, front-differs, front-agrees, line-fits, lines-differ, lines-agree, lists-order, lists-inside, lists-decide}
+use Rattle.lines_turned.proofs.TurnLaws.{
+  line-few,
+  front-inside,
+  front-differs,
+  front-agrees,
+  line-fits,
+  lines-differ,
+  lines-agree,
+  lists-order,
+  lists-inside,
+  lists-decide,
+}
 use borrow.Author.Needs.{needs}
 use Rattle.lines_turned.proofs.is_turned.Statement.{statement}
 use Rattle.lines_turned.proofs.is_turned.Tie as tie

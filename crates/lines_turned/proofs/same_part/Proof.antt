@@ -1,7 +1,7 @@
 -- The words before index k agree, so all depends on those from k on.
 use mathlib.Core.Path.{_≡_, refl}
-use Prim.Native.Nat.{_≤_, _+_, _-_, _*_}
-use lib.ListN.{length, drop}
+use Prim.Native.Nat.{_≤_, _-_}
+use lib.ListN.{drop}
 use lib.Seq.{slice}
 use Rattle.lines_turned.specs.Turned.{starts}
 use Rattle.lines_turned.proofs.SameLaws.{part-differs, part-agrees, part-same}

@@ -1,5 +1,5 @@
 -- The times at p stops agree, so all depends on the others.
-use mathlib.Core.Path.{_≡_, refl}
+use mathlib.Core.Path.{_≡_}
 use Prim.Native.Nat.{_≤_, _+_, _-_, _*_}
 use native.Mathlib.Nat.{add-zero, sub-zero}
 use lib.ListN.{drop}

@@ -1,5 +1,5 @@
 -- The times of the trips before place j agree, so all depends on the others; they end where the line ends.
-use mathlib.Core.Path.{_≡_, refl}
+use mathlib.Core.Path.{_≡_}
 use Prim.Native.Nat.{_≤_, _+_, _-_, _*_}
 use native.Mathlib.Nat.{add-zero, sub-zero}
 use lib.ListN.{drop}

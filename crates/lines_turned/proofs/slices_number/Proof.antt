@@ -1,5 +1,12 @@
 -- Four slices may be too short, and then the words may be no timetable.
-use Rattle.lines_turned.proofs.AskedLaws.{words-short, tables-short, work-short, result-short, no-timetable, all-long}
+use Rattle.lines_turned.proofs.AskedLaws.{
+  words-short,
+  tables-short,
+  work-short,
+  result-short,
+  no-timetable,
+  all-long,
+}
 use borrow.Author.Needs.{needs}
 use Rattle.lines_turned.proofs.slices_number.Statement.{statement}
 use Rattle.lines_turned.proofs.slices_number.Tie as tie

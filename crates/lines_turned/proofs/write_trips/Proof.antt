@@ -5,7 +5,7 @@ use native.Mathlib.Nat.{add-zero, sub-zero}
 use lib.ListN.{length}
 use Rattle.words.specs.Put.{put}
 use Rattle.lines_turned.specs.Turned.{turnedTrips, lineEnd}
-use Rattle.lines_turned.proofs.WriteLaws.{trips-begin, trip-room, trip-few, trip-on, trips-more, trips-done}
+use Rattle.lines_turned.proofs.WriteLaws.{trips-begin, trip-room, trip-on, trips-more, trips-done}
 use borrow.Author.Needs.{needs}
 use Rattle.lines_turned.proofs.write_trips.Statement.{statement}
 use Rattle.lines_turned.proofs.write_trips.Tie as tie

@@ -1,12 +1,19 @@
 -- What is written is the beginning of all words: the front, then line after line, then the lists of stations.
 use mathlib.Core.Path.{_≡_, refl}
-use Prim.Native.Nat.{_≤_, _+_, _-_, _*_}
+use Prim.Native.Nat.{_≤_, _-_}
 use lib.ListN.{length, drop}
 use Rattle.words.specs.Put.{put}
 use Rattle.timetable.specs.Words.{timetableOf}
 use Rattle.lines_turned.specs.ByTrip.{tablesByTrip}
 use Rattle.lines_turned.specs.Laid.{lineStart}
-use Rattle.lines_turned.proofs.TurnLaws.{front-inside, line-fits, line-more, lists-order, lists-inside, all-written}
+use Rattle.lines_turned.proofs.TurnLaws.{
+  front-inside,
+  line-fits,
+  line-more,
+  lists-order,
+  lists-inside,
+  all-written,
+}
 use borrow.Author.Needs.{needs}
 use Rattle.lines_turned.proofs.write_turned.Statement.{statement}
 use Rattle.lines_turned.proofs.write_turned.Tie as tie
