@@ -234,8 +234,8 @@ module _ (w v : List ℕ) (n number : ℕ) where
         → new ≡ ownWords (areTables w v) (tablesByTrip (timetableOf w)) old → new ≡ byTripWords w v n old
     unfolding byTripWords
     trip-words new e f =
-        later-words w (length v) n (length old) number is-number (areTables w v) (tablesByTrip (timetableOf w)) old new e
-        f
+        let result = tablesByTrip (timetableOf w) in
+        later-words w (length v) n (length old) number is-number (areTables w v) result old new e f
 
 -- ---- and back
 module _ (w u : List ℕ) (n number : ℕ) where

@@ -24,7 +24,15 @@ loop-holds : tie.Need-loop-holds Inv-loop μ-loop
 loop-holds c = (search needs, search needs, refl, simp (add-zero, sub-zero))
 
 loop-again : tie.Need-loop-again Inv-loop μ-loop
-loop-again c = (search needs, search needs, search needs, search trip-more)
+loop-again c =
+    let two = c .before .before in
+    let departs = two .before .before in
+    let arrives = departs .before in
+    let turn = arrives .before .before .loop in
+    let more =
+    trip-more _ _ _ _ _ _ _ _ _ (turn .inv .3) _ _ _ (search needs) (search needs) (search needs)
+    (arrives .peek .ensures .0) (departs .peek2 .ensures .0) (two .put-two .ensures .0) in
+    (search needs, search needs, search needs, more)
 
 returns : tie.Need-returns Inv-loop μ-loop
 returns c = (search trip-done, search needs)
