@@ -82,7 +82,7 @@ extern "C" {
  *   dairyepoch_check_timetable     0.004
  *   dairyepoch_build_lines         0.01 for one line, 0.35 for 256; dairyepoch_check_lines likewise
  *   dairyepoch_check_lines_alone   0.07 for one line, 0.46 for 256; dairyepoch_line_trips likewise
- *   dairyepoch_times_by_trip       as dairyepoch_check_lines, and up to 14 in 100 more; dairyepoch_times_by_stop likewise
+ *   dairyepoch_times_by_trip       up to 1.13 times dairyepoch_check_lines; dairyepoch_times_by_stop likewise
  *   dairyepoch_direct              0.02 for one line, 0.34 for 256, 1.1 for an answer of 507 rows
  *   dairyepoch_make_store          3 on a rural timetable, 9 on random trips, 37 at worst
  *   dairyepoch_query               0.1 on a rural timetable, 0.4 on random trips; up to 900 for a hundred rows or more
