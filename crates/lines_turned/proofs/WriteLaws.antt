@@ -82,28 +82,28 @@ module _ (l : Line) (at j : ℕ)
   pub trip-on : at + 2 * l .positions + (l .trips - (j + 1)) * (2 * l .positions) ≡ lineEnd l
   trip-on = omega (arith, trips-left (l .trips) (l .positions) j more)
 
+module _ (v old out : List ℕ) (trips stops from at j : ℕ)
+    (left : put from (turnedTrips v from trips stops trips) old
+    ≡ put at (turnedTrips v (from + j) trips stops (trips - j)) out) where
+  pub trips-more : (next : List ℕ) → j < trips → at + 2 * stops ≤ length out
+      → next ≡ put at (stepped v (from + j) trips stops) out
+      → put from (turnedTrips v from trips stops trips) old
+      ≡ put (at + 2 * stops) (turnedTrips v (from + (j + 1)) trips stops (trips - (j + 1))) next
+  unfolding turnedTrips
+  trips-more next h room is-next =
+      let this = stepped v (from + j) trips stops in
+      let rest = turnedTrips v (from + j + 1) trips stops (trips - (j + 1)) in
+      let more : trips - j ≡ suc (trips - (j + 1)) = omega arith in
+      let on : from + j + 1 ≡ from + (j + 1) = omega arith in
+      left
+      ∙ ap (λ n. put at (turnedTrips v (from + j) trips stops n) out) more
+      ∙ sym (put-append at (2 * stops) this rest out (length-stepped v (from + j) trips stops) room)
+      ∙ ap (put (at + 2 * stops) rest) (sym is-next)
+      ∙ ap (λ k. put (at + 2 * stops) (turnedTrips v k trips stops (trips - (j + 1))) next) on
+
 module _ (v old out : List ℕ) (l : Line) (from at j : ℕ)
     (left : put from (turnedTrips v from (l .trips) (l .positions) (l .trips)) old
     ≡ put at (turnedTrips v (from + j) (l .trips) (l .positions) (l .trips - j)) out) where
-  pub trips-more : (next : List ℕ) → j < l .trips → at + 2 * l .positions ≤ length out
-      → next ≡ put at (stepped v (from + j) (l .trips) (l .positions)) out
-      → put from (turnedTrips v from (l .trips) (l .positions) (l .trips)) old
-      ≡ put (at + 2 * l .positions) (turnedTrips v (from + (j + 1)) (l .trips) (l .positions) (l .trips - (j + 1))) next
-  unfolding turnedTrips
-  trips-more next h room is-next =
-      let this = stepped v (from + j) (l .trips) (l .positions) in
-      let rest = turnedTrips v (from + j + 1) (l .trips) (l .positions) (l .trips - (j + 1)) in
-      let more : l .trips - j ≡ suc (l .trips - (j + 1)) = omega arith in
-      let on : from + j + 1 ≡ from + (j + 1) = omega arith in
-      left
-      ∙ ap (λ n. put at (turnedTrips v (from + j) (l .trips) (l .positions) n) out) more
-      ∙ sym
-      (put-append at (2 * l .positions) this rest out (length-stepped v (from + j) (l .trips) (l .positions)) room)
-      ∙ ap (put (at + 2 * l .positions) rest) (sym is-next)
-      ∙ ap
-      (λ k. put (at + 2 * l .positions) (turnedTrips v k (l .trips) (l .positions) (l .trips - (j + 1))) next)
-      on
-
   pub trips-done : j ≤ l .trips → l .trips ≤ j → from ≡ timesFrom l
       → out ≡ put (timesFrom l) (turnedTrips v (timesFrom l) (l .trips) (l .positions) (l .trips)) old
   unfolding turnedTrips

@@ -28,7 +28,14 @@ write-trip-requires : tie.Need-write-trip-requires Inv-loop μ-loop
 write-trip-requires c κs = (search needs, search needs, search needs, search trip-room)
 
 loop-again : tie.Need-loop-again Inv-loop μ-loop
-loop-again c = (search needs, search trip-on, search needs, search (trips-more, trip-room))
+loop-again c =
+    let wrote = c .before .before .before in
+    let turn = wrote .before .before .before .before .loop in (
+      search needs,
+      search trip-on,
+      search needs,
+      trips-more _ _ _ _ _ _ _ _ (turn .inv .3) _ (search needs) (search trip-room) (wrote .write-trip .ensures .0),
+    )
 
 returns : tie.Need-returns Inv-loop μ-loop
 returns c = (search trips-done, search needs)
