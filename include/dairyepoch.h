@@ -9,7 +9,8 @@
  *   dairyepoch_query         the rows for a rider, from that store    whenever one asks
  *
  * The other calls can be left out: dairyepoch_direct answers with single rides and needs no store; the calls that check
- * judge words that a host was handed, as every later call does by itself. examples/host.c is a whole host.
+ * judge words that a host was handed, as every later call does by itself; dairyepoch_times_by_trip and
+ * dairyepoch_times_by_stop translate line tables to another layout and back. examples/host.c is a whole host.
  *
  * No call keeps anything between calls, allocates memory, or reads or writes anything but what is lent to it. Every
  * call ends, whatever the lent bytes and words are: the reply tells what is wrong with them. The caller sees to one
@@ -67,6 +68,8 @@ extern "C" {
 #define DAIRYEPOCH_CHECK_LINES_STACK 4096
 #define DAIRYEPOCH_CHECK_LINES_ALONE_STACK 54272
 #define DAIRYEPOCH_LINE_TRIPS_STACK 54272
+#define DAIRYEPOCH_TIMES_BY_TRIP_STACK 4096
+#define DAIRYEPOCH_TIMES_BY_STOP_STACK 4096
 #define DAIRYEPOCH_DIRECT_STACK 15872
 #define DAIRYEPOCH_MAKE_STORE_STACK 69632
 #define DAIRYEPOCH_QUERY_STACK 69632
@@ -79,6 +82,7 @@ extern "C" {
  *   dairyepoch_check_timetable     0.004
  *   dairyepoch_build_lines         0.01 for one line, 0.35 for 256; dairyepoch_check_lines likewise
  *   dairyepoch_check_lines_alone   0.07 for one line, 0.46 for 256; dairyepoch_line_trips likewise
+ *   dairyepoch_times_by_trip       up to 1.13 times dairyepoch_check_lines; dairyepoch_times_by_stop likewise
  *   dairyepoch_direct              0.02 for one line, 0.34 for 256, 1.1 for an answer of 507 rows
  *   dairyepoch_make_store          3 on a rural timetable, 9 on random trips, 37 at worst
  *   dairyepoch_query               0.1 on a rural timetable, 0.4 on random trips; up to 900 for a hundred rows or more
@@ -210,6 +214,28 @@ uint64_t dairyepoch_check_lines_alone(const uint16_t *lines, size_t lines_len, u
  */
 uint64_t dairyepoch_line_trips(const uint16_t *lines, size_t lines_len, uint32_t *work, size_t work_len,
                                uint32_t line);
+
+/*
+ * Translates line tables to times by trip, then by stop (docs/LAYOUT.md), and writes them to the start of the other
+ * slice. Every other call takes times by stop, then by trip, and so does this one: the line tables are asked about as
+ * by dairyepoch_check_lines. There are as many words in both layouts, and only the order of each line's times differs.
+ * Each of the four slices has at least 16,384 words. Words past the tables keep their values.
+ *
+ * Reply: 0 and the number of lines; or a refusal: 8, then 9, then 10.
+ */
+uint64_t dairyepoch_times_by_trip(const uint16_t *timetable, size_t timetable_len, const uint16_t *lines,
+                                  size_t lines_len, uint32_t *work, size_t work_len, uint16_t *other,
+                                  size_t other_len);
+
+/*
+ * Translates line tables with times by trip back to the layout that every other call takes, and writes them to the
+ * start of the lines slice. Number 10 judges the layout lent: yes exactly if these are the words that
+ * dairyepoch_times_by_trip writes for this timetable. There and back gives the same words, both ways round. Slices and
+ * replies as there.
+ */
+uint64_t dairyepoch_times_by_stop(const uint16_t *timetable, size_t timetable_len, const uint16_t *other,
+                                  size_t other_len, uint32_t *work, size_t work_len, uint16_t *lines,
+                                  size_t lines_len);
 
 /*
  * The direct rides from one station to another at a minute, or later. Writes a row of 6 words for each cost that no

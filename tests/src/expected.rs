@@ -61,6 +61,27 @@ pub fn line_trips(lines: &[u16], work_length: usize, line: u32) -> Reply {
     reply(answer())
 }
 
+/// Translating line tables to times by trip, into a slice of `length` words.
+pub fn times_by_trip(timetable: &[u16], lines: &[u16], work_length: usize, length: usize) -> Expected<u16> {
+    let answer = || {
+        ask(length >= LINE_WORDS, 8)?;
+        let timetable = lent_both(timetable, lines, work_length)?;
+        Ok((lines::lines(&timetable).len() as u32, lines::to_words_by_trip(&timetable)))
+    };
+    expected(answer())
+}
+
+/// Translating line tables with times by trip back, into a slice of `length` words.
+pub fn times_by_stop(timetable: &[u16], other: &[u16], work_length: usize, length: usize) -> Expected<u16> {
+    let answer = || {
+        ask(length >= LINE_WORDS, 8)?;
+        let timetable = lent_timetable(timetable, other.len(), work_length)?;
+        ask(other.starts_with(&lines::to_words_by_trip(&timetable)), 10)?;
+        Ok((lines::lines(&timetable).len() as u32, lines::to_words(&timetable)))
+    };
+    expected(answer())
+}
+
 /// A direct query, with an answer slice of `length` words.
 pub fn direct(timetable: &[u16], lines: &[u16], work_length: usize, query: Query, length: usize) -> Expected<u32> {
     let answer = || {

@@ -25,6 +25,14 @@ mod exported {
         pub fn dairyepoch_line_trips(
             lines: *const u16, lines_len: usize, work: *mut u32, work_len: usize, line: u32,
         ) -> u64;
+        pub fn dairyepoch_times_by_trip(
+            timetable: *const u16, timetable_len: usize, lines: *const u16, lines_len: usize,
+            work: *mut u32, work_len: usize, other: *mut u16, other_len: usize,
+        ) -> u64;
+        pub fn dairyepoch_times_by_stop(
+            timetable: *const u16, timetable_len: usize, other: *const u16, other_len: usize,
+            work: *mut u32, work_len: usize, lines: *mut u16, lines_len: usize,
+        ) -> u64;
         pub fn dairyepoch_direct(
             timetable: *const u16, timetable_len: usize, lines: *const u16, lines_len: usize,
             work: *mut u32, work_len: usize, from: u32, to: u32, minute: u32, answer: *mut u32, answer_len: usize,
@@ -161,6 +169,37 @@ fn line_trips_of(lines: Option<&[u16]>, work: Option<&mut [u32]>, line: u32) -> 
 /// The three calls that ask about line tables, with nothing lent at all: null pointers and lengths 0.
 pub fn ask_lines_of_nothing() -> [Reply; 3] {
     [check_lines_of(None, None, None), check_lines_alone_of(None, None), line_trips_of(None, None, 1)]
+}
+
+pub fn times_by_trip(timetable: &[u16], lines: &[u16], work: &mut [u32], other: &mut [u16]) -> Reply {
+    times_by_trip_of(Some(timetable), Some(lines), Some(work), Some(other))
+}
+
+fn times_by_trip_of(
+    timetable: Option<&[u16]>,
+    lines: Option<&[u16]>,
+    work: Option<&mut [u32]>,
+    other: Option<&mut [u16]>,
+) -> Reply {
+    call!(dairyepoch_times_by_trip, timetable, lines, work;; other)
+}
+
+pub fn times_by_stop(timetable: &[u16], other: &[u16], work: &mut [u32], lines: &mut [u16]) -> Reply {
+    times_by_stop_of(Some(timetable), Some(other), Some(work), Some(lines))
+}
+
+fn times_by_stop_of(
+    timetable: Option<&[u16]>,
+    other: Option<&[u16]>,
+    work: Option<&mut [u32]>,
+    lines: Option<&mut [u16]>,
+) -> Reply {
+    call!(dairyepoch_times_by_stop, timetable, other, work;; lines)
+}
+
+/// Both translations with nothing lent at all: null pointers and lengths 0.
+pub fn translate_nothing() -> [Reply; 2] {
+    [times_by_trip_of(None, None, None, None), times_by_stop_of(None, None, None, None)]
 }
 
 pub fn direct(timetable: &[u16], lines: &[u16], work: &mut [u32], query: Query, answer: &mut [u32]) -> Reply {

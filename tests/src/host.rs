@@ -136,6 +136,21 @@ impl Host {
         self.ask(&[lines], &("line", line), expected, |work| ffi::line_trips(lines, work, line))
     }
 
+    /// Has line tables translated to times by trip, and fails unless the reply and every word are the reference's.
+    /// Returns the reply.
+    pub fn times_by_trip(&mut self, timetable: &[u16], lines: &[u16]) -> Reply {
+        let expected = expected::times_by_trip(timetable, lines, self.works[0].length(), self.loans[0].length());
+        let call = |other: &mut [u16], work: &mut [u32]| ffi::times_by_trip(timetable, lines, work, other);
+        compare(&mut self.loans, &mut self.works, &[timetable, lines], &"to times by trip", expected, call)
+    }
+
+    /// As `times_by_trip`, of line tables with times by trip to times by stop.
+    pub fn times_by_stop(&mut self, timetable: &[u16], other: &[u16]) -> Reply {
+        let expected = expected::times_by_stop(timetable, other, self.works[0].length(), self.loans[0].length());
+        let call = |lines: &mut [u16], work: &mut [u32]| ffi::times_by_stop(timetable, other, work, lines);
+        compare(&mut self.loans, &mut self.works, &[timetable, other], &"to times by stop", expected, call)
+    }
+
     /// Makes a call that has no result slice.
     fn ask(
         &mut self,

@@ -53,9 +53,19 @@ pub fn to_words(timetable: &Timetable) -> Vec<u16> {
     words_of(timetable, &lines(timetable))
 }
 
+/// The same words with the times of each line by trip, then by stop.
+pub fn to_words_by_trip(timetable: &Timetable) -> Vec<u16> {
+    laid_out(timetable, &lines(timetable), times_by_trip)
+}
+
 /// The words of tables with these lines, each of trips of one length, whether or not they are the timetable's.
 pub fn words_of(timetable: &Timetable, lines: &[Vec<usize>]) -> Vec<u16> {
-    let pieces: Vec<Vec<u16>> = lines.iter().map(|line| line_words(timetable, line)).collect();
+    laid_out(timetable, lines, times_by_stop)
+}
+
+/// The words of tables with these lines, and the times of a line as they are asked for.
+fn laid_out(timetable: &Timetable, lines: &[Vec<usize>], times: fn(&[&[Stop]]) -> Vec<u16>) -> Vec<u16> {
+    let pieces: Vec<Vec<u16>> = lines.iter().map(|line| line_words(timetable, line, times)).collect();
     let lists: Vec<Vec<u16>> =
         (1..=timetable.stations.len()).map(|station| list_words(timetable, lines, word(station))).collect();
 
@@ -81,7 +91,7 @@ fn begins(first: usize, pieces: &[Vec<u16>]) -> Vec<u16> {
     begins
 }
 
-fn line_words(timetable: &Timetable, line: &[usize]) -> Vec<u16> {
+fn line_words(timetable: &Timetable, line: &[usize], times: fn(&[&[Stop]]) -> Vec<u16>) -> Vec<u16> {
     let trips: Vec<&[Stop]> = line.iter().map(|&trip| &timetable.trips[trip][..]).collect();
     let way = trips[0];
     let mut words = vec![word(way.len()), word(trips.len())];
@@ -92,11 +102,24 @@ fn line_words(timetable: &Timetable, line: &[usize]) -> Vec<u16> {
         words.extend(total_words(total));
         total += penalty(stop).map_or(0, u32::from);
     }
-    for position in 0..way.len() {
+    words.extend(times(&trips));
+    words
+}
+
+/// At each position the arrivals of all trips, then their departures.
+fn times_by_stop(trips: &[&[Stop]]) -> Vec<u16> {
+    let mut words = Vec::new();
+    for position in 0..trips[0].len() {
         words.extend(trips.iter().map(|trip| trip[position].arrive.unwrap_or(0)));
         words.extend(trips.iter().map(|trip| depart(&trip[position]).unwrap_or(0)));
     }
     words
+}
+
+/// Of each trip arrival and departure, stop by stop.
+fn times_by_trip(trips: &[&[Stop]]) -> Vec<u16> {
+    let times = |stop: &Stop| [stop.arrive.unwrap_or(0), depart(stop).unwrap_or(0)];
+    trips.iter().flat_map(|trip| trip.iter().flat_map(times)).collect()
 }
 
 /// The sum of the ride penalties before a position, in two words, the low one first.

@@ -13,13 +13,15 @@ use dairyepoch_tests::store::STORE_WORDS_MOST;
 use dairyepoch_tests::timetable::{Onward, Station, Stop, Timetable, CHANGE_PENALTY_LEAST, STATIONS_MOST};
 use dairyepoch_tests::words::TIMETABLE_WORDS;
 
-const CALLS: [&str; 9] = [
+const CALLS: [&str; 11] = [
     "READ",
     "CHECK_TIMETABLE",
     "BUILD_LINES",
     "CHECK_LINES",
     "CHECK_LINES_ALONE",
     "LINE_TRIPS",
+    "TIMES_BY_TRIP",
+    "TIMES_BY_STOP",
     "DIRECT",
     "MAKE_STORE",
     "QUERY",
@@ -37,6 +39,7 @@ fn touched_for(timetable: &Timetable) -> [usize; CALLS.len()] {
     let text = timetable.to_text();
     let mut words = vec![0; TIMETABLE_WORDS];
     let mut lines = vec![0; LINE_WORDS];
+    let mut other = vec![0; LINE_WORDS];
     let mut work = vec![0; WORK_WORDS];
     let mut store = vec![0; STORE_WORDS_MOST];
     let mut answer = vec![0; QUERY_WORDS];
@@ -48,6 +51,8 @@ fn touched_for(timetable: &Timetable) -> [usize; CALLS.len()] {
         touched(|| ffi::check_lines(&words, &lines, &mut work)),
         touched(|| ffi::check_lines_alone(&lines, &mut work)),
         touched(|| ffi::line_trips(&lines, &mut work, 1)),
+        touched(|| ffi::times_by_trip(&words, &lines, &mut work, &mut other)),
+        touched(|| ffi::times_by_stop(&words, &other, &mut work, &mut lines)),
         touched(|| ffi::direct(&words, &lines, &mut work, query, &mut answer)),
         touched(|| ffi::make_store(&words, &lines, &mut work, query.from, &mut store)),
         touched(|| {

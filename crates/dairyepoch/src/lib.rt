@@ -7,6 +7,7 @@ ghost use Rattle.reading.specs.Reading.{readReply, readWords};
 ghost use Rattle.lines_tables.specs.Building.{buildReply, buildWords};
 ghost use Rattle.lines_check.specs.Question10.{tablesNumber};
 ghost use Rattle.lines_alone.specs.Drawn.{aloneNumber};
+ghost use Rattle.lines_turned.specs.Turning.{byTripReply, byTripWords, byStopReply, byStopWords};
 ghost use Rattle.promises.specs.DirectQuery.{directReply, directWords};
 ghost use Rattle.promises.specs.StoreCall.{storeReply, storeAfter};
 ghost use Rattle.promises.specs.Query.{askReply, askWords};
@@ -95,6 +96,56 @@ pub extern "C" fn dairyepoch_check_lines(timetable: &[u16], lines: &[u16], work:
         0 ⌝ }
 {
     pack(lines_check::tables_number(timetable, lines, work), 0)
+}
+
+// Translates line tables to times by trip, then by stop.
+#[no_mangle]
+pub extern "C" fn dairyepoch_times_by_trip(
+    timetable: &[u16],
+    lines: &[u16],
+    work: &mut [u32],
+    other: &mut [u16],
+) -> u64
+    ensures reply { λ r. ⌜ r
+        ≡ packedCount
+        (byTripReply
+        (now (timetable .entry))
+        (now (lines .entry))
+        (length (now (work .entry)))
+        (length (now (other .entry)))) ⌝ }
+    ensures words { λ _. ⌜ now (other .exit)
+        ≡ byTripWords
+        (now (timetable .entry))
+        (now (lines .entry))
+        (length (now (work .entry)))
+        (now (other .entry)) ⌝ }
+{
+    pack_count(lines_turned::by_trip(timetable, lines, work, other))
+}
+
+// Translates line tables with times by trip back to times by stop, then by trip.
+#[no_mangle]
+pub extern "C" fn dairyepoch_times_by_stop(
+    timetable: &[u16],
+    other: &[u16],
+    work: &mut [u32],
+    lines: &mut [u16],
+) -> u64
+    ensures reply { λ r. ⌜ r
+        ≡ packedCount
+        (byStopReply
+        (now (timetable .entry))
+        (now (other .entry))
+        (length (now (work .entry)))
+        (length (now (lines .entry)))) ⌝ }
+    ensures words { λ _. ⌜ now (lines .exit)
+        ≡ byStopWords
+        (now (timetable .entry))
+        (now (other .entry))
+        (length (now (work .entry)))
+        (now (lines .entry)) ⌝ }
+{
+    pack_count(lines_turned::by_stop(timetable, other, work, lines))
 }
 
 // The direct rides from one station to another at a minute, row by row in the lent answer.

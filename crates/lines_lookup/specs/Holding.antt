@@ -58,7 +58,7 @@ module _ (t : List Trip) where
   call-place k s (suc n) (suc i) h =
       omega (arith, call-place (k + length (callPairs t s)) (suc s) n i (omega arith))
 
-  length-callPlaces : (k s n : ℕ) → length (callPlaces t k s n) ≡ n + 1
+  pub length-callPlaces : (k s n : ℕ) → length (callPlaces t k s n) ≡ n + 1
   unfolding callPlaces
   length-callPlaces k s zero = refl
   length-callPlaces k s (suc n) = omega (arith, length-callPlaces (k + length (callPairs t s)) (suc s) n)
@@ -105,7 +105,7 @@ module _ (v : List ℕ) (n : ℕ) (t : List Trip) (holds : Holds v n t) where
   before-firsts : Stands upToLines v 4
   before-firsts = left-stands upToLines firstWords v 4 before-pairs
 
-  line-place-told : (i : ℕ) → i < length (lines t) → linePlace v i ≡ firstLine + rowPlace (lineWords t) (lines t) i
+  pub line-place-told : (i : ℕ) → i < length (lines t) → linePlace v i ≡ firstLine + rowPlace (lineWords t) (lines t) i
   line-place-told i h =
       word-at placeWords v 4 (left-stands placeWords (allLineWords t (lines t)) v 4 before-firsts) i
       (omega (arith, length-linePlaces t firstLine (lines t)))
@@ -138,7 +138,7 @@ module _ (v : List ℕ) (n : ℕ) (t : List Trip) (holds : Holds v n t) where
   pairs-stand =
       subst (Stands (allCallPairs t 1 n) v) length-firsts (right-stands upToFirsts (allCallPairs t 1 n) v 4 parts-stand)
 
-  calls-place-told : (s : ℕ) → s ≤ n → callsPlace v s ≡ firstList + rowPlace (callPairs t) (range 1 n) s
+  pub calls-place-told : (s : ℕ) → s ≤ n → callsPlace v s ≡ firstList + rowPlace (callPairs t) (range 1 n) s
   unfolding callsPlace
   calls-place-told s h =
       ap (λ k. getD v (k + s) 0) (head-word 3 (omega arith))

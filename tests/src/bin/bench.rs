@@ -10,7 +10,8 @@ use std::time::{Duration, Instant};
 use dairyepoch_tests::connections;
 use dairyepoch_tests::direct::{self, Query, ROW_WORDS};
 use dairyepoch_tests::ffi::{
-    self, build_lines, check_lines, check_lines_alone, check_timetable, make_store, read, Reply, Tables,
+    self, build_lines, check_lines, check_lines_alone, check_timetable, make_store, read, times_by_stop, times_by_trip,
+    Reply, Tables,
 };
 use dairyepoch_tests::generate::{
     largest, long_lines, most_rows, one_way, overtaking, rural, with_trips, Diamonds, DIRECT_ROWS_MOST,
@@ -38,6 +39,10 @@ fn main() {
     asking("question 10 on one line", &long_lines());
     asking("question 10 on 256 lines", &overtaking());
     asking("question 10 on one trip of 2,044 stops", &dear);
+    translating("times by trip and by stop of one line", &long_lines());
+    translating("times by trip and by stop of 256 lines", &overtaking());
+    translating("times by trip and by stop of one trip of 2,044 stops", &dear);
+    translating("times by trip and by stop of a rural timetable", &rural(&mut Random::new(1), 8));
     querying("direct rides on one line of 256 trips", &long_lines(), Query { from: 60, to: 61, minute: 0 }, 1);
     querying("direct rides on 256 lines of one trip", &overtaking(), Query { from: 1, to: 64, minute: 0 }, 1);
     let query = Query { from: 1, to: 2, minute: 0 };
@@ -291,6 +296,33 @@ fn asking(what: &str, timetable: &Timetable) {
     ]);
     report(&format!("{what}, with timetable words"), with, reference_with);
     report(&format!("{what}, alone"), alone, reference_alone);
+}
+
+/// Times both translations against question 10 to the same tables.
+fn translating(what: &str, timetable: &Timetable) {
+    if !wanted(what) {
+        return;
+    }
+    let [table, lines] = lent(timetable);
+    let (mut other, mut back) = (vec![0; LINE_WORDS], vec![0; LINE_WORDS]);
+    let [mut work, mut work_there, mut work_back] = [0; 3].map(|_| vec![0; WORK_WORDS]);
+    let count = Reply::done(lines::lines(timetable).len());
+    assert_eq!(times_by_trip(&table, &lines, &mut work, &mut other), count, "to times by trip");
+    assert_eq!(times_by_stop(&table, &other, &mut work, &mut back), count, "to times by stop");
+    let turned = other.clone();
+    let [asked, there, and_back] = medians([
+        &mut || {
+            black_box(check_lines(black_box(&table), black_box(&lines), &mut work));
+        },
+        &mut || {
+            black_box(times_by_trip(black_box(&table), black_box(&lines), &mut work_there, &mut other));
+        },
+        &mut || {
+            black_box(times_by_stop(black_box(&table), black_box(&turned), &mut work_back, &mut back));
+        },
+    ]);
+    report(&format!("{what}, to times by trip, against question 10"), there, asked);
+    report(&format!("{what}, to times by stop, against question 10"), and_back, asked);
 }
 
 /// Times a direct query beside a scan of all trips that asks nothing, and tells how much of it the questions take.

@@ -1,0 +1,4 @@
+pub mod WriteLaws
+pub mod SameLaws
+pub mod TurnLaws
+pub mod AskedLaws

@@ -1,0 +1,9 @@
+pub mod ByTrip
+pub mod Turning
+pub mod Turned
+pub mod Laid
+pub mod Found
+pub mod Held
+pub mod Claims
+pub mod SameLookups
+pub mod Proved
