@@ -7,6 +7,11 @@
  *   dairyepoch_build_lines   the line tables of these words           once for each timetable
  *   dairyepoch_make_store    the store of a source                    once for each source
  *   dairyepoch_query         the rows for a rider, from that store    whenever one asks
+ *   dairyepoch_cancel_trip   a trip taken out of words and tables     whenever one does not run
+ *   dairyepoch_add_trip      an extra trip put into them              whenever one runs besides
+ *
+ * After a change queries are answered from the stores that there are, for the running trips: make the stores again when
+ * there is time, and every connection is found again. examples/changes.c shows a day with changes.
  *
  * The other calls can be left out: dairyepoch_direct answers with single rides and needs no store; the calls that check
  * judge words that a host was handed, as every later call does by itself; dairyepoch_times_by_trip and
@@ -32,11 +37,15 @@
 extern "C" {
 #endif
 
-/* What a timetable has at most: bytes of text, stations, trips, and stops on all trips; and the minutes of two days. */
+/*
+ * What a timetable has at most: bytes of text, stations, trips that run, and stops on all of them; and the minutes of
+ * two days. In a text trips are numbered 1, 2, 3..; an extra trip may have any free number up to the highest.
+ */
 #define DAIRYEPOCH_TEXT_BYTES_MOST 65536
 #define DAIRYEPOCH_STATIONS_MOST 64
 #define DAIRYEPOCH_TRIPS_MOST 256
 #define DAIRYEPOCH_STOPS_MOST 2048
+#define DAIRYEPOCH_TRIP_NUMBER_MOST 9999
 #define DAIRYEPOCH_MINUTES 2880
 
 /* The least length of a timetable slice, in 16-bit words. */
@@ -73,6 +82,8 @@ extern "C" {
 #define DAIRYEPOCH_DIRECT_STACK 15872
 #define DAIRYEPOCH_MAKE_STORE_STACK 69632
 #define DAIRYEPOCH_QUERY_STACK 69632
+#define DAIRYEPOCH_CANCEL_TRIP_STACK 24576
+#define DAIRYEPOCH_ADD_TRIP_STACK 57344
 
 /*
  * The time of a call, in milliseconds, as `cargo run --release --bin bench` in tests/ measured it on one core of a
@@ -83,9 +94,11 @@ extern "C" {
  *   dairyepoch_build_lines         0.01 for one line, 0.35 for 256; dairyepoch_check_lines likewise
  *   dairyepoch_check_lines_alone   0.07 for one line, 0.46 for 256; dairyepoch_line_trips likewise
  *   dairyepoch_times_by_trip       up to 1.13 times dairyepoch_check_lines; dairyepoch_times_by_stop likewise
- *   dairyepoch_direct              0.02 for one line, 0.34 for 256, 1.1 for an answer of 507 rows
+ *   dairyepoch_direct              0.02 for one line, 0.34 for 256, 0.05 for an answer of 507 rows
  *   dairyepoch_make_store          3 on a rural timetable, 9 on random trips, 37 at worst
- *   dairyepoch_query               0.1 on a rural timetable, 0.4 on random trips; up to 900 for a hundred rows or more
+ *   dairyepoch_query               0.1 on a rural timetable, 0.4 on random trips; up to 90 for a hundred rows or more
+ *   dairyepoch_cancel_trip         0.03 for one line, 0.07 on a rural timetable, 0.65 for 256 lines
+ *   dairyepoch_add_trip            likewise, and 0.05 for each thousand lines of its text
  */
 
 /* The numbers of a reply. dairyepoch_words has words for each. */
@@ -105,7 +118,9 @@ enum dairyepoch_number {
     DAIRYEPOCH_NO_MINUTE = 12,
     DAIRYEPOCH_STORE_ILL_MADE = 13,
     DAIRYEPOCH_NO_CONNECTION = 14,
-    DAIRYEPOCH_RESULT_TOO_LONG = 15
+    DAIRYEPOCH_RESULT_TOO_LONG = 15,
+    DAIRYEPOCH_TRIP_NOT_RUNNING = 18,
+    DAIRYEPOCH_TRIP_RUNNING = 19
 };
 
 /* What a reply of this number says, in words. docs/FORMAT.md tells what to do about each. */
@@ -127,13 +142,13 @@ static inline const char *dairyepoch_words(uint32_t number)
     case DAIRYEPOCH_STOP_UNFIT:
         return "the stop's station is not listed or is that of the stop before, or its times do not follow each other";
     case DAIRYEPOCH_ENDS_EARLY:
-        return "the text ends without a station, or amid a trip";
+        return "the text ends without a station or extra trip, or amid a trip";
     case DAIRYEPOCH_SLICE_TOO_SHORT:
         return "a lent slice is too short";
     case DAIRYEPOCH_NO_TIMETABLE:
-        return "the timetable words come from no accepted text";
+        return "the timetable words come from no accepted text, changed or not";
     case DAIRYEPOCH_OTHER_LINES:
-        return "the line tables are not those of the timetable words, or of no accepted timetable";
+        return "the line tables are not those of the timetable words, or of no timetable";
     case DAIRYEPOCH_NOT_LISTED:
         return "a station or the line is not there, or from and to are one";
     case DAIRYEPOCH_NO_MINUTE:
@@ -144,6 +159,10 @@ static inline const char *dairyepoch_words(uint32_t number)
         return "there is no feasible connection, or none whose pattern the store holds";
     case DAIRYEPOCH_RESULT_TOO_LONG:
         return "the result slice is too short, or a store would have more than 16,383 nodes or arcs";
+    case DAIRYEPOCH_TRIP_NOT_RUNNING:
+        return "the trip to cancel is not running";
+    case DAIRYEPOCH_TRIP_RUNNING:
+        return "the trip to add is running already";
     default:
         return "no number of a reply";
     }
@@ -169,8 +188,9 @@ static inline const char *dairyepoch_words(uint32_t number)
 uint64_t dairyepoch_read(const uint8_t *text, size_t text_len, uint16_t *timetable, size_t timetable_len);
 
 /*
- * Could these timetable words come from an accepted text? The words past the table are not judged. Whatever
- * dairyepoch_read wrote, with number 0, has its yes.
+ * Could these timetable words come from an accepted text, by cancelled and extra trips too? So trips may have any
+ * numbers that rise, from 1 to 9,999, and no bytes are counted. The words past the table are not judged. Whatever
+ * dairyepoch_read, dairyepoch_cancel_trip or dairyepoch_add_trip left, with number 0, has its yes.
  *
  * Reply: 0 for yes, with count 0; or a refusal: 8, then 9.
  */
@@ -187,8 +207,8 @@ uint64_t dairyepoch_build_lines(const uint16_t *timetable, size_t timetable_len,
 
 /*
  * Are the line tables those of the timetable words? The words past either table are not judged. What
- * dairyepoch_build_lines wrote for these timetable words, with number 0, has its yes. Slices as for building; nothing
- * is written but working space.
+ * dairyepoch_build_lines wrote for these timetable words, or a change left beside them, with number 0, has its yes.
+ * Slices as for building; nothing is written but working space.
  *
  * Reply: 0 for yes, with count 0; or a refusal: 8, then 9, then 10.
  */
@@ -196,9 +216,9 @@ uint64_t dairyepoch_check_lines(const uint16_t *timetable, size_t timetable_len,
                                 size_t lines_len, uint32_t *work, size_t work_len);
 
 /*
- * Could these line tables come from an accepted timetable? Yes exactly if some accepted timetable has them, whatever
- * its change minutes and change penalties, of which line tables tell nothing. The words past the tables are not
- * judged. Nothing is written but working space.
+ * Could these line tables come from an accepted timetable, by cancelled and extra trips too? Yes exactly if some such
+ * timetable has them, whatever its change minutes and change penalties, of which line tables tell nothing. The words
+ * past the tables are not judged. Nothing is written but working space.
  *
  * Reply: 0 for yes, with count 0; or a refusal: 8, then 10.
  */
@@ -294,6 +314,30 @@ uint64_t dairyepoch_make_store(const uint16_t *timetable, size_t timetable_len, 
 uint64_t dairyepoch_query(const uint16_t *timetable, size_t timetable_len, const uint16_t *lines, size_t lines_len,
                           const uint16_t *store, size_t store_len, uint32_t *work, size_t work_len, uint32_t from,
                           uint32_t to, uint32_t minute, uint32_t *answer, size_t answer_len);
+
+/*
+ * Cancels a trip: afterwards both tables are those built afresh from the trips that still run. All others keep their
+ * numbers. Words past the new tables keep their values, so that some of the old ones may stand there; after a refusal
+ * all words of both slices do. A timetable of no trips is one. Slices as for building; after the call the working space
+ * may hold anything.
+ *
+ * Reply: 0 and the number of lines that the tables have now; or a refusal: 8, then 9, then 10, then 18.
+ */
+uint64_t dairyepoch_cancel_trip(uint16_t *timetable, size_t timetable_len, uint16_t *lines, size_t lines_len,
+                                uint32_t *work, size_t work_len, uint32_t trip);
+
+/*
+ * Adds an extra trip, by its T lines (docs/FORMAT.md): afterwards both tables are those built afresh from the trips
+ * that run now, this one among them, in rising number. The number is free: any from 1 to 9,999 that no running trip
+ * has, also that of a cancelled one. The text has the lines of this trip and no others; it may have any number of bytes
+ * and needs no byte 0 at its end. The limits count what runs: 256 trips, 2,048 stops. Words past the new tables keep
+ * their values, and after a refusal all words of both slices do. Slices as for building.
+ *
+ * Reply: 0 and the number of lines that the tables have now; or a refusal: 8, then 9, then 10, then 19, then 2 to 6 for
+ * the first line of the extra trip's text that has one, with that line, then 7.
+ */
+uint64_t dairyepoch_add_trip(uint16_t *timetable, size_t timetable_len, uint16_t *lines, size_t lines_len,
+                             uint32_t *work, size_t work_len, uint32_t trip, const uint8_t *text, size_t text_len);
 
 #ifdef __cplusplus
 }

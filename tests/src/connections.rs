@@ -12,7 +12,7 @@ pub struct Connection {
     pub depart: u32,
     pub arrive: u32,
     pub penalty: u32,
-    /// Trip, boarding stop, alighting stop of each, counted from 1.
+    /// Trip, boarding stop, alighting stop of each. Stops count from 1, a trip has a number of its own.
     pub rides: Vec<[u32; 3]>,
     /// The stations of the changes, in order.
     pub changes: Vec<u16>,
@@ -51,13 +51,13 @@ struct Ride {
 
 fn rides(timetable: &Timetable) -> Vec<Ride> {
     let mut rides = Vec::new();
-    for (trip, stops) in (1..).zip(&timetable.trips) {
+    for (&trip, stops) in &timetable.trips {
         for board in 0..stops.len() - 1 {
             for alight in board + 1..stops.len() {
                 let onward = |stop: &Stop| stop.onward.expect("a stop ridden from is not its trip's last");
                 let penalty = stops[board..alight].iter().map(|stop| u32::from(onward(stop).penalty)).sum();
                 rides.push(Ride {
-                    numbers: [trip, board as u32 + 1, alight as u32 + 1],
+                    numbers: [trip.into(), board as u32 + 1, alight as u32 + 1],
                     from: stops[board].station,
                     to: stops[alight].station,
                     depart: onward(&stops[board]).depart.into(),
@@ -73,7 +73,7 @@ fn rides(timetable: &Timetable) -> Vec<Ride> {
 /// Every connection from a station to any, unless they are more than `most`, or the timetable has more rides than that.
 /// Those that are feasible at a minute are those that depart then or later.
 pub fn list(timetable: &Timetable, from: u32, most: usize) -> Option<Vec<Connection>> {
-    if timetable.trips.iter().map(|stops| stops.len() * (stops.len() - 1) / 2).sum::<usize>() > most {
+    if timetable.trips.values().map(|stops| stops.len() * (stops.len() - 1) / 2).sum::<usize>() > most {
         return None;
     }
     let rides = rides(timetable);

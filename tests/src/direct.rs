@@ -49,7 +49,7 @@ impl Ride {
 /// All single rides that are feasible for the query: "it boards at A at t or later, alights at B".
 pub fn rides(timetable: &Timetable, query: Query) -> Vec<Ride> {
     let mut rides = Vec::new();
-    for (trip, stops) in (1..).zip(&timetable.trips) {
+    for (&trip, stops) in &timetable.trips {
         let meets = |place: &usize, station: u32| u32::from(stops[*place].station) == station;
         for board in (0..stops.len()).filter(|place| meets(place, query.from)) {
             for alight in (board + 1..stops.len()).filter(|place| meets(place, query.to)) {
@@ -57,7 +57,7 @@ pub fn rides(timetable: &Timetable, query: Query) -> Vec<Ride> {
                 if depart >= query.minute {
                     let duration = arrive - query.minute;
                     let [board, alight] = [board, alight].map(|place| place as u32 + 1);
-                    rides.push(Ride { duration, penalty, depart, trip, board, alight });
+                    rides.push(Ride { duration, penalty, depart, trip: trip.into(), board, alight });
                 }
             }
         }
@@ -105,7 +105,8 @@ pub fn scan(timetable: &[u16], query: Query, rows: &mut Vec<Ride>) {
     rows.clear();
     let [stations, trips, stops] = [0, 1, 2].map(|at| usize::from(timetable[at]));
     let (stops, firsts) = timetable[3 + 2 * stations..].split_at(4 * stops);
-    for (trip, ends) in (1..).zip(firsts[..=trips].windows(2)) {
+    let (firsts, numbers) = firsts.split_at(trips + 1);
+    for (&trip, ends) in numbers.iter().zip(firsts.windows(2)) {
         let stops = &stops[4 * usize::from(ends[0])..4 * usize::from(ends[1])];
         let mut boarded = None;
         for (number, stop) in (1..).zip(stops.chunks_exact(4)) {
@@ -118,7 +119,7 @@ pub fn scan(timetable: &[u16], query: Query, rows: &mut Vec<Ride>) {
             if station == query.to {
                 let duration = arrive - query.minute;
                 let (board, depart, penalty) = (*board, *boarded_at, *ridden);
-                add(rows, Ride { duration, penalty, depart, trip, board, alight: number });
+                add(rows, Ride { duration, penalty, depart, trip: trip.into(), board, alight: number });
             }
             *ridden += penalty;
         }
@@ -181,7 +182,7 @@ mod tests {
     fn compare(timetable: &Timetable, random: &mut Random) -> usize {
         let words = words::to_words(timetable);
         let stations = timetable.stations.len() as u32;
-        let departs = timetable.trips.iter().flatten().filter_map(|stop| stop.onward);
+        let departs = timetable.trips.values().flatten().filter_map(|stop| stop.onward);
         let mut minutes: Vec<u32> = departs.map(|onward| onward.depart.into()).collect();
         minutes.push(0);
         let mut most = 0;

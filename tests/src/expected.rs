@@ -6,12 +6,12 @@ use crate::direct::{self, Query, Ride};
 use crate::ffi::{Reply, Tables};
 use crate::following::Guide;
 use crate::lines::{self, LINE_WORDS, WORK_WORDS};
-use crate::reference;
+use crate::reference::{self, Refusal};
 use crate::search::{self, Network};
 use crate::store::{self, Store};
 use crate::tables;
 use crate::timetable::{Stop, Timetable, LAST_MINUTE};
-use crate::words::{text_of, to_words, TIMETABLE_WORDS};
+use crate::words::{timetable_of, to_words, TIMETABLE_WORDS};
 
 /// The reply, and the words of the result: none on a refusal.
 pub type Expected<W> = (Reply, Vec<W>);
@@ -25,11 +25,8 @@ pub fn read(text: &[u8], length: usize) -> Expected<u16> {
         return refusal(8, 0);
     }
     match reference::read(text) {
-        Ok(timetable) => {
-            let lines = timetable.stations.len() + timetable.trips.iter().map(Vec::len).sum::<usize>();
-            (Reply { number: 0, beside: lines as u32 }, to_words(&timetable))
-        }
-        Err(reference::Refusal { number, line }) => refusal(number, line),
+        Ok(timetable) => (Reply::done(timetable.stations.len() + timetable.stops()), to_words(&timetable)),
+        Err(Refusal { number, line }) => refusal(number, line),
     }
 }
 
@@ -106,7 +103,7 @@ fn asked(timetable: &Timetable, query: Query) -> Result<(), u32> {
 /// By listing all rides, where they are not too many to be held against each other.
 fn direct_rows(timetable: &Timetable, words: &[u16], query: Query) -> Vec<Ride> {
     let meets = |trip: &[Stop], station: u32| trip.iter().filter(|stop| u32::from(stop.station) == station).count();
-    let rides_most: usize = timetable.trips.iter().map(|trip| meets(trip, query.from) * meets(trip, query.to)).sum();
+    let rides_most: usize = timetable.trips.values().map(|trip| meets(trip, query.from) * meets(trip, query.to)).sum();
     if rides_most <= 2_000 {
         return direct::rows(timetable, query);
     }
@@ -171,11 +168,47 @@ pub fn query_rows(timetable: &Timetable, store: &Store, query: Query) -> Vec<Con
     }
 }
 
+/// What a change must reply, and the timetable that runs after it: none on a refusal.
+pub type Change = (Reply, Option<Timetable>);
+
+/// Cancelling a trip.
+pub fn cancel_trip(timetable: &[u16], lines: &[u16], work_length: usize, trip: u32) -> Change {
+    change(|| {
+        let mut timetable = lent_both(timetable, lines, work_length)?;
+        u16::try_from(trip).ok().and_then(|trip| timetable.trips.remove(&trip)).ok_or(18u32)?;
+        Ok(timetable)
+    })
+}
+
+/// Adding a trip by its lines.
+pub fn add_trip(timetable: &[u16], lines: &[u16], work_length: usize, trip: u32, text: &[u8]) -> Change {
+    change(|| {
+        let timetable = lent_both(timetable, lines, work_length)?;
+        let runs = u16::try_from(trip).is_ok_and(|trip| timetable.trips.contains_key(&trip));
+        ask(!runs, 19)?;
+        reference::add(timetable, trip, text)
+    })
+}
+
+/// "Cancelling and adding return the tables' number of lines."
+fn change(changed: impl FnOnce() -> Result<Timetable, Refusal>) -> Change {
+    match changed() {
+        Ok(timetable) => (Reply::done(lines::lines(&timetable).len()), Some(timetable)),
+        Err(Refusal { number, line }) => (Reply { number, beside: line }, None),
+    }
+}
+
+/// A refusal that has no line.
+impl From<u32> for Refusal {
+    fn from(number: u32) -> Refusal {
+        Refusal { number, line: 0 }
+    }
+}
+
 /// Questions 8 and 9 to a timetable that is lent with line tables of this length.
 fn lent_timetable(timetable: &[u16], lines_length: usize, work_length: usize) -> Result<Timetable, u32> {
     ask(timetable.len() >= TIMETABLE_WORDS && lines_length >= LINE_WORDS && work_length >= WORK_WORDS, 8)?;
-    let text = text_of(timetable).ok_or(9u32)?;
-    Ok(reference::read(&text).expect("the words have this text"))
+    timetable_of(timetable).ok_or(9)
 }
 
 /// Questions 8 to 10 to a timetable and line tables that are lent together.

@@ -46,6 +46,14 @@ mod exported {
             store: *const u16, store_len: usize, work: *mut u32, work_len: usize, from: u32, to: u32, minute: u32,
             answer: *mut u32, answer_len: usize,
         ) -> u64;
+        pub fn dairyepoch_cancel_trip(
+            timetable: *mut u16, timetable_len: usize, lines: *mut u16, lines_len: usize,
+            work: *mut u32, work_len: usize, trip: u32,
+        ) -> u64;
+        pub fn dairyepoch_add_trip(
+            timetable: *mut u16, timetable_len: usize, lines: *mut u16, lines_len: usize,
+            work: *mut u32, work_len: usize, trip: u32, text: *const u8, text_len: usize,
+        ) -> u64;
     }
 }
 
@@ -99,14 +107,14 @@ impl<W> Parts for Option<&mut [W]> {
     }
 }
 
-/// Makes an exported call: with slices, then with numbers, then with the slice of its result where that stands last.
+/// Makes an exported call: with slices, then with numbers, then with one more slice where there is one.
 macro_rules! call {
-    ($call:ident, $($slice:ident),+; $($number:ident),*; $($result:ident)?) => {{
+    ($call:ident, $($slice:ident),+; $($number:ident),*; $($last:ident)?) => {{
         $(let $slice = $slice.parts();)+
-        $(let $result = $result.parts();)?
+        $(let $last = $last.parts();)?
         // SAFETY: each pointer and length are those of a slice, and one that is written overlaps no other; or there is
         // no slice, so that nothing is read or written of it.
-        let bits = unsafe { exported::$call($($slice.0, $slice.1,)+ $($number,)* $($result.0, $result.1)?) };
+        let bits = unsafe { exported::$call($($slice.0, $slice.1,)+ $($number,)* $($last.0, $last.1)?) };
         Reply::from_bits(bits)
     }};
 }
@@ -280,4 +288,41 @@ fn query_of(
     answer: Option<&mut [u32]>,
 ) -> Reply {
     call!(dairyepoch_query, timetable, lines, store, work; from, to, minute; answer)
+}
+
+pub fn cancel_trip(timetable: &mut [u16], lines: &mut [u16], work: &mut [u32], trip: u32) -> Reply {
+    cancel_trip_of(Some(timetable), Some(lines), Some(work), trip)
+}
+
+fn cancel_trip_of(
+    timetable: Option<&mut [u16]>,
+    lines: Option<&mut [u16]>,
+    work: Option<&mut [u32]>,
+    trip: u32,
+) -> Reply {
+    call!(dairyepoch_cancel_trip, timetable, lines, work; trip;)
+}
+
+pub fn add_trip(timetable: &mut [u16], lines: &mut [u16], work: &mut [u32], trip: u32, text: &[u8]) -> Reply {
+    add_trip_of(Some(timetable), Some(lines), Some(work), trip, Some(text))
+}
+
+/// Adding with no text at all: a null pointer and length 0.
+pub fn add_trip_of_no_text(timetable: &mut [u16], lines: &mut [u16], work: &mut [u32], trip: u32) -> Reply {
+    add_trip_of(Some(timetable), Some(lines), Some(work), trip, None)
+}
+
+/// Cancelling and adding with nothing lent at all: null pointers and lengths 0.
+pub fn change_nothing(trip: u32) -> [Reply; 2] {
+    [cancel_trip_of(None, None, None, trip), add_trip_of(None, None, None, trip, None)]
+}
+
+fn add_trip_of(
+    timetable: Option<&mut [u16]>,
+    lines: Option<&mut [u16]>,
+    work: Option<&mut [u32]>,
+    trip: u32,
+    text: Option<&[u8]>,
+) -> Reply {
+    call!(dairyepoch_add_trip, timetable, lines, work; trip; text)
 }

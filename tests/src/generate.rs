@@ -5,7 +5,7 @@ use std::ops::RangeInclusive;
 use crate::random::Random;
 use crate::timetable::{
     Onward, Station, Stop, Timetable, CHANGE_MINUTES_MOST, CHANGE_PENALTY_LEAST, CHANGE_PENALTY_MOST, LAST_MINUTE,
-    RIDE_PENALTY_MOST, STATIONS_MOST, STOPS_MOST, TRIPS_MOST,
+    RIDE_PENALTY_MOST, STATIONS_MOST, STOPS_MOST, TRIPS_MOST, TRIP_NUMBER_MOST,
 };
 
 /// How large a timetable is to be. The count of stops in all is kept in any case.
@@ -57,15 +57,13 @@ pub fn long_lines() -> Timetable {
         arrive: (place > 0).then_some(1_000 + 200 * place),
         onward: (place < 7).then_some(Onward { depart: 1_100 + 200 * place, penalty: RIDE_PENALTY_MOST }),
     });
-    Timetable { stations, trips: vec![trip.collect(); TRIPS_MOST] }
+    Timetable::new(stations, vec![trip.collect(); TRIPS_MOST])
 }
 
 /// A timetable with trips of the given numbers of stops, which are at least 2.
 pub fn with_trips(random: &mut Random, stations: usize, lengths: &[usize]) -> Timetable {
-    Timetable {
-        stations: (0..stations).map(|_| station(random)).collect(),
-        trips: lengths.iter().map(|&stops| trip(random, stations, stops)).collect(),
-    }
+    let values = (0..stations).map(|_| station(random)).collect();
+    Timetable::new(values, lengths.iter().map(|&stops| trip(random, stations, stops)))
 }
 
 /// As `largest`, with 8 stops to each trip and all on one way, each overtaking those that left before it: 256 lines.
@@ -80,7 +78,7 @@ pub fn overtaking() -> Timetable {
         (0..8).map(stop).collect()
     };
     let stations = vec![Station { change_minutes: 0, change_penalty: CHANGE_PENALTY_LEAST }; STATIONS_MOST];
-    Timetable { stations, trips: (0..TRIPS_MOST as u16).map(trip).collect() }
+    Timetable::new(stations, (0..TRIPS_MOST as u16).map(trip))
 }
 
 /// The most rows that a direct query can have.
@@ -124,7 +122,7 @@ pub const TELLING_PLACES: [usize; 16] =
 fn minute_by_minute(stations: usize, way: &[(usize, u16)]) -> Timetable {
     let rides: Vec<(u16, u16)> = (1..way.len() as u16).map(|minute| (minute, minute + 1)).collect();
     let stations = vec![Station { change_minutes: 0, change_penalty: CHANGE_PENALTY_LEAST }; stations];
-    Timetable { stations, trips: vec![trip_on(way, &rides)] }
+    Timetable::new(stations, [trip_on(way, &rides)])
 }
 
 /// A timetable of few ways, alike or almost so, with trips that run a little before or behind one another.
@@ -150,7 +148,7 @@ pub fn with_shared_ways(random: &mut Random, size: &Size) -> Timetable {
             days[chosen] = moments;
         }
     }
-    Timetable { stations: (0..stations).map(|_| station(random)).collect(), trips }
+    Timetable::new((0..stations).map(|_| station(random)).collect(), trips)
 }
 
 /// A timetable whose trips all run within a few minutes, by a few ways of small penalties: many rides cost the same.
@@ -167,7 +165,7 @@ pub fn crowded(random: &mut Random, size: &Size) -> Timetable {
         moments.sort_unstable();
         trips.push(trip_on(way, &rides_at(&moments)));
     }
-    Timetable { stations: (0..stations).map(|_| station(random)).collect(), trips }
+    Timetable::new((0..stations).map(|_| station(random)).collect(), trips)
 }
 
 /// A timetable in which changing often pays: its trips run within a few minutes, by ways of their own and small
@@ -186,7 +184,7 @@ pub fn changing(random: &mut Random, size: &Size) -> Timetable {
     }
     let quick =
         |_| Station { change_minutes: random.pick(&[0, 0, 0, 1, 2]), change_penalty: random.pick(&[1, 1, 2, 3]) };
-    Timetable { stations: (0..stations).map(quick).collect(), trips }
+    Timetable::new((0..stations).map(quick).collect(), trips)
 }
 
 /// 64 stations and 16 routes of 8 stops between four towns and the villages, each with so many trips out and back in a
@@ -223,7 +221,7 @@ pub fn rural(random: &mut Random, rounds: usize) -> Timetable {
     }
     let mut station =
         |_| Station { change_minutes: random.within(2..=6) as u16, change_penalty: random.within(5..=20) as u16 };
-    Timetable { stations: (0..STATIONS_MOST).map(&mut station).collect(), trips }
+    Timetable::new((0..STATIONS_MOST).map(&mut station).collect(), trips)
 }
 
 /// A chain of diamonds from station 1: from each junction two ways lead to the next, with a change in between, and both
@@ -268,7 +266,7 @@ impl Diamonds {
             hop(if link == 0 { 1 } else { last + link }, last + link + 1, link, link + 1);
         }
         let stations = vec![Station { change_minutes: 0, change_penalty: 1 }; usize::from(last + self.chain)];
-        Timetable { stations, trips }
+        Timetable::new(stations, trips)
     }
 }
 
@@ -308,8 +306,18 @@ pub fn every_timetable<'a>(
             chosen.push(trips[choice % trips.len()].clone());
             choice /= trips.len();
         }
-        Timetable { stations: stations.to_vec(), trips: chosen }
+        Timetable::new(stations.to_vec(), chosen)
     })
+}
+
+/// The same trips under other numbers, in another order: with few gaps, with many, or with none.
+pub fn with_gaps(random: &mut Random, timetable: &Timetable) -> Timetable {
+    let count = timetable.trips.len();
+    let most = random.pick(&[count, count + 1, count + 3, 2 * count + 1, TRIP_NUMBER_MOST.into()]);
+    let mut free: Vec<u16> = (1..=most as u16).collect();
+    let mut number = || free.swap_remove(random.below(free.len()));
+    let trips = timetable.trips.values().map(|stops| (number(), stops.clone())).collect();
+    Timetable { stations: timetable.stations.clone(), trips }
 }
 
 /// Station and ride penalty of each stop; the last penalty is none of a ride's.
@@ -452,7 +460,8 @@ fn span(random: &mut Random, spare: u16) -> (u16, u16) {
 #[cfg(test)]
 mod tests {
     use super::*;
-    use crate::reference::read;
+    use crate::reference::{led_to, read};
+    use crate::timetable::trip_text;
 
     #[test]
     fn generated_timetables_read_back_from_their_texts() {
@@ -477,7 +486,7 @@ mod tests {
             assert_eq!(read(&timetable.to_text()), Ok(timetable));
         }
         for timetable in [rural(&mut random, 8), changing(&mut random, &BUSY)] {
-            assert_eq!((timetable.trips.len(), timetable.trips.concat().len()), (TRIPS_MOST, STOPS_MOST));
+            assert_eq!((timetable.trips.len(), timetable.stops()), (TRIPS_MOST, STOPS_MOST));
             assert_eq!(read(&timetable.to_text()), Ok(timetable));
         }
         for (count, late) in [(1, false), (12, true), (20, true)] {
@@ -488,9 +497,30 @@ mod tests {
     }
 
     #[test]
+    fn trips_keep_their_stops_under_other_numbers() {
+        let mut random = Random::new(4);
+        let (mut gaps, mut highest) = (0, 0);
+        for _ in 0..500 {
+            let timetable = timetable(&mut random, &MIDDLING);
+            let other = with_gaps(&mut random, &timetable);
+            assert_eq!(led_to(&other).as_ref(), Some(&other));
+            let stops = |timetable: &Timetable| {
+                let mut stops: Vec<String> = timetable.trips.values().map(|stops| trip_text(0, stops)).collect();
+                stops.sort_unstable();
+                stops
+            };
+            assert_eq!(stops(&other), stops(&timetable));
+            let last = other.trips.last_key_value().map_or(0, |(&number, _)| number);
+            gaps += usize::from(usize::from(last) > other.trips.len());
+            highest = highest.max(last);
+        }
+        assert!(gaps > 200 && highest > 9_000, "{gaps}, {highest}");
+    }
+
+    #[test]
     fn the_most_rows_read_back_from_their_text() {
         let timetable = most_rows();
-        assert_eq!(timetable.trips[0].len(), 2_044);
+        assert_eq!(timetable.trips[&1].len(), 2_044);
         assert_eq!(read(&timetable.to_text()), Ok(timetable));
     }
 
@@ -498,9 +528,9 @@ mod tests {
     fn one_way_reads_back_from_its_text() {
         for places in [&[0, 2_047][..], &[], &[0, 1, 2, 655, 656, 2_046]] {
             let timetable = one_way(STOPS_MOST, RIDE_PENALTY_MOST, places);
-            assert_eq!(timetable.trips[0].len(), STOPS_MOST);
+            assert_eq!(timetable.trips[&1].len(), STOPS_MOST);
             for (station, &place) in (1..).zip(places) {
-                let met = timetable.trips[0].iter().position(|stop| stop.station == station);
+                let met = timetable.trips[&1].iter().position(|stop| stop.station == station);
                 assert_eq!(met, Some(place));
             }
             assert_eq!(read(&timetable.to_text()), Ok(timetable));
@@ -514,7 +544,7 @@ mod tests {
             assert_eq!(read(&timetable.to_text()).as_ref(), Ok(&timetable));
             assert_eq!(timetable.stations.len(), STATIONS_MOST);
             assert_eq!(timetable.trips.len(), TRIPS_MOST);
-            assert_eq!(timetable.trips.concat().len(), STOPS_MOST);
+            assert_eq!(timetable.stops(), STOPS_MOST);
         }
     }
 }

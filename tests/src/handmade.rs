@@ -17,8 +17,8 @@ pub fn text(stations: &[(u16, u16)], trips: &[&[Numbers]]) -> String {
             onward: (place + 1 < stops.len()).then_some(Onward { depart, penalty }),
         }
     };
-    let trips = trips.iter().map(|stops| (0..stops.len()).map(|place| stop(stops, place)).collect()).collect();
-    Timetable { stations: stations.iter().map(station).collect(), trips }.to_string()
+    let trips = trips.iter().map(|stops| (0..stops.len()).map(|place| stop(stops, place)).collect());
+    Timetable::new(stations.iter().map(station).collect(), trips).to_string()
 }
 
 /// A trip of two stops.

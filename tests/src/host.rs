@@ -4,12 +4,13 @@ use std::fmt::{Debug, Display};
 use std::ops::Not;
 
 use crate::direct::{Query, ROW_WORDS};
-use crate::expected::{self, Expected};
+use crate::expected::{self, Change, Expected};
 use crate::ffi::{self, Reply, Tables};
-use crate::lines::WORK_WORDS;
+use crate::lines::{self, LINE_WORDS, WORK_WORDS};
 use crate::random::Random;
 use crate::store::STORE_WORDS_MOST;
-use crate::words::{text_of, TIMETABLE_WORDS};
+use crate::timetable::{trip_text, Timetable};
+use crate::words::{timetable_of, to_words, TIMETABLE_WORDS};
 
 /// Words on either side of a lent slice, which no call may touch.
 const FENCE: usize = 32;
@@ -74,33 +75,47 @@ impl Host {
         assert_eq!(self.read(text), Reply { number, beside }, "for the text\n{}", excerpt(text));
     }
 
-    /// Asks question 9 of `words`, and fails unless the reply is the reference's and a yes has its text. Returns the
+    /// Asks question 9 of `words`, and fails unless the reply is the reference's and a yes is led to. Returns the
     /// reply's number.
     pub fn check_timetable(&mut self, words: &[u16]) -> u32 {
         let before = words.to_vec();
         let reply = ffi::check_timetable(words);
         assert!(words == before, "the words changed while they were checked");
-        let text = text_of(words);
-        let number = match &text {
+        let timetable = timetable_of(words);
+        let number = match &timetable {
             _ if words.len() < TIMETABLE_WORDS => 8,
             Some(_) => 0,
             None => 9,
         };
         let expected = Reply { number, beside: 0 };
         assert_eq!(reply, expected, "the reply (left) and the reference's, for the words\n{}", first_words(words));
-        if let (0, Some(text)) = (number, text) {
-            self.read_into(&text, words);
+        if let (0, Some(timetable)) = (number, timetable) {
+            self.lead_to(&timetable, words);
         }
         number
     }
 
-    /// Fails unless reading accepts the text and writes the table that `words` begins with.
-    fn read_into(&mut self, text: &[u8], words: &[u16]) {
-        assert_eq!(self.read(text).number, 0);
+    /// Fails unless the table that `words` begins with is written by reading or, where there are gaps, by reading the
+    /// stations alone and adding the trips.
+    fn lead_to(&mut self, timetable: &Timetable, words: &[u16]) {
         let mut written = vec![0; TIMETABLE_WORDS];
-        ffi::read(text, &mut written);
-        let length = table_length(words);
-        assert_eq!(written[..length], words[..length], "the words of\n{}", excerpt(text));
+        if timetable.trips.keys().copied().eq(1..=timetable.trips.len() as u16) {
+            let text = timetable.to_text();
+            assert_eq!(self.read(&text).number, 0);
+            ffi::read(&text, &mut written);
+        } else {
+            let (mut lines, mut work) = (vec![0; LINE_WORDS], vec![0; WORK_WORDS]);
+            let stations = Timetable { stations: timetable.stations.clone(), ..Timetable::default() };
+            assert_eq!(ffi::read(&stations.to_text(), &mut written).number, 0);
+            assert_eq!(ffi::build_lines(&written, &mut lines, &mut work).number, 0);
+            for (&trip, stops) in &timetable.trips {
+                let text = trip_text(trip.into(), stops);
+                let reply = ffi::add_trip(&mut written, &mut lines, &mut work, trip.into(), text.as_bytes());
+                assert_eq!(reply.number, 0, "adding\n{text}");
+            }
+        }
+        let length = to_words(timetable).len();
+        assert_eq!(written[..length], words[..length], "the words of\n{timetable}");
     }
 
     /// Has the line tables of a timetable's words built, and fails unless the reply and every word are the
@@ -221,6 +236,61 @@ impl Host {
         let lent = [tables.timetable, tables.lines, tables.store];
         compare(&mut self.answers, &mut self.works, &lent, &(query, length), expected, call)
     }
+
+    /// Has a trip cancelled, and fails unless the reply and every word of both slices are the reference's. Returns the
+    /// reply; the words are as the call leaves them.
+    pub fn cancel_trip(&mut self, timetable: &mut [u16], lines: &mut [u16], trip: u32) -> Reply {
+        let expected = expected::cancel_trip(timetable, lines, self.works[0].length(), trip);
+        self.change([timetable, lines], &("cancelling", trip), expected, |timetable, lines, work| {
+            ffi::cancel_trip(timetable, lines, work, trip)
+        })
+    }
+
+    /// As `cancel_trip`, adding a trip by its lines.
+    pub fn add_trip(&mut self, timetable: &mut [u16], lines: &mut [u16], trip: u32, text: &[u8]) -> Reply {
+        let expected = expected::add_trip(timetable, lines, self.works[0].length(), trip, text);
+        let asked = format!("adding {trip} by\n{}", excerpt(text));
+        self.change([timetable, lines], &asked, expected, |timetable, lines, work| {
+            ffi::add_trip(timetable, lines, work, trip, text)
+        })
+    }
+
+    /// Makes a call that changes both tables, the second time over other words past them.
+    fn change(
+        &mut self,
+        tables: [&mut [u16]; 2],
+        asked: &dyn Debug,
+        (expected, after): Change,
+        call: impl Fn(&mut [u16], &mut [u16], &mut [u32]) -> Reply,
+    ) -> Reply {
+        let words = |timetable: Timetable| [to_words(&timetable), lines::to_words(&timetable)];
+        // 8 to 10: there may be no tables, and so no words past them
+        let judged = if (8..=10).contains(&expected.number) { None } else { timetable_of(tables[0]).map(words) };
+        let ends = judged.map_or([usize::MAX; 2], |words| words.map(|table| table.len()));
+        let results = after.map(words).unwrap_or_default();
+        let of = || {
+            let [timetable, lines] = [0, 1].map(|at| first_words(tables[at]));
+            format!("{asked:?} for the words\n{timetable}\n{lines}")
+        };
+        for (work, over) in self.works.iter_mut().zip([0, u16::MAX]) {
+            let mut loans = [0, 1].map(|at| Loan::over(tables[at], ends[at], over));
+            let [timetable, lines] = &mut loans;
+            let reply = call(timetable.slice(), lines.slice(), work.slice());
+            assert_eq!(reply, expected, "the reply (left) and the reference's, {}", of());
+            for (loan, (what, result)) in loans.iter_mut().zip(["timetable", "line table"].into_iter().zip(&results)) {
+                if let Err(difference) = loan.settle(result) {
+                    panic!("{what} {difference} after {reply:?}, {}", of());
+                }
+            }
+            if let Err(difference) = work.settle_work() {
+                panic!("beside the working space {difference} after {reply:?}, {}", of());
+            }
+        }
+        for (table, result) in tables.into_iter().zip(&results) {
+            table[..result.len()].copy_from_slice(result);
+        }
+        expected
+    }
 }
 
 /// Makes a call with a result slice and working space, and fails unless the reply and every word are as expected and
@@ -292,9 +362,23 @@ impl<W: Copy + Display + Not<Output = W> + PartialEq> Loan<W> {
     }
 }
 
-/// The table in a slice of the least length, with any words behind it.
+impl Loan<u16> {
+    /// A loan of these words, of which those past a table's end have their bits flipped where `over` has bits. So has
+    /// what lies around it.
+    fn over(words: &[u16], end: usize, over: u16) -> Loan<u16> {
+        let fence = [over ^ 0x5a3c; FENCE];
+        let (table, past) = words.split_at(end.min(words.len()));
+        let past: Vec<u16> = past.iter().map(|word| word ^ over).collect();
+        let entry = [&fence, table, &past, &fence].concat();
+        Loan { words: entry.clone(), entry }
+    }
+}
+
+/// The table in a slice of the least length, with any words behind it. As many are drawn for every table, so that what
+/// is drawn after them does not hang on the layout.
 pub fn lent(mut table: Vec<u16>, random: &mut Random) -> Vec<u16> {
-    table.resize_with(table.len().max(TIMETABLE_WORDS), || random.word());
+    let any: Vec<u16> = (0..TIMETABLE_WORDS).map(|_| random.word()).collect();
+    table.extend(any.iter().skip(table.len()));
     table
 }
 
@@ -303,12 +387,6 @@ pub fn longer(words: &[u16], length: usize, random: &mut Random) -> Vec<u16> {
     let mut longer = words.to_vec();
     longer.resize_with(length, || random.word());
     longer
-}
-
-/// How many words a table has, by its first three.
-fn table_length(words: &[u16]) -> usize {
-    let [stations, trips, stops] = [0, 1, 2].map(|at| usize::from(words[at]));
-    3 + 2 * stations + 4 * stops + trips + 1
 }
 
 /// As much of a text as a failure should show.

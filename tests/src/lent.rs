@@ -98,6 +98,14 @@ impl Lent {
         host.make_store(&self.timetable, &self.lines, source)
     }
 
+    pub fn cancel(&mut self, host: &mut Host, trip: u32) -> Reply {
+        host.cancel_trip(&mut self.timetable, &mut self.lines, trip)
+    }
+
+    pub fn add(&mut self, host: &mut Host, trip: u32, text: impl AsRef<[u8]>) -> Reply {
+        host.add_trip(&mut self.timetable, &mut self.lines, trip, text.as_ref())
+    }
+
     /// Makes a call with long enough slices or, if there are lengths that are too short, with one slice of each of
     /// these at a time: the timetable's words, the line tables or the working space.
     pub fn lend(&self, shorts: &[usize], seed: u64, call: impl Fn(&mut Host, &[u16], &[u16])) {
@@ -152,10 +160,10 @@ pub fn replies_to_tampered(
     count: usize,
     timetable: impl Fn(&mut Random) -> Timetable,
     call: impl Fn(&mut Host, &Lent, &mut Random) -> Reply,
-) -> [usize; 16] {
+) -> [usize; 20] {
     let mut host = Host::new(seed);
     let mut random = Random::new(seed + 1);
-    let mut tally = [0; 16];
+    let mut tally = [0; 20];
     for _ in 0..count {
         let timetable = timetable(&mut random);
         let tampered = Lent::tampered(&timetable, &mut random);

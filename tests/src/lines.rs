@@ -10,16 +10,16 @@ pub const WORK_WORDS: usize = 16_384;
 /// No line tables have more words than these, by docs/LAYOUT.md.
 pub const LINE_WORDS_MOST: usize = 15_429;
 
-/// For each line the places of its trips among all trips, counted from 0, as they joined it.
-pub fn lines(timetable: &Timetable) -> Vec<Vec<usize>> {
+/// For each line the numbers of its trips, as they joined it.
+pub fn lines(timetable: &Timetable) -> Vec<Vec<u16>> {
     let trips = &timetable.trips;
-    let mut order: Vec<usize> = (0..trips.len()).collect();
-    order.sort_by_key(|&trip| (trips[trip][0].onward.map(|onward| onward.depart), trip));
-    let mut lines: Vec<Vec<usize>> = Vec::new();
+    let mut order: Vec<u16> = trips.keys().copied().collect();
+    order.sort_by_key(|trip| (depart(&trips[trip][0]), *trip));
+    let mut lines: Vec<Vec<u16>> = Vec::new();
     for trip in order {
-        let takes = |line: &&mut Vec<usize>| {
-            let last = &trips[line[line.len() - 1]];
-            same_way(last, &trips[trip]) && nowhere_later(last, &trips[trip])
+        let takes = |line: &&mut Vec<u16>| {
+            let last = &trips[&line[line.len() - 1]];
+            same_way(last, &trips[&trip]) && nowhere_later(last, &trips[&trip])
         };
         match lines.iter_mut().find(takes) {
             Some(line) => line.push(trip),
@@ -59,12 +59,12 @@ pub fn to_words_by_trip(timetable: &Timetable) -> Vec<u16> {
 }
 
 /// The words of tables with these lines, each of trips of one length, whether or not they are the timetable's.
-pub fn words_of(timetable: &Timetable, lines: &[Vec<usize>]) -> Vec<u16> {
+pub fn words_of(timetable: &Timetable, lines: &[Vec<u16>]) -> Vec<u16> {
     laid_out(timetable, lines, times_by_stop)
 }
 
 /// The words of tables with these lines, and the times of a line as they are asked for.
-fn laid_out(timetable: &Timetable, lines: &[Vec<usize>], times: fn(&[&[Stop]]) -> Vec<u16>) -> Vec<u16> {
+fn laid_out(timetable: &Timetable, lines: &[Vec<u16>], times: fn(&[&[Stop]]) -> Vec<u16>) -> Vec<u16> {
     let pieces: Vec<Vec<u16>> = lines.iter().map(|line| line_words(timetable, line, times)).collect();
     let lists: Vec<Vec<u16>> =
         (1..=timetable.stations.len()).map(|station| list_words(timetable, lines, word(station))).collect();
@@ -91,11 +91,11 @@ fn begins(first: usize, pieces: &[Vec<u16>]) -> Vec<u16> {
     begins
 }
 
-fn line_words(timetable: &Timetable, line: &[usize], times: fn(&[&[Stop]]) -> Vec<u16>) -> Vec<u16> {
-    let trips: Vec<&[Stop]> = line.iter().map(|&trip| &timetable.trips[trip][..]).collect();
+fn line_words(timetable: &Timetable, line: &[u16], times: fn(&[&[Stop]]) -> Vec<u16>) -> Vec<u16> {
+    let trips: Vec<&[Stop]> = line.iter().map(|trip| &timetable.trips[trip][..]).collect();
     let way = trips[0];
     let mut words = vec![word(way.len()), word(trips.len())];
-    words.extend(line.iter().map(|trip| word(trip + 1)));
+    words.extend(line);
     let mut total = 0;
     for stop in way {
         words.push(stop.station);
@@ -128,10 +128,10 @@ pub fn total_words(total: u32) -> [u16; 2] {
 }
 
 /// Line and position wherever a line meets the station.
-fn list_words(timetable: &Timetable, lines: &[Vec<usize>], station: u16) -> Vec<u16> {
+fn list_words(timetable: &Timetable, lines: &[Vec<u16>], station: u16) -> Vec<u16> {
     let mut words = Vec::new();
     for (number, line) in (1..).zip(lines) {
-        for (position, stop) in (1..).zip(&timetable.trips[line[0]]) {
+        for (position, stop) in (1..).zip(&timetable.trips[&line[0]]) {
             if stop.station == station {
                 words.extend([number, position]);
             }

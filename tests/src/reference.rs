@@ -1,8 +1,9 @@
-//! A reader of the timetable text, written from documents 01 and 02: line by line, each question in its order.
+//! A reader of timetable texts and of extra trips, written from documents 01 and 02: line by line, each question in its
+//! order.
 
 use crate::timetable::{
-    Onward, Station, Stop, Timetable, CHANGE_MINUTES_MOST, CHANGE_PENALTY_LEAST, CHANGE_PENALTY_MOST, LAST_MINUTE,
-    RIDE_PENALTY_MOST, STATIONS_MOST, STOPS_MOST, TEXT_BYTES_MOST, TRIPS_MOST,
+    trip_text, Onward, Station, Stop, Timetable, CHANGE_MINUTES_MOST, CHANGE_PENALTY_LEAST, CHANGE_PENALTY_MOST,
+    LAST_MINUTE, RIDE_PENALTY_MOST, STATIONS_MOST, STOPS_MOST, TEXT_BYTES_MOST, TRIPS_MOST,
 };
 
 #[derive(Clone, Copy, Debug, PartialEq, Eq)]
@@ -16,17 +17,23 @@ pub fn read(text: &[u8]) -> Result<Timetable, Refusal> {
     if text.len() > TEXT_BYTES_MOST {
         return Err(Refusal { number: 1, line: 0 });
     }
-    let mut reader = Reader::default();
-    let mut lines = 0;
-    for line in text.split_inclusive(|&byte| byte == b'\n') {
-        lines += 1;
-        reader.take(line).map_err(|number| Refusal { number, line: lines })?;
-    }
-    if reader.may_end() {
-        Ok(reader.timetable)
-    } else {
-        Err(Refusal { number: 7, line: lines + 1 })
-    }
+    Reader::default().read(text)
+}
+
+/// Adds a trip to those that run, of a number that none of them has: "An extra trip comes as its number and its T
+/// lines, read .. under 2 to 7". How long the text is, nobody asks.
+pub fn add(timetable: Timetable, trip: u32, text: &[u8]) -> Result<Timetable, Refusal> {
+    Reader { stops: timetable.stops(), timetable, extra: Some(trip), begun: None }.read(text)
+}
+
+/// The timetable, if reading, cancelling and adding can lead to it: by a text of its stations alone, to which each of
+/// its trips is added.
+pub fn led_to(timetable: &Timetable) -> Option<Timetable> {
+    let stations = Timetable { stations: timetable.stations.clone(), ..Timetable::default() };
+    let add_next = |timetable, (&trip, stops): (&u16, &Vec<Stop>)| {
+        add(timetable, trip.into(), trip_text(trip.into(), stops).as_bytes()).ok()
+    };
+    timetable.trips.iter().try_fold(read(&stations.to_text()).ok()?, add_next)
 }
 
 /// The timetable of a text that is accepted.
@@ -43,14 +50,32 @@ enum Line {
 #[derive(Default)]
 struct Reader {
     timetable: Timetable,
+    /// All stops, those that ran before an extra trip among them.
     stops: usize,
+    /// The number of the extra trip, where it is one that is read.
+    extra: Option<u32>,
+    /// The trip that the last stop line belongs to.
+    begun: Option<u16>,
 }
 
 impl Reader {
+    fn read(mut self, text: &[u8]) -> Result<Timetable, Refusal> {
+        let mut lines = 0;
+        for line in text.split_inclusive(|&byte| byte == b'\n') {
+            lines += 1;
+            self.take(line).map_err(|number| Refusal { number, line: lines })?;
+        }
+        if self.may_end() {
+            Ok(self.timetable)
+        } else {
+            Err(Refusal { number: 7, line: lines + 1 })
+        }
+    }
+
     /// Adds a line, or tells the number of its refusal.
     fn take(&mut self, bytes: &[u8]) -> Result<(), u32> {
         let line = shaped(bytes).ok_or(2u32)?;
-        if !in_range(&line) {
+        if !in_range(&line) || (self.extra.is_some() && is_of_trip_0(&line)) {
             return Err(3);
         }
         if !self.in_place(&line) {
@@ -68,28 +93,39 @@ impl Reader {
 
     /// The stop that the next line's stop follows on its trip; none where a new trip must begin.
     fn stop_before(&self) -> Option<(Stop, Onward)> {
-        let last = *self.timetable.trips.last()?.last()?;
+        let last = *self.timetable.trips[&self.begun?].last()?;
         last.onward.map(|onward| (last, onward))
     }
 
-    fn in_place(&self, line: &Line) -> bool {
-        let Timetable { stations, trips } = &self.timetable;
-        match *line {
-            Line::Station { number, .. } => trips.is_empty() && usize::from(number) == stations.len() + 1,
-            Line::Stop { trip, number, .. } => {
-                let due = match trips.last() {
-                    Some(stops) if self.stop_before().is_some() => (trips.len(), stops.len() + 1),
-                    _ => (trips.len() + 1, 1),
-                };
-                (usize::from(trip), usize::from(number)) == due
-            }
+    /// The trip and the stop that the next stop line must be of; none where no line may follow.
+    fn due(&self) -> Option<(u32, usize)> {
+        let trips = &self.timetable.trips;
+        match (self.begun, self.extra) {
+            (Some(trip), _) if self.stop_before().is_some() => Some((trip.into(), trips[&trip].len() + 1)),
+            (Some(_), Some(_)) => None,
+            (None, Some(extra)) => Some((extra, 1)),
+            (_, None) => Some((trips.len() as u32 + 1, 1)),
         }
     }
 
+    fn in_place(&self, line: &Line) -> bool {
+        match *line {
+            Line::Station { number, .. } => {
+                let stations_go_on = self.extra.is_none() && self.begun.is_none();
+                stations_go_on && usize::from(number) == self.timetable.stations.len() + 1
+            }
+            Line::Stop { trip, number, .. } => self.due() == Some((trip.into(), number.into())),
+        }
+    }
+
+    /// "The limits count running trips and stops."
     fn within_counts(&self, line: &Line) -> bool {
         match *line {
             Line::Station { number, .. } => usize::from(number) <= STATIONS_MOST,
-            Line::Stop { trip, .. } => usize::from(trip) <= TRIPS_MOST && self.stops < STOPS_MOST,
+            Line::Stop { number, .. } => {
+                let trips = self.timetable.trips.len() + usize::from(number == 1);
+                trips <= TRIPS_MOST && self.stops < STOPS_MOST
+            }
         }
     }
 
@@ -104,18 +140,17 @@ impl Reader {
     fn add(&mut self, line: Line) {
         match line {
             Line::Station { station, .. } => self.timetable.stations.push(station),
-            Line::Stop { number, stop, .. } => {
-                if number == 1 {
-                    self.timetable.trips.push(Vec::new());
-                }
-                self.timetable.trips.last_mut().expect("a stop in place has a trip").push(stop);
+            Line::Stop { trip, stop, .. } => {
+                self.timetable.trips.entry(trip).or_default().push(stop);
+                self.begun = Some(trip);
                 self.stops += 1;
             }
         }
     }
 
     fn may_end(&self) -> bool {
-        !self.timetable.stations.is_empty() && self.stop_before().is_none()
+        let something = if self.extra.is_some() { self.begun.is_some() } else { !self.timetable.stations.is_empty() };
+        something && self.stop_before().is_none()
     }
 }
 
@@ -180,6 +215,11 @@ fn minute(field: &[u8]) -> Option<u16> {
     let pair = |tens: u8, ones: u8| 10 * u16::from(tens - b'0') + u16::from(ones - b'0');
     let (hours, minutes) = (pair(a, b), pair(c, d));
     Some(if minutes > 59 { u16::MAX } else { 60 * hours + minutes })
+}
+
+/// "(0 in a line gives 3)", of an extra trip's lines.
+fn is_of_trip_0(line: &Line) -> bool {
+    matches!(line, Line::Stop { trip: 0, .. })
 }
 
 fn in_range(line: &Line) -> bool {

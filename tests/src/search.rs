@@ -45,11 +45,11 @@ pub struct Network {
 impl Network {
     pub fn new(timetable: &Timetable) -> Network {
         let mut hops = Vec::new();
-        for (trip, stops) in (1..).zip(&timetable.trips) {
+        for (&trip, stops) in &timetable.trips {
             for (stop, ends) in (1..).zip(stops.windows(2)) {
                 let onward = ends[0].onward.expect("only a trip's last stop has no ride from it");
                 hops.push(Hop {
-                    trip,
+                    trip: trip.into(),
                     stop,
                     from: ends[0].station.into(),
                     to: ends[1].station.into(),

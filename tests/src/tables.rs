@@ -1,5 +1,6 @@
 //! Line tables that are lent to a call: question 10, and where in them the trips of one line stand.
 
+use std::collections::BTreeMap;
 use std::ops::Range;
 
 use crate::lines;
@@ -12,13 +13,13 @@ pub fn are_of(timetable: &Timetable, words: &[u16]) -> bool {
     words.starts_with(&lines::to_words(timetable))
 }
 
-/// An accepted timetable with the line tables that `words` begins with, if there is one. Line tables tell nothing of
-/// changes: its stations have change minutes 0 and change penalty 1.
+/// A timetable with the line tables that `words` begins with, if reading, cancelling and adding can lead to one. Line
+/// tables tell nothing of changes: its stations have change minutes 0 and change penalty 1.
 ///
-/// Nothing is judged here but whether the words can be taken apart: the text of the timetable that they would have is
-/// written out, and the reader decides whether it is a text at all and leads back to the same words.
+/// Nothing is judged here but whether the words can be taken apart: the lines of the timetable that they would have are
+/// written out, and the reader decides whether these lead back to the same words.
 pub fn timetable_of(words: &[u16]) -> Option<Timetable> {
-    let timetable = reference::read(&from_words(words)?.to_text()).ok()?;
+    let timetable = reference::led_to(&from_words(words)?)?;
     are_of(&timetable, words).then_some(timetable)
 }
 
@@ -27,14 +28,12 @@ fn from_words(words: &[u16]) -> Option<Timetable> {
     if stations > STATIONS_MOST || lines > trips || trips > TRIPS_MOST {
         return None; // too many to be written out
     }
-    let mut stops_of_trips = vec![None; trips];
+    let mut stops_of_trips = BTreeMap::new();
     for &begin in words.get(4..4 + lines)? {
-        for (number, stops) in line_from_words(words.get(usize::from(begin)..)?)? {
-            *stops_of_trips.get_mut(usize::from(number).checked_sub(1)?)? = Some(stops);
-        }
+        stops_of_trips.extend(line_from_words(words.get(usize::from(begin)..)?)?);
     }
     let station = Station { change_minutes: 0, change_penalty: 1 };
-    Some(Timetable { stations: vec![station; stations], trips: stops_of_trips.into_iter().collect::<Option<_>>()? })
+    Some(Timetable { stations: vec![station; stations], trips: stops_of_trips })
 }
 
 /// The trips of the line whose words these begin with, each with its number.
@@ -70,8 +69,8 @@ pub fn piece(timetable: &Timetable, line: u32) -> Option<Range<usize>> {
     let lines = lines::lines(timetable);
     let place = usize::try_from(line).ok()?.checked_sub(1)?;
     let trips = lines.get(place)?.len();
-    let words = |line: &Vec<usize>| {
-        let (positions, trips) = (timetable.trips[line[0]].len(), line.len());
+    let words = |line: &Vec<u16>| {
+        let (positions, trips) = (timetable.trips[&line[0]].len(), line.len());
         2 + trips + 3 * positions + 2 * positions * trips
     };
     let start = 4 + lines.len() + lines[..place].iter().map(words).sum::<usize>() + 2;
@@ -82,7 +81,7 @@ pub fn piece(timetable: &Timetable, line: u32) -> Option<Range<usize>> {
 mod tests {
     use super::*;
     use crate::examples::M;
-    use crate::generate::{crowded, timetable, with_shared_ways, CROWDED, LARGE, MIDDLING, SMALL};
+    use crate::generate::{crowded, timetable, with_gaps, with_shared_ways, CROWDED, LARGE, MIDDLING, SMALL};
     use crate::random::Random;
 
     #[test]
@@ -90,11 +89,12 @@ mod tests {
         let mut random = Random::new(1);
         for (size, count) in [(CROWDED, 500), (SMALL, 500), (MIDDLING, 200), (LARGE, 20)] {
             for _ in 0..count {
-                let mut timetable = match random.below(3) {
+                let gapless = match random.below(3) {
                     0 => timetable(&mut random, &size),
                     1 => with_shared_ways(&mut random, &size),
                     _ => crowded(&mut random, &CROWDED),
                 };
+                let mut timetable = with_gaps(&mut random, &gapless);
                 let mut words = lines::to_words(&timetable);
                 let length = words.len();
                 words.push(random.word());

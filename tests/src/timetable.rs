@@ -1,11 +1,14 @@
 //! A timetable as plain data, its limits, and its text.
 
+use std::collections::BTreeMap;
 use std::fmt::{self, Display};
 
 pub const STATIONS_MOST: usize = 64;
 pub const TRIPS_MOST: usize = 256;
 pub const STOPS_MOST: usize = 2_048;
 pub const TEXT_BYTES_MOST: usize = 65_536;
+/// "Trip numbers may have gaps and go to 9,999."
+pub const TRIP_NUMBER_MOST: u16 = 9_999;
 
 pub const CHANGE_MINUTES_MOST: u16 = 240;
 pub const CHANGE_PENALTY_LEAST: u16 = 1;
@@ -17,8 +20,8 @@ pub const RIDE_PENALTY_MOST: u16 = 100;
 pub struct Timetable {
     /// Station 1 is the first.
     pub stations: Vec<Station>,
-    /// Trip 1 is the first, and stop 1 the first of each trip.
-    pub trips: Vec<Vec<Stop>>,
+    /// The trips that run, by their numbers. Stop 1 is the first of each.
+    pub trips: BTreeMap<u16, Vec<Stop>>,
 }
 
 #[derive(Clone, Copy, Debug, PartialEq, Eq)]
@@ -44,7 +47,18 @@ pub struct Onward {
 }
 
 impl Timetable {
-    /// The timetable's text. It is the only one: a number and a time have one form, and the lines have one order.
+    /// A timetable of trips 1, 2, 3.., as a text has it.
+    pub fn new(stations: Vec<Station>, trips: impl IntoIterator<Item = Vec<Stop>>) -> Timetable {
+        Timetable { stations, trips: (1..).zip(trips).collect() }
+    }
+
+    /// How many stops its trips have in all.
+    pub fn stops(&self) -> usize {
+        self.trips.values().map(Vec::len).sum()
+    }
+
+    /// The timetable's text, where its trips are 1, 2, 3.. It is the only one: a number and a time have one form, and
+    /// the lines have one order.
     pub fn to_text(&self) -> Vec<u8> {
         self.to_string().into_bytes()
     }
@@ -55,16 +69,19 @@ impl Display for Timetable {
         for (station, values) in (1..).zip(&self.stations) {
             writeln!(out, "S,{station},{},{}", values.change_minutes, values.change_penalty)?;
         }
-        for (trip, stops) in (1..).zip(&self.trips) {
-            for (number, stop) in (1..).zip(stops) {
-                let arrive = stop.arrive.map(clock).unwrap_or_default();
-                let depart = stop.onward.map(|onward| clock(onward.depart)).unwrap_or_default();
-                let penalty = stop.onward.map(|onward| onward.penalty.to_string()).unwrap_or_default();
-                writeln!(out, "T,{trip},{number},{},{arrive},{depart},{penalty}", stop.station)?;
-            }
-        }
-        Ok(())
+        self.trips.iter().try_for_each(|(&trip, stops)| out.write_str(&trip_text(trip.into(), stops)))
     }
+}
+
+/// The T lines of a trip of this number.
+pub fn trip_text(trip: u32, stops: &[Stop]) -> String {
+    let line = |(number, stop): (usize, &Stop)| {
+        let arrive = stop.arrive.map(clock).unwrap_or_default();
+        let depart = stop.onward.map(|onward| clock(onward.depart)).unwrap_or_default();
+        let penalty = stop.onward.map(|onward| onward.penalty.to_string()).unwrap_or_default();
+        format!("T,{trip},{number},{},{arrive},{depart},{penalty}\n", stop.station)
+    };
+    (1..).zip(stops).map(line).collect()
 }
 
 /// A minute as a text has it: "`hh:mm`, 00:00 to 47:59, two digits each side".

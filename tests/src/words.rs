@@ -1,5 +1,7 @@
 //! The timetable in words, as docs/LAYOUT.md lays it out, and question 9.
 
+use std::collections::BTreeMap;
+
 use crate::reference;
 use crate::timetable::{Onward, Station, Stop, Timetable};
 
@@ -7,21 +9,21 @@ use crate::timetable::{Onward, Station, Stop, Timetable};
 pub const TIMETABLE_WORDS: usize = 16_384;
 
 pub fn to_words(timetable: &Timetable) -> Vec<u16> {
-    let stops = timetable.trips.iter().map(Vec::len).sum();
-    let mut words = vec![word(timetable.stations.len()), word(timetable.trips.len()), word(stops)];
+    let mut words = [timetable.stations.len(), timetable.trips.len(), timetable.stops()].map(word).to_vec();
     for station in &timetable.stations {
         words.extend([station.change_minutes, station.change_penalty]);
     }
-    for stop in timetable.trips.iter().flatten() {
+    for stop in timetable.trips.values().flatten() {
         let (depart, penalty) = stop.onward.map_or((0, 0), |onward| (onward.depart, onward.penalty));
         words.extend([stop.station, stop.arrive.unwrap_or(0), depart, penalty]);
     }
     let mut first = 0;
-    for trip in &timetable.trips {
+    for trip in timetable.trips.values() {
         words.push(word(first));
         first += trip.len();
     }
     words.push(word(first));
+    words.extend(timetable.trips.keys());
     words
 }
 
@@ -29,14 +31,13 @@ pub(crate) fn word(number: usize) -> u16 {
     u16::try_from(number).expect("a count that fits a word")
 }
 
-/// The text that leads to a table at the start of `words`, if there is one.
+/// The timetable of a table at the start of `words`, if reading, cancelling and adding can lead to it.
 ///
-/// Nothing is judged here but whether the words can be taken apart: the text that they would have is written out, and
-/// the reader decides whether it is a text at all and leads back to the same words.
-pub fn text_of(words: &[u16]) -> Option<Vec<u8>> {
-    let text = from_words(words)?.to_text();
-    let timetable = reference::read(&text).ok()?;
-    words.starts_with(&to_words(&timetable)).then_some(text)
+/// Nothing is judged here but whether the words can be taken apart: the lines that they would have are written out, and
+/// the reader decides whether these lead back to the same words.
+pub fn timetable_of(words: &[u16]) -> Option<Timetable> {
+    let timetable = reference::led_to(&from_words(words)?)?;
+    words.starts_with(&to_words(&timetable)).then_some(timetable)
 }
 
 fn from_words(words: &[u16]) -> Option<Timetable> {
@@ -44,11 +45,11 @@ fn from_words(words: &[u16]) -> Option<Timetable> {
     let stations = take(&mut rest, 2 * usize::from(stations))?;
     let stops: Vec<&[u16]> = take(&mut rest, 4 * usize::from(stops))?.chunks(4).collect();
     let firsts = take(&mut rest, usize::from(trips) + 1)?;
+    let numbers = take(&mut rest, usize::from(trips))?;
     let trip = |ends: &[u16]| stops.get(usize::from(ends[0])..usize::from(ends[1])).map(trip_from_words);
-    Some(Timetable {
-        stations: stations.chunks(2).map(station_from_words).collect(),
-        trips: firsts.windows(2).map(trip).collect::<Option<_>>()?,
-    })
+    let trips: Option<BTreeMap<u16, Vec<Stop>>> =
+        numbers.iter().zip(firsts.windows(2)).map(|(&number, ends)| Some((number, trip(ends)?))).collect();
+    Some(Timetable { stations: stations.chunks(2).map(station_from_words).collect(), trips: trips? })
 }
 
 pub(crate) fn take<'a>(words: &mut &'a [u16], count: usize) -> Option<&'a [u16]> {
@@ -68,4 +69,49 @@ fn trip_from_words(stops: &[&[u16]]) -> Vec<Stop> {
         onward: (place + 1 < stops.len()).then_some(Onward { depart: words[2], penalty: words[3] }),
     };
     stops.iter().enumerate().map(stop).collect()
+}
+
+#[cfg(test)]
+mod tests {
+    use super::*;
+    use crate::generate::{timetable, with_gaps, with_trips, LARGE, MIDDLING, SMALL};
+    use crate::random::Random;
+
+    #[test]
+    fn words_lead_back_to_their_timetables() {
+        let mut random = Random::new(1);
+        for (size, count) in [(SMALL, 500), (MIDDLING, 200), (LARGE, 20)] {
+            for _ in 0..count {
+                let gapless = timetable(&mut random, &size);
+                let timetable = with_gaps(&mut random, &gapless);
+                let mut words = to_words(&timetable);
+                let length = words.len();
+                words.push(random.word());
+                assert_eq!(timetable_of(&words), Some(timetable));
+                assert_eq!(timetable_of(&words[..length - 1]), None);
+            }
+        }
+    }
+
+    #[test]
+    fn numbers_rise_from_1_to_9999() {
+        let mut random = Random::new(2);
+        let trips = with_trips(&mut random, 2, &[2, 2]);
+        let words = to_words(&trips);
+        let last = words.len() - 1;
+        for (numbers, yes) in [
+            ([1, 2], true),
+            ([1, 9_999], true),
+            ([9_998, 9_999], true),
+            ([0, 1], false),
+            ([2, 2], false),
+            ([2, 1], false),
+            ([9_999, 10_000], false),
+            ([1, 65_535], false),
+        ] {
+            let mut words = words.clone();
+            words[last - 1..].copy_from_slice(&numbers);
+            assert_eq!(timetable_of(&words).is_some(), yes, "{numbers:?}");
+        }
+    }
 }

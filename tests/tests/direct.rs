@@ -4,7 +4,7 @@ use dairyepoch_tests::direct::{self, Query, Ride, ROW_WORDS};
 use dairyepoch_tests::examples::M;
 use dairyepoch_tests::ffi::{self, Reply};
 use dairyepoch_tests::generate::{
-    crowded, every_timetable, every_trip, largest, long_lines, most_rows, one_way, overtaking, timetable,
+    crowded, every_timetable, every_trip, largest, long_lines, most_rows, one_way, overtaking, timetable, with_gaps,
     with_shared_ways, with_trips, Size, CROWDED, DIRECT_ROWS_MOST, LARGE, MIDDLING, SMALL, TELLING_PLACES,
 };
 use dairyepoch_tests::handmade::{self, detour, hop, text_of_hops, Hop, Numbers, PENALTIES_PAST_A_WORD};
@@ -130,12 +130,13 @@ fn penalties_between_any_two_stops_of_a_long_dear_trip() {
 #[test]
 fn penalties_of_several_trips_on_one_long_dear_line() {
     let mut timetable = one_way(1_024, 99, &[0, 600, 700, 1_023]);
-    timetable.trips.push(timetable.trips[0].clone());
-    for stop in &mut timetable.trips[1] {
+    let mut later = timetable.trips[&1].clone();
+    for stop in &mut later {
         stop.arrive = stop.arrive.map(|arrive| arrive + 3);
         stop.onward = stop.onward.map(|onward| Onward { depart: onward.depart + 3, ..onward });
     }
-    assert_eq!(lines(&timetable), [[0, 1]]);
+    timetable.trips.insert(2, later);
+    assert_eq!(lines(&timetable), [[1, 2]]);
     let lent = Lent::new(&timetable, &mut Random::new(34));
     assert_eq!(rows_of(&lent, Query { from: 1, to: 4, minute: 1 }), Ok(vec![[1_023, 101_277, 1, 1, 1, 1_024]]));
     assert_eq!(rows_of(&lent, Query { from: 1, to: 3, minute: 2 }), Ok(vec![[702, 69_300, 1, 2, 1, 701]]));
@@ -239,10 +240,10 @@ struct Met {
 
 impl Met {
     /// Notes a query of a timetable with these lines.
-    fn note(&mut self, timetable: &Timetable, lines: &[Vec<usize>], query: Query) {
+    fn note(&mut self, timetable: &Timetable, lines: &[Vec<u16>], query: Query) {
         let rides = direct::rides(timetable, query);
         let rows = direct::rows(timetable, query);
-        let line_of = |ride: &Ride| lines.iter().position(|line| line.contains(&(ride.trip as usize - 1)));
+        let line_of = |ride: &Ride| lines.iter().position(|line| line.contains(&(ride.trip as u16)));
         match rows.len() {
             0 => self.none += 1,
             1 => self.one_row += 1,
@@ -272,7 +273,7 @@ impl Met {
 
 /// All minutes at which a query's answer can differ from that of the minute before, those beside them, and the ends.
 fn minutes(timetable: &Timetable) -> Vec<u32> {
-    let departs = timetable.trips.iter().flatten().filter_map(|stop| stop.onward).map(|onward| onward.depart);
+    let departs = timetable.trips.values().flatten().filter_map(|stop| stop.onward).map(|onward| onward.depart);
     let around = departs.flat_map(|depart| [depart.saturating_sub(1), depart, (depart + 1).min(LAST_MINUTE)]);
     let mut minutes: Vec<u32> = around.chain([0, LAST_MINUTE]).map(u32::from).collect();
     minutes.sort_unstable();
@@ -287,8 +288,10 @@ fn pairs(stations: usize) -> impl Iterator<Item = (u32, u32)> {
     pairs.filter(|(from, to)| from != to)
 }
 
-/// Asks all pairs of stations at all minutes that matter, and now and then with other lengths of the answer.
+/// Asks all pairs of stations at all minutes that matter, and now and then with other lengths of the answer; of the
+/// same trips under numbers that may have gaps.
 fn all_queries(host: &mut Host, timetable: &Timetable, met: &mut Met, random: &mut Random) {
+    let timetable = &with_gaps(random, timetable);
     let lent = Lent::new(timetable, random);
     let lines = lines(timetable);
     let minutes = minutes(timetable);
@@ -343,7 +346,7 @@ fn all_queries_of_long_loops() {
     let mut host = Host::new(6);
     let mut random = Random::new(7);
     let mut met = Met::default();
-    for _ in 0..120 {
+    for _ in 0..150 {
         let size = Size { stations: 2..=3, trips: 1..=3, stops_of_a_trip: 3..=9 };
         all_queries(&mut host, &crowded(&mut random, &size), &mut met, &mut random);
     }
@@ -354,7 +357,7 @@ fn all_queries_of_long_loops() {
 fn some_queries(host: &mut Host, timetable: &Timetable, count: usize, random: &mut Random) -> usize {
     let lent = Lent::new(timetable, random);
     let minutes = minutes(timetable);
-    let stops = timetable.trips.concat();
+    let stops: Vec<Stop> = timetable.trips.values().flatten().copied().collect();
     let mut rows = 0;
     for _ in 0..count {
         let [from, to] = [0, 1].map(|_| random.pick(&stops).station.into());

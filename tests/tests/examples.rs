@@ -6,13 +6,14 @@ use dairyepoch_tests::host::Host;
 use dairyepoch_tests::words::TIMETABLE_WORDS;
 
 #[rustfmt::skip]
-const M_WORDS: [u16; 41] = [
+const M_WORDS: [u16; 44] = [
     3, 3, 7,
     2, 10,  3, 10,  5, 10,
     1, 0, 480, 0,  2, 500, 501, 0,  3, 560, 0, 0,
     2, 0, 503, 0,  3, 520, 0, 0,
     2, 0, 502, 0,  3, 515, 0, 0,
     0, 3, 5, 7,
+    1, 2, 3,
 ];
 
 #[test]

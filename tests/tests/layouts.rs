@@ -99,10 +99,10 @@ fn translate(host: &mut Host, timetable: &Timetable, random: &mut Random) -> boo
 }
 
 /// Whether the times of a line of several trips stand in another order, by trip: equal times may hide it.
-fn differs(timetable: &Timetable, line: &[usize]) -> bool {
+fn differs(timetable: &Timetable, line: &[u16]) -> bool {
     let alone = Timetable {
         stations: timetable.stations.clone(),
-        trips: line.iter().map(|&trip| timetable.trips[trip].clone()).collect(),
+        trips: line.iter().map(|trip| (*trip, timetable.trips[trip].clone())).collect(),
     };
     lines::to_words(&alone) != lines::to_words_by_trip(&alone)
 }

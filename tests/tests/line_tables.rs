@@ -11,7 +11,7 @@ use dairyepoch_tests::lent::damaged;
 use dairyepoch_tests::lines::{lines, same_way, LINE_WORDS, LINE_WORDS_MOST, WORK_WORDS};
 use dairyepoch_tests::random::Random;
 use dairyepoch_tests::reference::accepted;
-use dairyepoch_tests::timetable::{clock, Timetable};
+use dairyepoch_tests::timetable::{clock, Stop, Timetable};
 use dairyepoch_tests::words::{to_words, TIMETABLE_WORDS};
 
 #[rustfmt::skip]
@@ -264,24 +264,23 @@ impl Met {
     fn note(&mut self, timetable: &Timetable) {
         let trips = &timetable.trips;
         let lines = lines(timetable);
-        let pairs = |of: &dyn Fn(usize, usize) -> bool| {
+        let pairs = |of: &dyn Fn(u16, u16) -> bool| {
             (0..lines.len()).any(|one| (0..one).any(|other| of(lines[one][0], lines[other][0])))
         };
-        let neighbours = |of: &dyn Fn(usize, usize) -> bool| {
+        let neighbours = |of: &dyn Fn(u16, u16) -> bool| {
             lines.iter().any(|line| line.windows(2).any(|trips| of(trips[0], trips[1])))
         };
-        let departs = |trip: usize| trips[trip][0].onward;
-        let meets_twice = |trip: usize| {
-            let stops = &trips[trip];
+        let departs = |trip: u16| trips[&trip][0].onward;
+        let meets_twice = |stops: &Vec<Stop>| {
             (0..stops.len()).any(|one| (0..one).any(|other| stops[one].station == stops[other].station))
         };
         self.shared += usize::from(lines.iter().any(|line| line.len() > 1));
         self.single += usize::from(lines.iter().any(|line| line.len() == 1));
-        self.overtaken += usize::from(pairs(&|one, other| same_way(&trips[one], &trips[other])));
+        self.overtaken += usize::from(pairs(&|one, other| same_way(&trips[&one], &trips[&other])));
         self.out_of_number += usize::from(neighbours(&|one, next| one > next));
         self.equal_departures += usize::from(neighbours(&|one, next| departs(one) == departs(next)));
-        self.equal_trips += usize::from(neighbours(&|one, next| trips[one] == trips[next]));
-        self.loops += usize::from((0..trips.len()).any(meets_twice));
+        self.equal_trips += usize::from(neighbours(&|one, next| trips[&one] == trips[&next]));
+        self.loops += usize::from(trips.values().any(meets_twice));
         self.none += usize::from(trips.is_empty());
     }
 
@@ -388,7 +387,7 @@ fn a_slice_too_short_gives_8_before_9() {
     const ENOUGH: usize = 16_384;
     for words in &whole {
         for words in [words.clone(), damaged(words.clone())] {
-            for short in [0, 1, 41, 56, 15_429, 16_383] {
+            for short in [0, 1, 44, 56, 15_429, 16_383] {
                 Host::new(16).expect_lines(&words[..short], 8, 0);
                 Host::lending_both(short, ENOUGH, 17).expect_lines(&words, 8, 0);
                 Host::lending_both(ENOUGH, short, 18).expect_lines(&words, 8, 0);
@@ -435,14 +434,14 @@ fn each_word_changed_gives_9_or_other_tables() {
     let table = lent_text(M);
     let edges =
         [0, 1, 2, 3, 4, 64, 65, 100, 101, 241, 256, 257, 502, 515, 2_049, 2_880, 16_383, 16_384, 0x8000, 0xffff];
-    for at in 0..41 {
+    for at in 0..44 {
         for value in edges.into_iter().chain([random.word(), table[at] ^ 1, table[at].wrapping_add(1)]) {
             let mut words = table.clone();
             words[at] = value;
             tally[host.build_lines(&words).number as usize] += 1;
         }
     }
-    assert!(tally[0] > 50 && tally[9] > 500 && tally[0] + tally[9] == 41 * 23, "by reply number: {tally:?}");
+    assert!(tally[0] > 50 && tally[9] > 500 && tally[0] + tally[9] == 44 * 23, "by reply number: {tally:?}");
 }
 
 #[test]

@@ -12,7 +12,7 @@ use dairyepoch_tests::reference::accepted;
 use dairyepoch_tests::words::{to_words, TIMETABLE_WORDS};
 
 #[rustfmt::skip]
-const TIMETABLE: [u16; 84] = [
+const TIMETABLE: [u16; 90] = [
     5, 6, 16,
     1, 5,  7, 27,  4, 33,  3, 29,  2, 6,
     4, 0, 50, 12,  1, 52, 55, 14,  4, 58, 60, 19,  5, 64, 0, 0,
@@ -22,6 +22,7 @@ const TIMETABLE: [u16; 84] = [
     5, 0, 59, 17,  3, 70, 0, 0,
     5, 0, 65, 17,  3, 70, 0, 0,
     0, 4, 7, 10, 12, 14, 16,
+    1, 2, 3, 4, 5, 6,
 ];
 
 #[rustfmt::skip]

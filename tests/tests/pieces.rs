@@ -17,8 +17,7 @@ fn pieces(host: &mut Host, timetable: &Timetable, random: &mut Random) {
     let lines = lines(timetable);
     for (number, line) in (1..).zip(&lines) {
         let reply = host.line_trips(&tables, number);
-        let trips: Vec<u16> = line.iter().map(|&trip| trip as u16 + 1).collect();
-        assert_eq!((reply.number, &tables[reply.piece()]), (0, &trips[..]), "line {number} of\n{timetable}");
+        assert_eq!((reply.number, &tables[reply.piece()]), (0, &line[..]), "line {number} of\n{timetable}");
     }
     let next = lines.len() as u32 + 1;
     for number in [0, next, next + 1, 0x8000, 0x1_0000, 0x1_0001, 0x8000_0000, u32::MAX - 1, u32::MAX] {
@@ -84,8 +83,7 @@ fn lines_at_the_limits() {
             let reply = host.line_trips(&tables, number);
             let trips = lines.get(number as usize - 1);
             assert_eq!(reply.number, if trips.is_some() { 0 } else { 11 });
-            let numbers: Vec<u16> = trips.into_iter().flatten().map(|&trip| trip as u16 + 1).collect();
-            assert_eq!(tables[reply.piece()], numbers);
+            assert_eq!(tables[reply.piece()], trips.cloned().unwrap_or_default());
         }
     }
 }

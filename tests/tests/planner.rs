@@ -94,7 +94,7 @@ fn minute(clock: &str) -> u32 {
 }
 
 fn stop(timetable: &Timetable, trip: u32, number: u32) -> Stop {
-    timetable.trips[trip as usize - 1][number as usize - 1]
+    timetable.trips[&(trip as u16)][number as usize - 1]
 }
 
 /// Departure and station, arrival and station of each ride, in what a rider reads.
@@ -336,7 +336,8 @@ fn mistakes_are_those_of_the_list() {
 fn varied(random: &mut Random, timetable: &Timetable) -> Timetable {
     let mut varied = timetable.clone();
     if random.one_in(2) && !varied.trips.is_empty() {
-        varied.trips.remove(random.below(timetable.trips.len()));
+        varied.trips.remove(&(random.within(1..=timetable.trips.len()) as u16));
+        varied = Timetable::new(varied.stations, varied.trips.into_values());
     } else {
         let station = random.below(timetable.stations.len());
         varied.stations[station].change_minutes = 0;

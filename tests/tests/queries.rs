@@ -10,7 +10,7 @@ use dairyepoch_tests::ffi::{self, Reply, Tables};
 use dairyepoch_tests::following::Guide;
 use dairyepoch_tests::generate::{
     changing, crowded, every_timetable, every_trip, largest, long_lines, most_rows, one_way, overtaking, rural,
-    timetable, with_shared_ways, Diamonds, Size, BUSY, CHANGING, CROWDED, DIRECT_ROWS_MOST, MIDDLING, SMALL,
+    timetable, with_gaps, with_shared_ways, Diamonds, Size, BUSY, CHANGING, CROWDED, DIRECT_ROWS_MOST, MIDDLING, SMALL,
     TELLING_PLACES,
 };
 use dairyepoch_tests::handmade::{detour, hop, text, text_of_hops, PENALTIES_PAST_A_WORD};
@@ -296,8 +296,10 @@ fn with_words_behind(mut words: Vec<u16>, random: &mut Random) -> Vec<u16> {
     words
 }
 
-/// Asks all queries of a timetable from made stores, as the whole list has them.
+/// Asks all queries of a timetable from made stores, as the whole list has them; its trips are under numbers that may
+/// have gaps.
 fn all_queries(host: &mut Host, timetable: &Timetable, met: &mut Met, random: &mut Random) {
+    let timetable = &with_gaps(random, timetable);
     for from in 1..=timetable.stations.len() as u32 {
         let Some(list) = connections::list(timetable, from, expected::LISTED_MOST) else { continue };
         let words = store::to_words(&store::by_list(&list, from)).expect("a store that is made");
@@ -495,7 +497,7 @@ fn some_queries(timetable: &Timetable, sources: usize, count: usize, random: &mu
     let mut found = [0; 2];
     for _ in 0..sources {
         let from = random.within(1..=stations) as u32;
-        let Some(patterns) = search::patterns(&network, from) else { continue };
+        let Some(patterns) = search::patterns(&network, from).filter(|_| stations > 1) else { continue };
         let words = patterns.to_words();
         let all = Store::from_words(&words).expect("all its words").sequences();
         let struck: BTreeSet<Sequence> = all.iter().filter(|_| !random.one_in(3)).cloned().collect();

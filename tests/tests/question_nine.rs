@@ -1,7 +1,8 @@
-//! Could the timetable words come from an accepted text? Asked of words that do, and of words that were damaged.
+//! Could the timetable words come from an accepted text, by cancelled and extra trips too? Asked of words that do, and
+//! of words that were damaged.
 
 use dairyepoch_tests::ffi;
-use dairyepoch_tests::generate::{largest, long_lines, timetable, with_trips, Size, LARGE, MIDDLING, SMALL};
+use dairyepoch_tests::generate::{largest, long_lines, timetable, with_gaps, with_trips, Size, LARGE, MIDDLING, SMALL};
 use dairyepoch_tests::host::{lent, Host};
 use dairyepoch_tests::random::Random;
 use dairyepoch_tests::timetable::{Onward, Station, Stop, Timetable};
@@ -66,6 +67,65 @@ fn words_of_the_largest_texts_have_a_yes() {
 }
 
 #[test]
+fn words_with_gaps_have_a_yes() {
+    let mut host = Host::new(31);
+    let mut random = Random::new(32);
+    for (size, count) in [(SMALL, 1_000), (MIDDLING, 100), (LARGE, 2)] {
+        for _ in 0..count {
+            let timetable = timetable(&mut random, &size);
+            let table = to_words(&with_gaps(&mut random, &timetable));
+            assert_eq!(host.check_timetable(&lent(table, &mut random)), 0);
+        }
+    }
+}
+
+/// The first and the last numbers that 256 trips can have, and those one beyond.
+#[test]
+fn the_numbers_of_256_trips() {
+    let mut host = Host::new(33);
+    let mut random = Random::new(34);
+    let trips = with_trips(&mut random, 2, &[2; 256]);
+    for (least, number) in [(0, 9), (1, 0), (2, 0), (9_743, 0), (9_744, 0), (9_745, 9), (65_280, 9)] {
+        let numbered = (least..=u16::MAX).zip(trips.trips.values().cloned()).collect();
+        let timetable = Timetable { stations: trips.stations.clone(), trips: numbered };
+        let words = lent(to_words(&timetable), &mut random);
+        assert_eq!(host.check_timetable(&words), number, "from {least} on");
+    }
+}
+
+#[test]
+fn every_value_in_each_number_of_a_trip() {
+    let mut host = Host::new(35);
+    let mut random = Random::new(36);
+    let trips = with_trips(&mut random, 3, &[2, 2, 2]);
+    for numbers in [[1, 2, 3], [1, 5_000, 9_999], [7, 8, 500], [9_997, 9_998, 9_999]] {
+        let numbered = numbers.into_iter().zip(trips.trips.values().cloned()).collect();
+        let timetable = Timetable { stations: trips.stations.clone(), trips: numbered };
+        let table = to_words(&timetable);
+        let mut words = lent(table.clone(), &mut random);
+        for at in table.len() - 3..table.len() {
+            for value in (0..=20).chain((21..=9_900).step_by(89)).chain(9_900..=10_100).chain([32_768, 65_535]) {
+                words[at] = value;
+                let now = &words[table.len() - 3..table.len()];
+                let yes = 0 < now[0] && now[0] < now[1] && now[1] < now[2] && now[2] < 10_000;
+                assert_eq!(host.check_timetable(&words), if yes { 0 } else { 9 }, "{now:?}");
+            }
+            words[at] = table[at];
+        }
+    }
+}
+
+#[test]
+fn every_numbers_over_telling_values() {
+    let mut random = Random::new(37);
+    let table = to_words(&with_trips(&mut random, 2, &[2, 3, 2]));
+    let start = &table[..table.len() - 3];
+    let tally = every_filling(&mut Host::new(38), start, &[0, 1, 2, 3, 4, 9_999, 10_000, 65_535], 3, &[]);
+    // three of 1, 2, 3, 4 and 9,999, rising
+    assert_eq!(tally[0], 10);
+}
+
+#[test]
 fn what_reading_wrote_has_a_yes() {
     let mut random = Random::new(3);
     for size in [SMALL, MIDDLING, LARGE] {
@@ -82,12 +142,13 @@ fn what_reading_wrote_has_a_yes() {
 fn words_behind_the_table_are_not_judged() {
     let mut host = Host::new(4);
     let table = to_words(&smallest_whole());
-    for filler in [0, 1, 2, 64, 2_880, 0x7fff, 0x8000, 0xffff] {
+    for filler in [0, 1, 2, 64, 2_880, 9_999, 10_000, 0x7fff, 0x8000, 0xffff] {
         let mut words = vec![filler; TIMETABLE_WORDS];
         words[..table.len()].copy_from_slice(&table);
         assert_eq!(host.check_timetable(&words), 0);
+        // the last word is the number of the second trip, after number 1
         words[table.len() - 1] = filler;
-        assert_eq!(host.check_timetable(&words), if filler == table[table.len() - 1] { 0 } else { 9 });
+        assert_eq!(host.check_timetable(&words), if (2..=9_999).contains(&filler) { 0 } else { 9 });
     }
 }
 
@@ -97,7 +158,7 @@ fn a_slice_below_16384_words_gives_8_before_9() {
     let mut random = Random::new(6);
     let whole = lent(to_words(&smallest_whole()), &mut random);
     let zeros = vec![0; TIMETABLE_WORDS];
-    for length in [0, 1, 2, 3, 27, 28, 8_580, 16_382, 16_383] {
+    for length in [0, 1, 2, 3, 31, 32, 8_836, 16_382, 16_383] {
         assert_eq!(host.check_timetable(&whole[..length]), 8);
         assert_eq!(host.check_timetable(&zeros[..length]), 8);
     }
@@ -228,14 +289,14 @@ fn every_filling(host: &mut Host, start: &[u16], values: &[u16], free: usize, en
 
 #[test]
 fn every_trip_of_two_stops_over_small_values() {
-    let tally = every_filling(&mut Host::new(23), &[2, 1, 2, 0, 1, 0, 1], &[0, 1, 2, 3], 8, &[0, 2]);
+    let tally = every_filling(&mut Host::new(23), &[2, 1, 2, 0, 1, 0, 1], &[0, 1, 2, 3], 8, &[0, 2, 1]);
     // two orders of the stations; 0 < 1, 2, 3 and 1 < 2, 3 and 2 < 3; four ride penalties
     assert_eq!(tally[0], 2 * 6 * 4);
 }
 
 #[test]
 fn every_trip_of_three_stops_over_small_values() {
-    let tally = every_filling(&mut Host::new(24), &[2, 1, 3, 0, 1, 0, 1], &[0, 1, 2], 11, &[0, 0, 3]);
+    let tally = every_filling(&mut Host::new(24), &[2, 1, 3, 0, 1, 0, 1], &[0, 1, 2], 11, &[0, 0, 3, 1]);
     // stations 1, 2, 1 or 2, 1, 2; minutes 0, 1, 1, 2; three ride penalties twice
     assert_eq!(tally[0], 2 * 9);
 }
@@ -245,7 +306,7 @@ fn every_place_of_first_stops_over_small_values() {
     let stop = |station, arrive, depart| [station, arrive, depart, 0];
     let trip = [stop(1, 0, 5), stop(2, 6, 0)].concat();
     let start = [&[2, 2, 4, 0, 1, 0, 1][..], &trip, &trip].concat();
-    let tally = every_filling(&mut Host::new(25), &start, &[0, 1, 2, 3, 4, 5, 8, 65_535], 3, &[]);
+    let tally = every_filling(&mut Host::new(25), &start, &[0, 1, 2, 3, 4, 5, 8, 65_535], 3, &[1, 2]);
     assert_eq!(tally[0], 1);
 }
 
@@ -274,10 +335,8 @@ fn counts_above_the_limits_have_a_no() {
     let mut host = Host::new(27);
     let mut random = Random::new(28);
     let mut expect = |stations: usize, lengths: &[usize], number: u32| {
-        let timetable = Timetable {
-            stations: vec![Station { change_minutes: 0, change_penalty: 1 }; stations],
-            trips: lengths.iter().map(|&stops| trip_of(stops)).collect(),
-        };
+        let stations_alike = vec![Station { change_minutes: 0, change_penalty: 1 }; stations];
+        let timetable = Timetable::new(stations_alike, lengths.iter().map(|&stops| trip_of(stops)));
         assert_eq!(host.check_timetable(&lent(to_words(&timetable), &mut random)), number, "{stations}, {lengths:?}");
     };
     expect(0, &[], 9);

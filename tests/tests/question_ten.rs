@@ -1,27 +1,30 @@
 //! Are the line tables those of the timetable words lent with them or, lent without any, could they come from an
-//! accepted timetable? Asked of tables that are and could, and of words that were tampered with.
+//! accepted timetable, by cancelled and extra trips too? Asked of tables that are and could, and of words that were
+//! tampered with.
 
 use dairyepoch_tests::examples::M;
 use dairyepoch_tests::ffi::{self, Reply};
 use dairyepoch_tests::generate::{
-    crowded, every_trip, largest, long_lines, one_way, overtaking, timetable, with_shared_ways, with_trips, Size,
-    CROWDED, LARGE, MIDDLING, SMALL,
+    crowded, every_trip, largest, long_lines, one_way, overtaking, timetable, with_gaps, with_shared_ways, with_trips,
+    Size, CROWDED, LARGE, MIDDLING, SMALL,
 };
 use dairyepoch_tests::host::{lent, Host};
 use dairyepoch_tests::lent::{damaged, Lent};
 use dairyepoch_tests::lines::{self, lines, same_way, total_words, words_of, LINE_WORDS, WORK_WORDS};
 use dairyepoch_tests::random::Random;
 use dairyepoch_tests::reference::{self, accepted};
-use dairyepoch_tests::timetable::{Station, Timetable, LAST_MINUTE, RIDE_PENALTY_MOST};
+use dairyepoch_tests::timetable::{Station, Stop, Timetable, LAST_MINUTE, RIDE_PENALTY_MOST};
 use dairyepoch_tests::words::{to_words, TIMETABLE_WORDS};
 
-/// Timetables with lines of several trips and of one, overtaken trips, equal times and stations met twice.
+/// Timetables with lines of several trips and of one, overtaken trips, equal times and stations met twice, under
+/// numbers that may have gaps.
 fn any_timetable(random: &mut Random) -> Timetable {
-    match random.below(4) {
+    let timetable = match random.below(4) {
         0 => timetable(random, &SMALL),
         1 => with_shared_ways(random, &SMALL),
         _ => crowded(random, &CROWDED),
-    }
+    };
+    with_gaps(random, &timetable)
 }
 
 /// Timetables of 64 stations, 256 trips and 2,048 stops, of one line, of 256 and of any, and two of a single trip, the
@@ -171,7 +174,7 @@ fn totals(tables: &[u16]) -> Vec<u32> {
 /// Timetables of one line, all but one so long and dear that some high words are not 0.
 fn dear_lines(random: &mut Random) -> Vec<Timetable> {
     let mut shared = one_way(1_024, 99, &[0, 1_023]);
-    shared.trips.push(shared.trips[0].clone());
+    shared.trips.insert(2, shared.trips[&1].clone());
     let penalties = [(2_044, 100), (2_048, 100), (2_048, 50), (2_048, 33)];
     let mut dear: Vec<Timetable> =
         penalties.iter().map(|&(stops, penalty)| one_way(stops, penalty, &[0, stops - 1])).collect();
@@ -424,19 +427,20 @@ fn tables_of_almost_the_same_timetable() {
     for _ in 0..6_000 {
         let timetable = any_timetable(&mut random);
         let mut other = timetable.clone();
-        let Some(trip) = (!other.trips.is_empty()).then(|| random.below(other.trips.len())) else { continue };
-        let place = random.below(other.trips[trip].len());
-        let stop = &mut other.trips[trip][place];
+        let numbers: Vec<u16> = other.trips.keys().copied().chain([0]).collect();
+        let Some(stops) = other.trips.get_mut(&random.pick(&numbers)) else { continue };
+        let place = random.below(stops.len());
+        let stop = &mut stops[place];
         match (random.below(4), &mut stop.arrive, &mut stop.onward) {
             (0, Some(arrive), _) => *arrive = (*arrive + 1).min(LAST_MINUTE),
             (1, _, Some(onward)) => onward.depart = onward.depart.saturating_sub(1),
             (2, _, Some(onward)) => onward.penalty += 1,
             (3, ..) => stop.station = random.within(1..=other.stations.len()) as u16,
-            _ => drop(other.trips.pop()),
+            _ => drop(other.trips.pop_last()),
         }
         let words = lent(to_words(&other), &mut random);
         let tables = lent(lines::to_words(&timetable), &mut random);
-        if reference::read(&other.to_text()).is_err() {
+        if reference::led_to(&other).is_none() {
             assert_eq!(host.check_lines(&words, &tables), 9);
         } else {
             accepted += usize::from(other != timetable);
@@ -462,10 +466,10 @@ fn change_minutes_and_penalties_are_not_in_the_tables() {
 }
 
 /// Other lines than these of the same trips: one parted, two joined or exchanged, a trip on another place or line.
-fn regrouped(timetable: &Timetable, lines: &[Vec<usize>], random: &mut Random) -> Vec<Vec<usize>> {
+fn regrouped(timetable: &Timetable, lines: &[Vec<u16>], random: &mut Random) -> Vec<Vec<u16>> {
     let mut lines = lines.to_vec();
     let (one, other) = (random.below(lines.len()), random.below(lines.len()));
-    let joins = one != other && same_way(&timetable.trips[lines[one][0]], &timetable.trips[lines[other][0]]);
+    let joins = one != other && same_way(&timetable.trips[&lines[one][0]], &timetable.trips[&lines[other][0]]);
     match random.below(4) {
         0 => {
             let at = random.below(lines[one].len());
@@ -480,10 +484,10 @@ fn regrouped(timetable: &Timetable, lines: &[Vec<usize>], random: &mut Random) -
         _ if joins => {
             let moved = if random.one_in(2) { lines[one].len() } else { 1 };
             let at = random.below(lines[one].len() + 1 - moved);
-            let trips: Vec<usize> = lines[one].drain(at..at + moved).collect();
+            let trips: Vec<u16> = lines[one].drain(at..at + moved).collect();
             lines[other].extend(trips);
             if random.one_in(2) {
-                lines[other].sort_by_key(|&trip| (timetable.trips[trip][0].onward.map(|onward| onward.depart), trip));
+                lines[other].sort_by_key(|trip| (timetable.trips[trip][0].onward.map(|onward| onward.depart), *trip));
             }
         }
         _ => {}
@@ -511,6 +515,40 @@ fn trips_on_other_lines() {
     assert!(regroupings > 2_000, "only {regroupings}");
 }
 
+/// M's tables with other numbers: of line 1 one trip, of line 2 two, which leave at 08:22 and 08:23.
+#[test]
+fn other_numbers_in_the_tables() {
+    let mut host = Host::new(56);
+    let Lent { timetable: words, lines: mut tables } = Lent::text(M);
+    let values = [0, 1, 2, 3, 4, 257, 9_998, 9_999, 10_000, 32_768, 65_535];
+    let mut yes = 0;
+    for numbers in values.iter().flat_map(|&one| values.iter().map(move |&other| [one, other])) {
+        for third in values {
+            let [first, second] = numbers;
+            (tables[8], tables[26], tables[27]) = (first, second, third);
+            let are = [first, second, third] == [1, 3, 2];
+            let apart = first != second && first != third && second != third;
+            let named = [first, second, third].iter().all(|number| (1..=9_999).contains(number));
+            let number = ask_both(&mut host, &words, &tables, are);
+            assert_eq!(number, if apart && named { 0 } else { 10 }, "{first}, {second}, {third}");
+            yes += usize::from(number == 0);
+        }
+    }
+    assert_eq!(yes, 7 * 6 * 5);
+}
+
+/// Where trips leave at the same minute, the one of the lower number goes first.
+#[test]
+fn numbers_of_trips_that_leave_together() {
+    let mut host = Host::new(57);
+    let together = accepted("S,1,0,1\nS,2,0,1\nT,1,1,1,,00:10,0\nT,1,2,2,00:20,,\nT,2,1,1,,00:10,0\nT,2,2,2,00:20,,\n");
+    let Lent { timetable: words, lines: mut tables } = Lent::new(&together, &mut Random::new(58));
+    for (numbers, number) in [([1, 2], 0), ([2, 1], 10), ([1, 9_999], 0), ([9_999, 1], 10), ([7, 7], 10), ([6, 7], 0)] {
+        tables[7..9].copy_from_slice(&numbers);
+        assert_eq!(ask_both(&mut host, &words, &tables, numbers == [1, 2]), number, "{numbers:?}");
+    }
+}
+
 #[test]
 fn overtaking_trips_on_one_line() {
     let mut host = Host::new(27);
@@ -518,11 +556,11 @@ fn overtaking_trips_on_one_line() {
     let overtaken = accepted(&M.replace("08:40", "08:34"));
     let words = lent(to_words(&overtaken), &mut random);
     for (lines, are) in [
-        (&[vec![0], vec![2], vec![1]][..], true),
-        (&[vec![0], vec![2, 1]], false),
-        (&[vec![0], vec![1, 2]], false),
-        (&[vec![0], vec![1], vec![2]], false),
-        (&[vec![2], vec![0], vec![1]], false),
+        (&[vec![1], vec![3], vec![2]][..], true),
+        (&[vec![1], vec![3, 2]], false),
+        (&[vec![1], vec![2, 3]], false),
+        (&[vec![1], vec![2], vec![3]], false),
+        (&[vec![3], vec![1], vec![2]], false),
     ] {
         let tables = lent(words_of(&overtaken, lines), &mut random);
         assert_eq!(ask_both(&mut host, &words, &tables, are), if are { 0 } else { 10 }, "{lines:?}");
@@ -593,7 +631,7 @@ fn every_two_tiny_timetables() {
     let two_trips = shuttles.iter().flat_map(|one| shuttles.iter().map(move |other| vec![one.clone(), other.clone()]));
     for family in [one_trip.into_iter().map(|trip| vec![trip]).collect::<Vec<_>>(), two_trips.collect()] {
         let timetable =
-            |trips| Timetable { stations: vec![Station { change_minutes: 3, change_penalty: 2 }; 3], trips };
+            |trips: Vec<Vec<Stop>>| Timetable::new(vec![Station { change_minutes: 3, change_penalty: 2 }; 3], trips);
         let lent: Vec<_> = family.into_iter().map(|trips| Lent::new(&timetable(trips), &mut random)).collect();
         for (one, Lent { timetable: words, .. }) in lent.iter().enumerate() {
             for (other, Lent { lines: tables, .. }) in lent.iter().enumerate() {

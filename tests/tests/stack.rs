@@ -10,10 +10,10 @@ use dairyepoch_tests::lines::{LINE_WORDS, WORK_WORDS};
 use dairyepoch_tests::random::Random;
 use dairyepoch_tests::stack::touched;
 use dairyepoch_tests::store::STORE_WORDS_MOST;
-use dairyepoch_tests::timetable::{Onward, Station, Stop, Timetable, CHANGE_PENALTY_LEAST, STATIONS_MOST};
+use dairyepoch_tests::timetable::{trip_text, Onward, Station, Stop, Timetable, CHANGE_PENALTY_LEAST, STATIONS_MOST};
 use dairyepoch_tests::words::TIMETABLE_WORDS;
 
-const CALLS: [&str; 11] = [
+const CALLS: [&str; 13] = [
     "READ",
     "CHECK_TIMETABLE",
     "BUILD_LINES",
@@ -25,6 +25,8 @@ const CALLS: [&str; 11] = [
     "DIRECT",
     "MAKE_STORE",
     "QUERY",
+    "CANCEL_TRIP",
+    "ADD_TRIP",
 ];
 
 /// A number that the header defines.
@@ -33,8 +35,8 @@ fn defined(header: &str, name: &str) -> usize {
     line.trim().parse().expect("a number")
 }
 
-/// The bytes that each call touches for a timetable, with queries from station 1 to the last. Each is made with slices
-/// that are long enough, so that it comes to its end.
+/// The bytes that each call touches for a timetable, with queries from station 1 to the last and trip 1 cancelled and
+/// added again. Each is made with slices that are long enough, so that it comes to its end.
 fn touched_for(timetable: &Timetable) -> [usize; CALLS.len()] {
     let text = timetable.to_text();
     let mut words = vec![0; TIMETABLE_WORDS];
@@ -44,6 +46,7 @@ fn touched_for(timetable: &Timetable) -> [usize; CALLS.len()] {
     let mut store = vec![0; STORE_WORDS_MOST];
     let mut answer = vec![0; QUERY_WORDS];
     let query = Query { from: 1, to: timetable.stations.len() as u32, minute: 0 };
+    let extra = trip_text(1, &timetable.trips[&1]);
     [
         touched(|| ffi::read(&text, &mut words)),
         touched(|| ffi::check_timetable(&words)),
@@ -59,6 +62,8 @@ fn touched_for(timetable: &Timetable) -> [usize; CALLS.len()] {
             let tables = Tables { timetable: &words, lines: &lines, store: &store };
             ffi::query(tables, &mut work, query, &mut answer)
         }),
+        touched(|| ffi::cancel_trip(&mut words, &mut lines, &mut work, 1)),
+        touched(|| ffi::add_trip(&mut words, &mut lines, &mut work, 1, extra.as_bytes())),
     ]
 }
 
@@ -68,7 +73,7 @@ fn chain_with_a_tie() -> Timetable {
     let hops = (1..STATIONS_MOST as u16).map(|from| hop(from, from + 1, 0));
     let passing = hop(61, 63, CHANGE_PENALTY_LEAST);
     let stations = vec![Station { change_minutes: 0, change_penalty: CHANGE_PENALTY_LEAST }; STATIONS_MOST];
-    Timetable { stations, trips: hops.chain([passing]).collect() }
+    Timetable::new(stations, hops.chain([passing]))
 }
 
 /// A trip of two stops, which leaves and arrives at the minutes that its stations number.

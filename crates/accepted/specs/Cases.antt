@@ -1,11 +1,12 @@
 -- Case k and timetable M of document 01, its "run only" cases of reading, and the edges of times, by computation. "M
--- and the cases are rewritten in it, with 47:59 and 48:00 for 2,879 and 2,880." For a reader.
+-- and the cases are rewritten in it, with 47:59 and 48:00 for 2,879 and 2,880." At the end stand cases of document 02,
+-- Eleven: cancelled and extra trips. For a reader.
 use mathlib.Core.Path.{_≡_, refl}
 use mathlib.Core.List.{List, [], _∷_, _++_}
 use Prim.Native.Nat.{ℕ, zero, suc, _+_}
 use Prim.Native.Char.{code}
 use Prim.Native.String.{String, len, charAt}
-use lib.ListN.{replicate}
+use lib.ListN.{getD, replicate}
 use Rattle.text.specs.Number.{digitValue, decimal, fieldValue}
 use Rattle.text.specs.Time.{pairValue, isTime, minuteOf, timeValue}
 use Rattle.text.specs.Piece.{pieces}
@@ -13,12 +14,13 @@ use Rattle.text.specs.Range.{inRange}
 use Rattle.text.specs.Shape.{stationOf, stationShape, arriveFits, departFits, filled, stopOf, stopShape, shapeBy}
 use Rattle.timetable.specs.Worked.{station, stop, variant, M}
 use Rattle.timetable.specs.Words.{stationWords, stopWords, startWords, words}
-use Rattle.reading.specs.Draft.{stationNumber, comesAfter, stopFits, stopNumber}
-use Rattle.reading.specs.Reading.{Outcome, Accepted, Refused, ended, readBy, readLines, reading}
+use Rattle.timetable.specs.Changes.{placeOf, cancelled, added}
+use Rattle.reading.specs.Draft.{stationNumber, comesAfter, stopFits, stopNumber, extraStation, extraStop}
+use Rattle.reading.specs.Reading.{Outcome, Accepted, Refused, ended, readUnder, readLines, reading}
+use Rattle.reading.specs.Reading.{readExtra}
 use Rattle.accepted.specs.Marks.{lined, fielded}
 use Rattle.accepted.specs.Digits.{digits}
-use Rattle.accepted.specs.Clock.{clock}
-use Rattle.accepted.specs.WrittenOut.{stationLine, stationLines, stopLine, stopLines, tripLines, linesOf, textOf}
+use Rattle.accepted.specs.WrittenOut.{stationLine, stationLines}
 
 -- ---- a text's bytes, and what reading makes of them
 bytesFrom : String → (i n : ℕ) → List ℕ
@@ -30,11 +32,11 @@ unfolding bytesFrom
 bytes s = bytesFrom s 0 (len s)
 
 -- reading, with all that it computes with
-readAll : List ℕ → Outcome
+unfoldable pub readAll : List ℕ → Outcome
 unfolding
     reading
     readLines
-    readBy
+    readUnder
     ended
     pieces
     shapeBy
@@ -76,27 +78,8 @@ pub M-accepted : reading textM ≡ Accepted M 10
 unfolding readAll bytes textM M variant
 M-accepted = refl
 
--- the text of M is the one that is written out from it
-pub M-written : textOf M ≡ textM
-unfolding
-    textOf
-    linesOf
-    stationLines
-    tripLines
-    stopLines
-    stationLine
-    stopLine
-    digits
-    clock
-    lined
-    fielded
-    bytes
-    textM
-    M
-    variant
-M-written = refl
-
--- three stations, three trips, seven stops; stations; the stops of each trip; where the trips begin, and the end
+-- three stations, three trips, seven stops; stations; the stops of each trip; where the trips begin, and the end; the
+-- numbers of the trips
 pub M-words : words M
     ≡ (3 ∷ 3 ∷ 7 ∷ [])
     ++ (2 ∷ 10 ∷ 3 ∷ 10 ∷ 5 ∷ 10 ∷ [])
@@ -104,6 +87,7 @@ pub M-words : words M
     ++ (2 ∷ 0 ∷ 503 ∷ 0 ∷ 3 ∷ 520 ∷ 0 ∷ 0 ∷ [])
     ++ (2 ∷ 0 ∷ 502 ∷ 0 ∷ 3 ∷ 515 ∷ 0 ∷ 0 ∷ [])
     ++ (0 ∷ 3 ∷ 5 ∷ 7 ∷ [])
+    ++ (1 ∷ 2 ∷ 3 ∷ [])
 unfolding words stationWords stopWords startWords M variant
 M-words = refl
 
@@ -115,6 +99,7 @@ arrivingAt arrive = bytes "S,1,2,10\nS,2,3,10\nT,1,1,1,,08:00,0\nT,1,2,2," ++ by
 pub last-minute-passes : reading (arrivingAt "47:59")
     ≡ Accepted (record {
       stations = station 2 10 ∷ station 3 10 ∷ [];
+      numbers = 1 ∷ [];
       trips = (stop 1 0 480 0 ∷ stop 2 2879 0 0 ∷ []) ∷ [];
     }) 4
 unfolding readAll bytes arrivingAt
@@ -156,3 +141,43 @@ arrival-not-after = refl
 pub station-past-count : reading (lined (stationLines 1 (replicate 65 (station 2 10)))) ≡ Refused 5 65
 unfolding readAll lined fielded stationLines stationLine digits
 station-past-count = refl
+
+-- ---- cancelled and extra trips: "Trip numbers may have gaps"
+pub two-cancelled : words (cancelled M 2)
+    ≡ (3 ∷ 2 ∷ 5 ∷ [])
+    ++ (2 ∷ 10 ∷ 3 ∷ 10 ∷ 5 ∷ 10 ∷ [])
+    ++ (1 ∷ 0 ∷ 480 ∷ 0 ∷ 2 ∷ 500 ∷ 501 ∷ 0 ∷ 3 ∷ 560 ∷ 0 ∷ 0 ∷ [])
+    ++ (2 ∷ 0 ∷ 502 ∷ 0 ∷ 3 ∷ 515 ∷ 0 ∷ 0 ∷ [])
+    ++ (0 ∷ 3 ∷ 5 ∷ [])
+    ++ (1 ∷ 3 ∷ [])
+unfolding words stationWords stopWords startWords cancelled placeOf M variant
+two-cancelled = refl
+
+-- added again, it has its place in rising number
+pub two-added : added (cancelled M 2) 2 (getD (M .trips) 1 []) ≡ M
+unfolding cancelled added placeOf M variant
+two-added = refl
+
+pub extra-accepted : readExtra M 9999 (bytes "T,9999,1,1,,08:05,0\nT,9999,2,3,08:45,,\n")
+    ≡ Accepted (record {
+      stations = M .stations;
+      numbers = 9999 ∷ [];
+      trips = (stop 1 0 485 0 ∷ stop 3 525 0 0 ∷ []) ∷ [];
+    }) 2
+unfolding readAll readExtra extraStop bytes M variant
+extra-accepted = refl
+
+-- "(0 in a line gives 3). A line of another number gives 4, no line at all 7"
+pub extra-refused : (readExtra M 0 (bytes "T,0,1,1,,08:05,0\n") ≡ Refused 3 1)
+    × (readExtra M 7 (bytes "T,8,1,1,,08:05,0\n") ≡ Refused 4 1)
+    × (readExtra M 7 [] ≡ Refused 7 1)
+unfolding readAll readExtra extraStop bytes M variant
+extra-refused = (refl, refl, refl)
+
+-- a station, a line after the trip's end, a trip that has not ended, a number of five digits
+pub extra-misplaced : (readExtra M 7 (bytes "S,4,2,10\n") ≡ Refused 4 1)
+    × (readExtra M 7 (bytes "T,7,1,1,,08:05,0\nT,7,2,3,08:45,,\nT,7,1,1,,08:05,0\n") ≡ Refused 4 3)
+    × (readExtra M 7 (bytes "T,7,1,1,,08:05,0\n") ≡ Refused 7 2)
+    × (readExtra M 10000 (bytes "T,10000,1,1,,08:05,0\n") ≡ Refused 2 1)
+unfolding readAll readExtra extraStop extraStation bytes M variant
+extra-misplaced = (refl, refl, refl, refl)

@@ -5,7 +5,6 @@ use mathlib.Core.Bool.{Bool, true, _&&_}
 use mathlib.Core.List.{List, [], _∷_}
 use Prim.Native.Nat.{ℕ, _+_, _/_, _%_, _≤_}
 use lib.Dec.{eqb}
-use lib.ListN.{length}
 use native.Mathlib.Omega.{arith}
 use borrow.Author.Tests.{eqb-true}
 use Rattle.lists.specs.Tests.{and-left, and-right}
@@ -22,10 +21,6 @@ twoDigits n s = (48 + n / 10) ∷ (48 + n % 10) ∷ s
 -- the colon is byte 58
 unfoldable pub clock : ℕ → List ℕ
 clock n = twoDigits (n / 60) (58 ∷ twoDigits (n % 60) [])
-
-pub five-bytes : (n : ℕ) → length (clock n) ≡ 5
-unfolding clock
-five-bytes n = refl
 
 -- n reads back to itself, and its bytes stand above the comma
 wellTimed : ℕ → Bool

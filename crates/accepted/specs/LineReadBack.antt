@@ -1,5 +1,5 @@
 -- A line written out from a valid timetable has its shape, and reads back to the values that were written. It holds no
--- byte 10; a station's line has at most 14 bytes, a stop's at most 30, their byte 10 counted.
+-- byte 10; a station's line has at most 14 bytes, its byte 10 counted.
 use mathlib.Core.Path.{_≡_, refl, sym}
 use mathlib.Core.Bool.{Bool, true, false, cond}
 use mathlib.Core.List.{List, []}
@@ -14,12 +14,12 @@ use Rattle.text.specs.Shape.{stationOf, stationShape, arriveFits, departFits, f
 use Rattle.text.specs.Shape.{shapeOf}
 use Rattle.text.specs.declared.Line.{Line}
 use Rattle.text.specs.declared.Line.the-variants.{Station as StationIn, Stop as StopIn}
-use Rattle.timetable.specs.Timetable.{stationsMost, tripsMost, stopsMost, lastMinute, Station, Stop}
+use Rattle.timetable.specs.Timetable.{stationsMost, stopsMost, numberMost, lastMinute, Station, Stop}
 use Rattle.timetable.specs.Timetable.{validStation}
 use Rattle.accepted.specs.Valid.{ValidStation, Ends, StopRanges, valid-station}
 use Rattle.accepted.specs.Marks.{above, allAbove, fielded, above-fielded, all-free, pieces-fielded}
 use Rattle.accepted.specs.Digits.{digits, digits-value, digits-above, four-bytes, three-bytes, two-bytes}
-use Rattle.accepted.specs.Clock.{clock, clock-value, clock-above, five-bytes}
+use Rattle.accepted.specs.Clock.{clock, clock-value, clock-above}
 use Rattle.accepted.specs.WrittenOut.{stationFields, stopFields, stationLine, emptyOr, stopLine}
 
 -- ---- what reading sees in a written line
@@ -59,10 +59,6 @@ field-above : (empty : Bool) (f : List ℕ) → above 44 f ≡ true → above 44
 unfolding above
 field-above true f h = refl
 field-above false f h = h
-
-field-short : (empty : Bool) (f : List ℕ) (most : ℕ) → length f ≤ most → length (emptyOr empty f) ≤ most
-field-short true f most h = omega arith
-field-short false f most h = h
 
 -- ---- a station's line
 module _ (n : ℕ) (s : Station) (h : n ≤ stationsMost) (v : validStation s ≡ true) where
@@ -109,7 +105,7 @@ module _ (n : ℕ) (s : Station) (h : n ≤ stationsMost) (v : validStation s �
 -- ---- a stop's line
 -- what a valid timetable says of stop k of a trip, which is the last stop or is not
 pub record Writable (trip k : ℕ) (s : Stop) (last : Bool) : Type 0 where
-  pub trips : trip ≤ tripsMost
+  pub trips : trip ≤ numberMost
   pub stops : k ≤ stopsMost
   pub ranges : StopRanges stationsMost s
   pub first : k ≡ 1 → s .arrive ≡ 0
@@ -178,17 +174,3 @@ module _ (trip k : ℕ) (s : Stop) (last : Bool) (w : Writable trip k s last) wh
   pub stop-above : above 10 (stopLine trip k s last) ≡ true
   unfolding stopLine above
   stop-above = above-fielded (stopFields trip k s last) stop-fields
-
-  pub stop-short : length (stopLine trip k s last) < 30
-  unfolding stopLine fielded
-  stop-short =
-      simp length-append
-      (omega (
-        arith,
-        three-bytes trip (omega arith),
-        four-bytes k (omega arith),
-        two-bytes (s .station) (omega arith),
-        field-short (eqb k 1) (clock (s .arrive)) 5 (omega (arith, five-bytes (s .arrive))),
-        field-short last (clock (s .depart)) 5 (omega (arith, five-bytes (s .depart))),
-        field-short last (digits (s .points)) 3 (three-bytes (s .points) (omega arith)),
-      ))

@@ -1,8 +1,8 @@
 -- Bytes that stand above a mark hold no mark, so a text that is put together from such bytes and marks falls into the
 -- same pieces again. "Each line ends with byte 10"; fields are "parted by commas" (byte 44).
-use mathlib.Core.Path.{_≡_, refl, sym, ap, _∙_}
+use mathlib.Core.Path.{_≡_, refl, ap, _∙_}
 use mathlib.Core.Bool.{Bool, true, _&&_}
-use mathlib.Core.List.{List, [], _∷_, _++_, append-assoc}
+use mathlib.Core.List.{List, [], _∷_, _++_}
 use Prim.Native.Nat.{ℕ, _≤_, _<_}
 use lib.Dec.{ltb}
 use native.Mathlib.Omega.{arith}
@@ -30,12 +30,6 @@ unfoldable pub fielded : List (List ℕ) → List ℕ
 fielded [] = []
 fielded (f ∷ []) = f
 fielded (f ∷ g ∷ l) = f ++ 44 ∷ fielded (g ∷ l)
-
-pub lined-append : (l m : List (List ℕ)) → lined (l ++ m) ≡ lined l ++ lined m
-unfolding lined
-lined-append [] m = refl
-lined-append (s ∷ l) m =
-    ap (λ r. s ++ 10 ∷ r) (lined-append l m) ∙ sym (append-assoc s (10 ∷ lined l) (lined m))
 
 -- ---- above a mark
 module _ (mark b : ℕ) (s : List ℕ) (e : above mark (b ∷ s) ≡ true) where
@@ -72,14 +66,6 @@ above-bytes : (mark : ℕ) (s : List ℕ) → above mark s ≡ true → Below 25
 unfolding Below
 above-bytes mark [] e = tt
 above-bytes mark (b ∷ s) e = (byte-first mark b s e, above-bytes mark s (above-rest mark b s e))
-
-pub allAbove-append : (mark : ℕ) (l m : List (List ℕ)) → allAbove mark l ≡ true → allAbove mark m ≡ true
-    → allAbove mark (l ++ m) ≡ true
-unfolding allAbove
-allAbove-append mark [] m e f = f
-allAbove-append mark (s ∷ l) m e f =
-    and-both (above mark s) (allAbove mark (l ++ m)) (and-left (above mark s) (allAbove mark l) e)
-    (allAbove-append mark l m (and-right (above mark s) (allAbove mark l) e) f)
 
 -- commas stand above 10, and so does a line whose fields do
 pub above-fielded : (l : List (List ℕ)) → allAbove 44 l ≡ true → above 10 (fielded l) ≡ true

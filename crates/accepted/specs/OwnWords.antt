@@ -1,5 +1,6 @@
 -- Words that have their yes to question 9 begin with the words of the timetable that they spell: station by station,
--- stop by stop and start by start, what is spelled from an index on is written back to the same words.
+-- stop by stop, start by start and number by number, what is spelled from an index on is written back to the same
+-- words.
 use mathlib.Core.Path.{_≡_, refl, sym, ap, _∙_}
 use mathlib.Core.Bool.{true}
 use mathlib.Core.List.{List, [], _∷_, _++_, map, map-append}
@@ -16,8 +17,8 @@ use Rattle.lists.specs.Ranges.{length-range}
 use Rattle.lists.specs.Tests.{and-left, and-right}
 use Rattle.timetable.specs.Timetable.{stopsOf}
 use Rattle.timetable.specs.Words.{stationWords, stopWords, startWords, words, stationCount, tripCount}
-use Rattle.timetable.specs.Words.{stopCount, stationAt, stopPlace, stopAt, startAt, tripAt, timetableOf, rise, chained}
-use Rattle.timetable.specs.Words.{isTimetable}
+use Rattle.timetable.specs.Words.{stopCount, stationAt, stopPlace, stopAt, startAt, tripAt, numberAt, timetableOf}
+use Rattle.timetable.specs.Words.{rise, chained, isTimetable}
 use Rattle.timetable.specs.Check.{rise-most}
 use Rattle.timetable.specs.Access.{spelled-valid, is-chained}
 use Rattle.accepted.specs.Valid.{is-valid}
@@ -140,13 +141,31 @@ module _ (w : List ℕ) where
       rw (take-start j (suc n) (omega arith), trip-end j up)
       (ap (λ r. a ∷ r) (starts-chained (suc j) n on (omega arith)))
 
+  -- ---- the numbers of the trips
+  abbrev numbersPlace : ℕ
+  numbersPlace = stopPlace w (stopCount w) + (tripCount w + 1)
+
+  numbers-back : (k n : ℕ) → numbersPlace + k + n ≤ length w
+      → map (numberAt w) (range k n) ≡ take n (drop (numbersPlace + k) w)
+  unfolding numberAt
+  numbers-back k zero h = refl
+  numbers-back k (suc n) h =
+      let place : numbersPlace + k + 1 ≡ numbersPlace + suc k = omega arith in
+      rw (take-one w (numbersPlace + k) n (omega arith), place)
+      (ap (λ r. getD w (numbersPlace + k) 0 ∷ r) (numbers-back (suc k) n (omega arith)))
+
 -- ---- the whole
 take-three : (w : List ℕ) → 3 ≤ length w → take 3 w ≡ getD w 0 0 ∷ getD w 1 0 ∷ getD w 2 0 ∷ []
 take-three w h = take-one w 0 2 (omega arith) ∙ rw (take-one w 1 1 (omega arith), take-one w 2 0 (omega arith))
 
-take-parts : (w : List ℕ) (a b c d : ℕ) → take (a + b + c + d) w
-    ≡ take a w ++ take b (drop a w) ++ take c (drop (a + b) w) ++ take d (drop (a + b + c) w)
-take-parts w a b c d = rw (take-add (a + b + c) d w, take-add (a + b) c w, take-add a b w)
+take-parts : (w : List ℕ) (a b c d e : ℕ) → take (a + b + c + d + e) w
+    ≡ take a w
+    ++ take b (drop a w)
+    ++ take c (drop (a + b) w)
+    ++ take d (drop (a + b + c) w)
+    ++ take e (drop (a + b + c + d) w)
+take-parts w a b c d e =
+    rw (take-add (a + b + c + d) e w, take-add (a + b + c) d w, take-add (a + b) c w, take-add a b w)
 
 module _ (w : List ℕ) (c : chained w ≡ true) where
   first-start : startAt w 0 ≡ 0
@@ -192,6 +211,13 @@ module _ (w : List ℕ) (c : chained w ≡ true) where
         let starts = starts-chained w 0 (tripCount w) rises (omega arith) in
         rw (first-start, add-zero) at starts
 
+    number-part : timetableOf w .numbers
+        ≡ take (tripCount w) (drop (3 + 2 * stationCount w + 4 * stopCount w + suc (tripCount w)) w)
+    unfolding timetableOf
+    number-part =
+        let place : numbersPlace w + 0 ≡ 3 + 2 * stationCount w + 4 * stopCount w + suc (tripCount w) = omega arith in
+        rw (← place) (numbers-back w 0 (tripCount w) (omega arith))
+
     pub own-words : words (timetableOf w) ≡ take (wordsCount (stationCount w) (tripCount w) (stopCount w)) w
     unfolding words
     own-words =
@@ -202,7 +228,8 @@ module _ (w : List ℕ) (c : chained w ≡ true) where
           station-part,
           stop-part,
           start-part,
-          take-parts w 3 (2 * stationCount w) (4 * stopCount w) (suc (tripCount w)),
+          number-part,
+          take-parts w 3 (2 * stationCount w) (4 * stopCount w) (suc (tripCount w)) (tripCount w),
           take-three w (omega arith),
         )
 

@@ -1,6 +1,6 @@
 -- When a line has a yes to each question put to it: the facts that the questions ask for, in both directions.
 use mathlib.Core.Path.{ap, _≡_, refl}
-use mathlib.Core.Bool.{Bool, true, false, not, cond, _&&_, _||_}
+use mathlib.Core.Bool.{Bool, true, false, not, cond, _&&_, _||_, false≢true}
 use mathlib.Core.List.{List, _∷_}
 use Prim.Native.Nat.{ℕ, suc, _+_, _≤_, _<_}
 use lib.Dec.{leb, ltb, eqb, leb·zero}
@@ -12,9 +12,11 @@ use Rattle.text.specs.Shape.{shapeBy}
 use Rattle.text.specs.declared.StationLine.{StationLine}
 use Rattle.text.specs.declared.StopLine.{StopLine}
 use Rattle.timetable.specs.Timetable.{lastMinute, stationsMost, tripsMost, stopsMost}
-use Rattle.reading.specs.Draft.{Draft, withLine}
-use Rattle.reading.specs.Progress.{progress, stationNumberAt, stopFitsAt, stopNumberAt, lineNumberAt, same-number}
-use Rattle.reading.specs.Reading.{Refused, readBy}
+use Rattle.reading.specs.Draft.{Draft, Rules, textRules, withLine}
+use Rattle.reading.specs.Draft.{extraStation}
+use Rattle.reading.specs.Progress.{progress, stationNumberAt, stopFitsAt, stopNumberAt, extraStopAt, lineNumberAt}
+use Rattle.reading.specs.Progress.{same-number}
+use Rattle.reading.specs.Reading.{Refused, readUnder}
 use Rattle.reading.specs.declared.Progress.{Progress}
 
 -- "In range? 3. In place: .. ? 4. Within the three counts? 5"
@@ -26,16 +28,22 @@ pub record StationPasses (p : Progress) (l : StationLine) : Type 0 where
   pub number : l .number ≡ p .stations + 1
   pub count : p .stations < stationsMost
 
--- .. and "For stops: ..? 6"
-pub record StopPasses (p : Progress) (l : StopLine) : Type 0 where
+-- .. and "For stops: ..? 6". So many trips and stops as the rules say run already.
+pub record StopPasses (r : Rules) (p : Progress) (l : StopLine) : Type 0 where
   pub arrive : l .arrive ≤ lastMinute
   pub depart : l .depart ≤ lastMinute
   pub points : l .points ≤ 100
-  pub trip : l .trip ≡ p .trips + 1
   pub stop : l .stop ≡ p .begun + 1
-  pub trips : p .trips < tripsMost
-  pub stops : p .stops < stopsMost
+  pub trips : r .trips + p .trips < tripsMost
+  pub stops : r .stops + p .stops < stopsMost
   pub fits : stopFitsAt p l ≡ true
+
+-- a line of an extra trip: "the number free from 1 to 9,999 (0 in a line gives 3). A line of another number gives 4"
+pub record ExtraPasses (r : Rules) (p : Progress) (l : StopLine) : Type 0 where
+  pub least : 1 ≤ l .trip
+  pub trip : l .trip ≡ r .number
+  pub alone : p .trips ≡ 0
+  pub passes : StopPasses r p l
 
 -- ---- no question has a no: this one has its yes, and so do those after it. Its number is `suc before`.
 this-yes : (before : ℕ) (answer : Bool) (rest : ℕ) → cond answer rest (suc before) ≡ 0 → answer ≡ true
@@ -66,26 +74,53 @@ module _ (p : Progress) (l : StationLine) where
   station-passed e =
       search (this-yes 2, later-yes 2, this-yes 3, later-yes 3, this-yes 4, and-left, and-right, leb-true, eqb-true)
 
+-- a station is no line of an extra trip
+pub station-refused : (l : StationLine) → extraStation l ≡ 0 → ⊥
+unfolding extraStation
+station-refused l e = let no : false ≡ true = search (later-yes 2, this-yes 3) in false≢true no
+
 -- ---- a stop line
 module _ (p : Progress) (l : StopLine) where
-  pub stop-passes : StopPasses p l → stopNumberAt p l ≡ 0
-  unfolding stopNumberAt inRange
-  stop-passes h =
-      simp (
-        leb·zero,
-        le-leb (l .arrive) lastMinute (h .arrive),
-        le-leb (l .depart) lastMinute (h .depart),
-        le-leb (l .points) 100 (h .points),
-        eq-eqb (l .trip) (p .trips + 1) (h .trip),
-        eq-eqb (l .stop) (p .begun + 1) (h .stop),
-        lt-ltb (p .trips) tripsMost (h .trips),
-        lt-ltb (p .stops) stopsMost (h .stops),
-        h .fits,
-      )
-
-  pub stop-passed : stopNumberAt p l ≡ 0 → StopPasses p l
+  pub stop-passed : stopNumberAt p l ≡ 0 → StopPasses textRules p l
   unfolding stopNumberAt inRange
   stop-passed e =
+      let room : ltb (p .trips) tripsMost && ltb (p .stops) stopsMost ≡ true =
+      search (later-yes 2, later-yes 3, this-yes 4) in
+      let trips : p .trips < tripsMost = search (and-left, ltb-true) in
+      let stops : p .stops < stopsMost = search (and-right, ltb-true) in
+      record {
+        arrive = search (this-yes 2, and-left, and-right, leb-true);
+        depart = search (this-yes 2, and-left, and-right, leb-true);
+        points = search (this-yes 2, and-right, leb-true);
+        stop = search (later-yes 2, this-yes 3, and-right, eqb-true);
+        trips = omega arith;
+        stops = omega arith;
+        fits = search (later-yes 2, later-yes 3, later-yes 4, this-yes 5);
+      }
+
+-- ---- a stop line of an extra trip
+module _ (r : Rules) (p : Progress) (l : StopLine) where
+  pub extra-passes : ExtraPasses r p l → extraStopAt r p l ≡ 0
+  unfolding extraStopAt inRange
+  extra-passes h =
+      let s = h .passes in
+      simp (
+        leb·zero,
+        le-leb 1 (l .trip) (h .least),
+        le-leb (l .arrive) lastMinute (s .arrive),
+        le-leb (l .depart) lastMinute (s .depart),
+        le-leb (l .points) 100 (s .points),
+        eq-eqb (l .trip) (r .number) (h .trip),
+        eq-eqb (p .trips) 0 (h .alone),
+        eq-eqb (l .stop) (p .begun + 1) (s .stop),
+        lt-ltb (r .trips + p .trips) tripsMost (s .trips),
+        lt-ltb (r .stops + p .stops) stopsMost (s .stops),
+        s .fits,
+      )
+
+  pub extra-passed : extraStopAt r p l ≡ 0 → ExtraPasses r p l
+  unfolding extraStopAt inRange
+  extra-passed e =
       search (
         this-yes 2,
         later-yes 2,
@@ -97,6 +132,7 @@ module _ (p : Progress) (l : StopLine) where
         and-left,
         and-right,
         leb-true,
+        ltb-true,
         eqb-true,
       )
 
@@ -147,13 +183,13 @@ module _ (p : Progress) (l : StopLine) where
       }
 
 -- ---- reading goes on behind such a line
-pub read-more : (time : List ℕ → ℕ) (d : Draft) (k : ℕ) (s u : List ℕ) (l : List (List ℕ))
-    → readBy time d k (s ∷ u ∷ l)
-    ≡ cond (eqb (lineNumberAt (progress d) (shapeBy time s)) 0)
-    (readBy time (withLine d (shapeBy time s)) (k + 1) (u ∷ l))
-    (Refused (lineNumberAt (progress d) (shapeBy time s)) k)
-unfolding readBy
-read-more time d k s u l =
+pub read-more : (r : Rules) (time : List ℕ → ℕ) (d : Draft) (k : ℕ) (s u : List ℕ) (l : List (List ℕ))
+    → readUnder r time d k (s ∷ u ∷ l)
+    ≡ cond (eqb (lineNumberAt r (progress d) (shapeBy time s)) 0)
+    (readUnder r time (withLine d (shapeBy time s)) (k + 1) (u ∷ l))
+    (Refused (lineNumberAt r (progress d) (shapeBy time s)) k)
+unfolding readUnder
+read-more r time d k s u l =
     ap
-    (λ n. cond (eqb n 0) (readBy time (withLine d (shapeBy time s)) (k + 1) (u ∷ l)) (Refused n k))
-    (same-number d (shapeBy time s))
+    (λ n. cond (eqb n 0) (readUnder r time (withLine d (shapeBy time s)) (k + 1) (u ∷ l)) (Refused n k))
+    (same-number r d (shapeBy time s))

@@ -1,13 +1,14 @@
--- Question 9: "Could the timetable words come from an accepted text?" The test isTimetable has a yes exactly for the
--- words that do, and what reading wrote, with number 0, always has its yes. This is for a reader, as `question9`,
--- `read-comes`, `read-again` and `zero-has-yes` say it.
+-- Question 9: "Could the timetable words come from an accepted text?", which since document 02, Eleven, "admit[s] gaps
+-- and count[s] no bytes": are they those of a timetable that some sequence of reading, cancelling and adding leads to?
+-- The test isTimetable has a yes exactly for the words that are, and what reading wrote, with number 0, always has its
+-- yes. This is for a reader, as `question9`, `read-leads` and `zero-has-yes` say it; `LedTo` stands in Led.
 use mathlib.Core.Path.{_≡_, refl, sym, ap, subst, _∙_}
-use mathlib.Core.Bool.{Bool, true, false, cond, _&&_}
+use mathlib.Core.Bool.{Bool, true, false, cond}
 use mathlib.Core.Logic.{_↔_}
 use mathlib.Core.List.{List, [], _∷_, _++_}
 use Prim.Native.Nat.{ℕ, zero, suc, _+_, _-_, _≤_}
 use lib.Dec.{leb, eqb, eqb·suc-zero}
-use lib.ListN.{length, take, drop, take-append-drop}
+use lib.ListN.{length, drop, take-append-drop}
 use lib.Seq.{take-append-seam}
 use native.Mathlib.Nat.{zero-add}
 use native.Mathlib.Omega.{arith}
@@ -23,64 +24,44 @@ use Rattle.timetable.specs.Words.{words, timetableOf, isTimetable}
 use Rattle.timetable.specs.Access.{spelled-valid}
 use Rattle.reading.specs.declared.Reply.{Reply}
 use Rattle.reading.specs.declared.Reply.the-variants.{Refused as ReplyRefused}
-use Rattle.reading.specs.Draft.{Draft, blank, withLine}
+use Rattle.reading.specs.Draft.{Draft, textRules, blank, withLine}
 use Rattle.reading.specs.Progress.{progress, lineNumberAt}
-use Rattle.reading.specs.Reading.{Outcome, Accepted, Refused, ended, readBy, readFrom, textMost, readLines}
-use Rattle.reading.specs.Reading.{reading}
-use Rattle.reading.specs.Reading.{slicesLeast, replyTo, readReply, readWords, numberOf}
+use Rattle.reading.specs.Reading.{Outcome, Accepted, Refused, complete, ended, readUnder, readFrom, textMost, readLines}
+use Rattle.reading.specs.Reading.{reading, slicesLeast, replyTo, readReply, readWords, numberOf}
+use Rattle.accepted.specs.Valid.{is-valid}
 use Rattle.accepted.specs.Passes.{read-more}
-use Rattle.accepted.specs.WrittenOut.{linesOf, textOf}
-use Rattle.accepted.specs.TextReadBack.{text-bytes, text-short}
-use Rattle.accepted.specs.Taken.{valid-accepted}
-use Rattle.accepted.specs.Sound.{accepted-valid, accepted-short}
+use Rattle.accepted.specs.Sound.{accepted-valid}
 use Rattle.accepted.specs.Spelled.{words-spell, words-chained}
 use Rattle.accepted.specs.OwnWords.{yes-begins}
+use Rattle.accepted.specs.Kept.{wholeOf}
+use Rattle.accepted.specs.Led.{by-reading, LedTo}
+use Rattle.accepted.specs.Leads.{led-valid, valid-led}
 
--- Some text of at most 65,536 bytes is accepted by reading, and the words w begin with those of its timetable: "no
--- question judges the words past a table".
-pub record ComesFromText (w : List ℕ) : Type 0 where
-  pub text : List ℕ
-  pub bytes : Below 256 text
-  pub short : length text ≤ textMost
-  pub timetable : Timetable
-  pub lines : ℕ
-  pub accepted : reading text ≡ Accepted timetable lines
-  pub leads : take (length (words timetable)) w ≡ words timetable
-
--- ---- from the test to a text: the text written out from the timetable that the words spell
-yes-comes : (w : List ℕ) → slicesLeast ≤ length w → isTimetable w ≡ true → ComesFromText w
-yes-comes w h y =
-    let v = spelled-valid w y in
+-- ---- from the test to a timetable that is led to: the one that the words spell
+yes-led : (w : List ℕ) → slicesLeast ≤ length w → isTimetable w ≡ true → LedTo w
+yes-led w h y =
     record {
-      text = textOf (timetableOf w);
-      bytes = text-bytes (timetableOf w) v;
-      short = text-short (timetableOf w) v;
       timetable = timetableOf w;
-      lines = length (linesOf (timetableOf w));
-      accepted = valid-accepted (timetableOf w) v;
+      led = valid-led (timetableOf w) (spelled-valid w y);
       leads = yes-begins w y (omega arith);
     }
 
--- ---- from a text to the test
+-- ---- and back
 pub valid-yes : (t : Timetable) (rest : List ℕ) → valid t ≡ true → isTimetable (words t ++ rest) ≡ true
 unfolding isTimetable
-valid-yes t rest v = and-both _ _ (words-chained t rest) (rw (words-spell t rest) v)
+valid-yes t rest v = and-both _ _ (words-chained t rest) (rw (words-spell t rest (is-valid t v .numbers)) v)
 
-behind : (w : List ℕ) → ComesFromText w → List ℕ
-behind w c = drop (length (words (c .timetable))) w
-
-begins : (w : List ℕ) (c : ComesFromText w) → w ≡ words (c .timetable) ++ behind w c
-unfolding behind
-begins w c = sym (take-append-drop (length (words (c .timetable))) w) ∙ ap (λ r. r ++ behind w c) (c .leads)
-
-comes-yes : (w : List ℕ) → ComesFromText w → isTimetable w ≡ true
-comes-yes w c =
-    rw (begins w c)
-    (valid-yes (c .timetable) (behind w c) (accepted-valid (c .text) (c .timetable) (c .lines) (c .accepted)))
+led-yes : (w : List ℕ) → LedTo w → isTimetable w ≡ true
+led-yes w c =
+    let t = c .timetable in
+    let behind = drop (length (words t)) w in
+    let begins : w ≡ words t ++ behind =
+    sym (take-append-drop (length (words t)) w) ∙ ap (λ r. r ++ behind) (c .leads) in
+    subst (λ z. isTimetable z ≡ true) (sym begins) (valid-yes t behind (led-valid (c .led)))
 
 -- ---- the theorem
-pub question9 : (w : List ℕ) → slicesLeast ≤ length w → isTimetable w ≡ true ↔ ComesFromText w
-question9 w h = (yes-comes w h, comes-yes w)
+pub question9 : (w : List ℕ) → slicesLeast ≤ length w → isTimetable w ≡ true ↔ LedTo w
+question9 w h = (yes-led w h, led-yes w)
 
 -- ---- what reading wrote, with number 0
 module _ (text : List ℕ) (t : Timetable) (n : ℕ) (e : reading text ≡ Accepted t n) where
@@ -90,15 +71,11 @@ module _ (text : List ℕ) (t : Timetable) (n : ℕ) (e : reading text ≡ Accep
   read-writes old h = rw (le-leb 16384 (length old) h, e, zero-add)
 
   module _ (old : List ℕ) (h : slicesLeast ≤ length old) where
-    pub read-comes : Below 256 text → ComesFromText (readWords text old)
-    read-comes b =
+    pub read-leads : Below 256 text → LedTo (readWords text old)
+    read-leads b =
         record {
-          text = text;
-          bytes = b;
-          short = accepted-short text t n e;
           timetable = t;
-          lines = n;
-          accepted = e;
+          led = by-reading text t n b e;
           leads = rw (read-writes old h) (take-append-seam (words t) (drop (length (words t)) old));
         }
 
@@ -107,12 +84,9 @@ module _ (text : List ℕ) (t : Timetable) (n : ℕ) (e : reading text ≡ Accep
 
     -- it spells the timetable of the text
     pub read-spells : timetableOf (readWords text old) ≡ t
-    read-spells = rw (read-writes old h) (words-spell t (drop (length (words t)) old))
-
--- words that come from a text are those that reading it writes: read into them, it leaves them as they are
-pub read-again : (w : List ℕ) (c : ComesFromText w) → slicesLeast ≤ length w → readWords (c .text) w ≡ w
-unfolding behind
-read-again w c h = read-writes (c .text) (c .timetable) (c .lines) (c .accepted) w h ∙ sym (begins w c)
+    read-spells =
+        let many = is-valid t (accepted-valid text t n e) .numbers in
+        rw (read-writes old h) (words-spell t (drop (length (words t)) old) many)
 
 -- ---- no refusal has number 0, so that a reply with number 0 has an accepted text
 abbrev Numbered : Outcome → Type 0
@@ -127,22 +101,20 @@ line-numbered : (number line : ℕ) (x : Outcome) → Numbered x → Numbered (c
 line-numbered zero line x h = h
 line-numbered (suc n) line x h = rw (eqb·suc-zero n) (omega arith)
 
-end-numbered : (d : Draft) (line : ℕ) → Numbered (ended d line)
+end-numbered : (d : Draft) (line : ℕ) → Numbered (ended textRules d line)
 unfolding ended
 end-numbered d line =
-    let whole : Timetable = record { stations = d .stations; trips = d .trips } in
-    either-numbered (leb 1 (length (d .stations)) && eqb (length (d .begun)) 0)
-    (Accepted whole (line - 1)) (Refused 7 line) tt (omega arith)
+    either-numbered (complete textRules d) (Accepted (wholeOf textRules d) (line - 1)) (Refused 7 line) tt (omega arith)
 
 from-numbered : (d : Draft) (line : ℕ) (l : List (List ℕ)) → Numbered (readFrom d line l)
-unfolding readBy
+unfolding readUnder
 from-numbered d line [] = end-numbered d line
 from-numbered d line (s ∷ []) =
-    either-numbered (eqb (length s) 0) (ended d line) (Refused 2 line) (end-numbered d line) (omega arith)
+    either-numbered (eqb (length s) 0) (ended textRules d line) (Refused 2 line) (end-numbered d line) (omega arith)
 from-numbered d line (s ∷ u ∷ l) =
-    let number = lineNumberAt (progress d) (shapeOf s) in
+    let number = lineNumberAt textRules (progress d) (shapeOf s) in
     let after = withLine d (shapeOf s) in
-    subst Numbered (sym (read-more timeValue d line s u l))
+    subst Numbered (sym (read-more textRules timeValue d line s u l))
     (line-numbered number line (readFrom after (line + 1) (u ∷ l)) (from-numbered after (line + 1) (u ∷ l)))
 
 reading-numbered : (text : List ℕ) → Numbered (reading text)

@@ -1,13 +1,13 @@
--- What a line's shape says of its empty fields: "Arrive is empty exactly at stop 1. Depart and ride penalty are empty
--- together, only at a trip's last stop and never at stop 1." An empty field is 0.
+-- What a line's shape says of its trip's number, and of its empty fields: "Arrive is empty exactly at stop 1. Depart
+-- and ride penalty are empty together, only at a trip's last stop and never at stop 1." An empty field is 0.
 use mathlib.Core.Path.{_≡_, refl}
 use mathlib.Core.Bool.{Bool, true, false, not, cond, _&&_}
 use mathlib.Core.List.{List}
-use Prim.Native.Nat.{ℕ}
+use Prim.Native.Nat.{ℕ, _≤_}
 use lib.Dec.{eqb}
-use borrow.Author.Tests.{eq-eqb, eqb-false, not-true}
+use borrow.Author.Tests.{leb-true, eq-eqb, eqb-false, not-true}
 use Rattle.lists.specs.Tests.{and-left, and-right}
-use Rattle.text.specs.Number.{emptyField}
+use Rattle.text.specs.Number.{emptyField, isNumber}
 use Rattle.text.specs.Shape.{stationOf, stationShape, arriveFits, departFits, filled, stopOf, stopShape, shapeBy}
 use Rattle.text.specs.declared.Line.{Line}
 use Rattle.text.specs.declared.Line.the-variants.{Station as StationIn, Stop as StopIn, Shapeless}
@@ -16,12 +16,13 @@ use Rattle.text.specs.declared.StopLine.{StopLine}
 
 -- a stop line
 pub record ShapedStop (l : StopLine) : Type 0 where
+  pub trip : l .trip ≤ 9999
   pub first : l .stop ≡ 1 → l .arrive ≡ 0
   pub inner : l .last ≡ true → l .stop ≡ 1 → ⊥
   pub depart : l .last ≡ true → l .depart ≡ 0
   pub points : l .last ≡ true → l .points ≡ 0
 
--- any line; only a stop line has fields that may be empty
+-- any line; only a stop line has a trip and fields that may be empty
 unfoldable pub Shaped : Line → Type 0
 Shaped (StationIn l) = Unit {0}
 Shaped (StopIn l) = ShapedStop l
@@ -47,8 +48,13 @@ module _ (stop depart points : ℕ) (e : departFits stop depart points ≡ true)
   points-empty : filled points ≡ 0
   points-empty = let w = depart-empty in filled-empty points (search (and-right))
 
-fields-shaped : (trip stop station arrive depart points : ℕ) (other : Bool)
-    → (other && arriveFits stop arrive && departFits stop depart points) ≡ true
+fields-shaped : (trip stop station arrive depart points : ℕ)
+    → (isNumber trip
+    && isNumber stop
+    && isNumber station
+    && arriveFits stop arrive
+    && departFits stop depart points)
+    ≡ true
     → ShapedStop (record {
       trip = trip;
       stop = stop;
@@ -58,8 +64,9 @@ fields-shaped : (trip stop station arrive depart points : ℕ) (other : Bool)
       points = filled points;
       last = eqb depart emptyField;
     })
-fields-shaped trip stop station arrive depart points other e =
+fields-shaped trip stop station arrive depart points e =
     record {
+      trip = search (and-left, leb-true);
       first = arrive-empty stop arrive (search (and-left, and-right));
       inner = λ h. depart-inner stop depart points (search (and-left, and-right)) h;
       depart = λ h. filled-empty depart h;

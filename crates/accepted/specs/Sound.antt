@@ -1,46 +1,46 @@
 -- Whatever text is accepted, its timetable is valid: each line that has a yes to all questions keeps the draft sound,
 -- so that its stations and ended trips are valid, and the trip that has begun is valid as far as it goes.
-use mathlib.Core.Path.{_≡_, refl, sym, subst, _∙_}
-use mathlib.Core.Bool.{Bool, true, false, cond, _&&_}
+use mathlib.Core.Path.{_≡_, refl, subst}
+use mathlib.Core.Bool.{Bool, true, false}
 use mathlib.Core.Logic.{inl, inr}
 use mathlib.Core.List.{List, [], _∷_, _++_, append-nil}
-use Prim.Native.Nat.{ℕ, _+_, _-_, _≤_, _<_}
-use lib.Dec.{leb, eqb}
+use Prim.Native.Nat.{ℕ, zero, suc, _+_, _≤_, _<_}
+use lib.Dec.{leb}
 use lib.ListN.{length, length-append}
 use native.Mathlib.Nat.{eq-zero-or-pos}
 use native.Mathlib.Omega.{arith}
-use borrow.Author.Tests.{leb-true, eqb-true, le-leb, lt-ltb, eq-eqb}
+use borrow.Author.Tests.{leb-true, le-leb, lt-ltb, eq-eqb}
+use Rattle.lists.specs.Lists.{range}
+use Rattle.lists.specs.Ranges.{length-range}
 use Rattle.lists.specs.Tests.{and-left, or-other}
 use Rattle.text.specs.Piece.{pieces}
 use Rattle.text.specs.Time.{timeValue}
-use Rattle.text.specs.Shape.{shapeBy}
 use Rattle.text.specs.declared.Line.{Line}
 use Rattle.text.specs.declared.Line.the-variants.{Station as StationIn, Stop as StopIn, Shapeless}
 use Rattle.text.specs.declared.StationLine.{StationLine}
 use Rattle.text.specs.declared.StopLine.{StopLine}
-use Rattle.timetable.specs.Timetable.{stationsMost, tripsMost, stopsMost, lastMinute, Trip, Timetable, stopsOf}
-use Rattle.timetable.specs.Timetable.{validStation, listed, leaves, ends, follows, validTrip, validStations, validTrips}
-use Rattle.timetable.specs.Timetable.{counted, valid}
+use Rattle.timetable.specs.Timetable.{stationsMost, tripsMost, stopsMost, numberMost, lastMinute, Trip, Timetable}
+use Rattle.timetable.specs.Timetable.{stopsOf, validStation, listed, leaves, ends, follows, validTrip, validStations}
+use Rattle.timetable.specs.Timetable.{validTrips, climb, valid}
 use Rattle.timetable.specs.WordLaws.{stopsOf-append}
-use Rattle.reading.specs.Draft.{Draft, blank, final, stationOfLine, stopOfLine, withStop}
-use Rattle.reading.specs.Progress.{progress, lineNumberAt}
-use Rattle.reading.specs.Draft.{withLine}
-use Rattle.reading.specs.Reading.{textMost, Outcome, Accepted, Refused, ended, readBy, readFrom}
-use Rattle.reading.specs.Reading.{readLines, reading}
+use Rattle.reading.specs.Draft.{Draft, Rules, textRules, blank, final, stationOfLine, stopOfLine, withStop, withLine}
+use Rattle.reading.specs.Progress.{progress, stationNumberAt, lineNumberAt}
+use Rattle.reading.specs.Reading.{textMost, Accepted, readBy, readFrom, readLines, reading}
 use Rattle.accepted.specs.Lists.{snoc-length}
-use Rattle.accepted.specs.Valid.{trip-not-empty}
+use Rattle.accepted.specs.Valid.{valid-is, trip-not-empty}
 use Rattle.accepted.specs.Passes.{StopPasses, station-passed, stop-passed, fits-least, fits-most, fits-after}
-use Rattle.accepted.specs.Passes.{read-more}
 use Rattle.accepted.specs.SoFar.{validSoFar, stations-more, trips-more, trip-so-far, first-so-far, trip-to-end}
-use Rattle.accepted.specs.Shaped.{ShapedStop, Shaped, shaped}
+use Rattle.accepted.specs.Shaped.{ShapedStop, Shaped}
+use Rattle.accepted.specs.Kept.{accepted-test, accepted-yes, wholeOf, lines-kept}
 
-record Sound (d : Draft) : Type 0 where
-  stations : length (d .stations) ≤ stationsMost
-  trips : length (d .trips) ≤ tripsMost
-  stops : length (stopsOf (d .trips) ++ d .begun) ≤ stopsMost
-  each-station : validStations (d .stations) ≡ true
-  each-trip : validTrips (length (d .stations)) (d .trips) ≡ true
-  begun : validSoFar (length (d .stations)) (d .begun) ≡ true
+-- So many trips and stops as the rules say run already.
+pub record Sound (r : Rules) (d : Draft) : Type 0 where
+  pub stations : length (d .stations) ≤ stationsMost
+  pub trips : r .trips + length (d .trips) ≤ tripsMost
+  pub stops : r .stops + length (stopsOf (d .trips) ++ d .begun) ≤ stopsMost
+  pub each-station : validStations (d .stations) ≡ true
+  pub each-trip : validTrips (length (d .stations)) (d .trips) ≡ true
+  pub begun : validSoFar (length (d .stations)) (d .begun) ≡ true
 
 -- ---- a station line: no trip has begun, so that the stations may still change
 no-trips : (n m : ℕ) (l : List Trip) → length (stopsOf l) ≡ 0 → validTrips n l ≡ true → validTrips m l ≡ true
@@ -54,8 +54,8 @@ unfolding validSoFar
 none-begun n [] e = refl
 none-begun n (b ∷ t) e = absurd (omega arith)
 
-station-line : (d : Draft) (l : StationLine) → lineNumberAt (progress d) (StationIn l) ≡ 0 → Sound d
-    → Sound (withLine d (StationIn l))
+station-line : (d : Draft) (l : StationLine) → stationNumberAt (progress d) l ≡ 0 → Sound textRules d
+    → Sound textRules (withLine d (StationIn l))
 unfolding validStation
 station-line d l e h =
     let p = station-passed (progress d) l e in
@@ -73,11 +73,9 @@ station-line d l e h =
     }
 
 -- ---- a stop line
-module _ (d : Draft) (l : StopLine) (e : lineNumberAt (progress d) (StopIn l) ≡ 0) (shape : ShapedStop l) (h : Sound d)
+module _ (r : Rules) (d : Draft) (l : StopLine) (passes : StopPasses r (progress d) l) (shape : ShapedStop l)
+    (h : Sound r d)
   where
-    abbrev passes : StopPasses (progress d) l
-    passes = stop-passed (progress d) l e
-
     stop-listed : listed (length (d .stations)) (stopOfLine l) ≡ true
     unfolding listed
     stop-listed =
@@ -127,10 +125,10 @@ module _ (d : Draft) (l : StopLine) (e : lineNumberAt (progress d) (StopIn l) �
           | inr some ↦ trip-to-end _ _ (d .begun) some (h .begun) (stop-follows some) (stop-ends last)
         ]
 
-    one-more : length (stopsOf (d .trips)) + (length (d .begun) + 1) ≤ stopsMost
+    one-more : r .stops + (length (stopsOf (d .trips)) + (length (d .begun) + 1)) ≤ stopsMost
     one-more = omega (arith, length-append (stopsOf (d .trips)) (d .begun), passes .stops)
 
-    with-stop : (last : Bool) → l .last ≡ last → Sound (withStop d (stopOfLine l) last)
+    pub with-stop : (last : Bool) → l .last ≡ last → Sound r (withStop d (stopOfLine l) last)
     unfolding validSoFar
     with-stop true last =
         record {
@@ -151,15 +149,16 @@ module _ (d : Draft) (l : StopLine) (e : lineNumberAt (progress d) (StopIn l) �
           begun = goes-on on;
         }
 
--- ---- any line, and all lines
-sound-line : (d : Draft) (line : Line) → Shaped line → lineNumberAt (progress d) line ≡ 0 → Sound d
-    → Sound (withLine d line)
+-- ---- any line of a text, and all lines
+sound-line : (d : Draft) (line : Line) → Shaped line → lineNumberAt textRules (progress d) line ≡ 0
+    → Sound textRules d → Sound textRules (withLine d line)
 unfolding Shaped
 sound-line d (StationIn l) shape e h = station-line d l e h
-sound-line d (StopIn l) shape e h = with-stop d l e shape h (l .last) refl
+sound-line d (StopIn l) shape e h =
+    with-stop textRules d l (stop-passed (progress d) l e) shape h (l .last) refl
 sound-line d Shapeless shape e h = absurd (omega arith)
 
-sound-blank : Sound blank
+sound-blank : Sound textRules blank
 unfolding validStations validTrips validSoFar
 sound-blank =
     record {
@@ -171,60 +170,39 @@ sound-blank =
       begun = refl;
     }
 
--- what is accepted had a yes
-accepted-test : (test : Bool) (x : Outcome) (k l : ℕ) (t : Timetable) (n : ℕ)
-    → cond test x (Refused k l) ≡ Accepted t n → test ≡ true
-accepted-test true x k l t n e = refl
-accepted-test false x k l t n e = cc
-
-pub accepted-yes : (test : Bool) (x : Outcome) (k l : ℕ) (t : Timetable) (n : ℕ)
-    → cond test x (Refused k l) ≡ Accepted t n → x ≡ Accepted t n
-accepted-yes true x k l t n e = e
-accepted-yes false x k l t n e = cc
-
-draft-valid : (d : Draft) → Sound d → 1 ≤ length (d .stations)
-    → valid (record { stations = d .stations; trips = d .trips }) ≡ true
-unfolding valid counted
-draft-valid d h some =
-    let all = length-append (stopsOf (d .trips)) (d .begun) in
+-- "trips 1, 2, 3..": the numbers of a text's trips rise
+climb-range : (a n : ℕ) → a + n ≤ numberMost → climb a (range (suc a) n) ≡ true
+unfolding climb
+climb-range a zero h = refl
+climb-range a (suc n) h =
     simp (
-      le-leb 1 (length (d .stations)) some,
-      le-leb (length (d .stations)) stationsMost (h .stations),
-      le-leb (length (d .trips)) tripsMost (h .trips),
-      le-leb (length (stopsOf (d .trips))) stopsMost (omega arith),
-      h .each-station,
-      h .each-trip,
+      lt-ltb a (suc a) (omega arith),
+      le-leb (suc a) numberMost (omega arith),
+      climb-range (suc a) n (omega arith),
     )
 
-ended-valid : (d : Draft) (line : ℕ) (t : Timetable) (n : ℕ) → Sound d → ended d line ≡ Accepted t n → valid t ≡ true
-unfolding ended
-ended-valid d line t n h e =
-    let test : Bool = leb 1 (length (d .stations)) && eqb (length (d .begun)) 0 in
-    let whole : Timetable = record { stations = d .stations; trips = d .trips } in
-    let yes : test ≡ true = accepted-test test (Accepted whole (line - 1)) 7 line t n e in
-    let it : Accepted whole (line - 1) ≡ Accepted t n = accepted-yes test (Accepted whole (line - 1)) 7 line t n e in
-    let same : whole ≡ t = cc it in
-    subst (λ z. valid z ≡ true) same (draft-valid d h (search (and-left, leb-true)))
-
-accepted-from : (time : List ℕ → ℕ) (d : Draft) (line : ℕ) (l : List (List ℕ)) (t : Timetable) (n : ℕ) → Sound d
-    → readBy time d line l ≡ Accepted t n → valid t ≡ true
-unfolding readBy
-accepted-from time d line [] t n h e = ended-valid d line t n h e
-accepted-from time d line (s ∷ []) t n h e =
-    ended-valid d line t n h (accepted-yes (eqb (length s) 0) (ended d line) 2 line t n e)
-accepted-from time d line (s ∷ u ∷ l) t n h e =
-    let number = lineNumberAt (progress d) (shapeBy time s) in
-    let rest = readBy time (withLine d (shapeBy time s)) (line + 1) (u ∷ l) in
-    let reads = sym (read-more time d line s u l) ∙ e in
-    accepted-from time (withLine d (shapeBy time s)) (line + 1) (u ∷ l) t n
-    (sound-line d (shapeBy time s) (shaped time s)
-    (eqb-true number 0 (accepted-test (eqb number 0) rest number line t n reads)) h)
-    (accepted-yes (eqb number 0) rest number line t n reads)
+draft-valid : (d : Draft) → Sound textRules d → 1 ≤ length (d .stations) → valid (wholeOf textRules d) ≡ true
+draft-valid d h some =
+    let all = length-append (stopsOf (d .trips)) (d .begun) in
+    valid-is (wholeOf textRules d)
+    (record {
+      least = some;
+      stations = h .stations;
+      trips = omega (arith, h .trips);
+      stops = omega (arith, h .stops);
+      numbers = length-range 1 (length (d .trips));
+      climbs = climb-range 0 (length (d .trips)) (omega (arith, h .trips));
+      each-station = h .each-station;
+      each-trip = h .each-trip;
+    })
 
 -- whatever reads the times
 pub lines-valid : (time : List ℕ → ℕ) (lines : List (List ℕ)) (t : Timetable) (n : ℕ)
     → readBy time blank 1 lines ≡ Accepted t n → valid t ≡ true
-lines-valid time lines t n e = accepted-from time blank 1 lines t n sound-blank e
+lines-valid time lines t n e =
+    let x = lines-kept textRules (Sound textRules) sound-line time blank 1 lines t n sound-blank e in
+    let whole = x .complete in
+    subst (λ z. valid z ≡ true) (x .is) (draft-valid (x .draft) (x .holds) (search (and-left, leb-true)))
 
 pub accepted-valid : (text : List ℕ) (t : Timetable) (n : ℕ) → reading text ≡ Accepted t n → valid t ≡ true
 unfolding reading readLines

@@ -1,6 +1,6 @@
 -- A timetable's words, whatever stands behind them, spell this timetable: what the words hold is read off from the
--- index where it stands, station by station, stop by stop and trip by trip.
-use mathlib.Core.Path.{_≡_, refl, ap, _∙_}
+-- index where it stands, station by station, stop by stop, trip by trip and number by number.
+use mathlib.Core.Path.{_≡_, refl, sym, ap, _∙_}
 use mathlib.Core.Bool.{true}
 use mathlib.Core.List.{List, [], _∷_, _++_, map, append-assoc}
 use Prim.Native.Nat.{ℕ, suc, _+_, _-_, _*_}
@@ -14,8 +14,9 @@ use Rattle.lists.specs.Lists.{range}
 use Rattle.lists.specs.Tests.{and-both}
 use Rattle.timetable.specs.Timetable.{Station, Stop, Trip, Timetable, stopsOf}
 use Rattle.timetable.specs.Words.{stationWords, stopWords, startWords, words, stopCount, stationAt}
-use Rattle.timetable.specs.Words.{stopPlace, stopAt, startAt, tripAt, timetableOf, rise, chained}
-use Rattle.timetable.specs.WordLaws.{length-stationWords, length-stopWords, stopWords-append}
+use Rattle.timetable.specs.Words.{stopPlace, tripCount, stopAt, startAt, tripAt, numberAt, timetableOf, rise}
+use Rattle.timetable.specs.Words.{chained}
+use Rattle.timetable.specs.WordLaws.{length-stationWords, length-stopWords, length-startWords, stopWords-append}
 use Rattle.accepted.specs.Lists.{head-at, past-at}
 
 -- ---- how many words
@@ -79,6 +80,20 @@ module _ (w : List ℕ) where
       let next = past-at w (startsPlace + j) 1 (k ∷ []) (l ++ more) refl e in
       λ i. start-at j k (l ++ more) e i ∷ starts-at (suc j) l more (ap (λ n. drop n w) place ∙ next) i
 
+  -- where the numbers stand
+  abbrev numbersPlace : ℕ
+  numbersPlace = startsPlace + (tripCount w + 1)
+
+  numbers-at : (j : ℕ) (l more : List ℕ) → drop (numbersPlace + j) w ≡ l ++ more
+      → map (numberAt w) (range j (length l)) ≡ l
+  unfolding numberAt
+  numbers-at j [] more e = refl
+  numbers-at j (k ∷ l) more e =
+      let place : numbersPlace + suc j ≡ numbersPlace + j + 1 = omega arith in
+      let next = past-at w (numbersPlace + j) 1 (k ∷ []) (l ++ more) refl e in
+      λ i. head-at w (numbersPlace + j) k (l ++ more) e i
+      ∷ numbers-at (suc j) l more (ap (λ n. drop n w) place ∙ next) i
+
   stops-past : (k : ℕ) (t : Trip) (more : List ℕ) → drop (stopPlace w k) w ≡ stopWords t ++ more
       → drop (stopPlace w (k + length t)) w ≡ more
   stops-past k t more e =
@@ -115,14 +130,18 @@ module _ (w : List ℕ) where
 
 -- ---- the whole
 module _ (t : Timetable) (rest : List ℕ) where
-  -- the stations' words stand behind the three counts, the stops' words behind those, and then the starts
+  -- behind the starts
+  abbrev past : List ℕ
+  past = t .numbers ++ rest
+
+  -- the stations' words stand behind the three counts, the stops' words behind those, then the starts and the numbers
   from-stations : drop 3 (words t ++ rest)
-      ≡ stationWords (t .stations) ++ (stopWords (stopsOf (t .trips)) ++ (startWords 0 (t .trips) ++ rest))
+      ≡ stationWords (t .stations) ++ (stopWords (stopsOf (t .trips)) ++ (startWords 0 (t .trips) ++ past))
   unfolding words
   from-stations = simp append-assoc
 
   from-stops : drop (stopPlace (words t ++ rest) 0) (words t ++ rest)
-      ≡ stopWords (stopsOf (t .trips)) ++ (startWords 0 (t .trips) ++ rest)
+      ≡ stopWords (stopsOf (t .trips)) ++ (startWords 0 (t .trips) ++ past)
   unfolding words
   from-stops =
       let place : stopPlace (words t ++ rest) 0 ≡ 3 + 2 * length (t .stations) = omega arith in
@@ -130,19 +149,33 @@ module _ (t : Timetable) (rest : List ℕ) where
       ∙ past-at (words t ++ rest) 3 (2 * length (t .stations)) (stationWords (t .stations)) _
       (length-stationWords (t .stations)) from-stations
 
-  from-starts : drop (startsPlace (words t ++ rest) + 0) (words t ++ rest) ≡ startWords 0 (t .trips) ++ rest
+  from-starts : drop (startsPlace (words t ++ rest) + 0) (words t ++ rest) ≡ startWords 0 (t .trips) ++ past
   unfolding words
   from-starts =
       let place : startsPlace (words t ++ rest) + 0 ≡ stopPlace (words t ++ rest) (0 + length (stopsOf (t .trips))) =
       omega arith in
       ap (λ n. drop n (words t ++ rest)) place ∙ stops-past (words t ++ rest) 0 (stopsOf (t .trips)) _ from-stops
 
-  pub words-spell : timetableOf (words t ++ rest) ≡ t
+  from-numbers : drop (numbersPlace (words t ++ rest) + 0) (words t ++ rest) ≡ past
+  unfolding words
+  from-numbers =
+      let at = startsPlace (words t ++ rest) in
+      let place : numbersPlace (words t ++ rest) + 0 ≡ at + 0 + (length (t .trips) + 1) = omega arith in
+      ap (λ n. drop n (words t ++ rest)) place
+      ∙ past-at (words t ++ rest) (at + 0) (length (t .trips) + 1) (startWords 0 (t .trips)) past
+      (length-startWords 0 (t .trips)) from-starts
+
+  -- where each trip has a number
+  pub words-spell : length (t .numbers) ≡ length (t .trips) → timetableOf (words t ++ rest) ≡ t
   unfolding timetableOf words
-  words-spell =
+  words-spell many =
+      let numbers : map (numberAt (words t ++ rest)) (range 0 (length (t .trips))) ≡ t .numbers =
+      ap (λ n. map (numberAt (words t ++ rest)) (range 0 n)) (sym many)
+      ∙ numbers-at (words t ++ rest) 0 (t .numbers) rest from-numbers in
       λ i. record {
         stations = stations-at (words t ++ rest) 0 (t .stations) _ from-stations i;
-        trips = trips-at (words t ++ rest) 0 0 (t .trips) _ rest from-stops from-starts i;
+        numbers = numbers i;
+        trips = trips-at (words t ++ rest) 0 0 (t .trips) _ past from-stops from-starts i;
       }
 
 -- ---- the trips follow one another
@@ -160,17 +193,18 @@ rises k (t ∷ l) =
     rw all (and-both _ _ (le-leb k (k + length t) (omega arith)) (rises (k + length t) l))
 
 module _ (t : Timetable) (rest : List ℕ) where
-  from-later : drop (startsPlace (words t ++ rest) + 1) (words t ++ rest) ≡ laterStarts 0 (t .trips) ++ rest
+  from-later : drop (startsPlace (words t ++ rest) + 1) (words t ++ rest) ≡ laterStarts 0 (t .trips) ++ past t rest
   from-later =
       let at = startsPlace (words t ++ rest) in
       let place : at + 1 ≡ at + 0 + 1 = omega arith in
       ap (λ n. drop n (words t ++ rest)) place
-      ∙ past-at (words t ++ rest) (at + 0) 1 (0 ∷ []) (laterStarts 0 (t .trips) ++ rest) refl
-      (from-starts t rest ∙ ap (λ r. r ++ rest) (starts-later 0 (t .trips)))
+      ∙ past-at (words t ++ rest) (at + 0) 1 (0 ∷ []) (laterStarts 0 (t .trips) ++ past t rest) refl
+      (from-starts t rest ∙ ap (λ r. r ++ past t rest) (starts-later 0 (t .trips)))
 
   later-spelled : map (startAt (words t ++ rest)) (range 1 (length (t .trips))) ≡ laterStarts 0 (t .trips)
   later-spelled =
-      rw (← length-later 0 (t .trips)) (starts-at (words t ++ rest) 1 (laterStarts 0 (t .trips)) rest from-later)
+      rw (← length-later 0 (t .trips))
+      (starts-at (words t ++ rest) 1 (laterStarts 0 (t .trips)) (past t rest) from-later)
 
   later-rises :
       rise 0 (map (startAt (words t ++ rest)) (range 1 (length (t .trips)))) (length (stopsOf (t .trips))) ≡ true
@@ -180,5 +214,6 @@ module _ (t : Timetable) (rest : List ℕ) where
   unfolding chained words
   words-chained =
       and-both (eqb (startAt (words t ++ rest) 0) 0) _
-      (eq-eqb (startAt (words t ++ rest) 0) 0 (first-start (words t ++ rest) 0 0 (t .trips) rest (from-starts t rest)))
+      (eq-eqb (startAt (words t ++ rest) 0) 0
+      (first-start (words t ++ rest) 0 0 (t .trips) (past t rest) (from-starts t rest)))
       later-rises

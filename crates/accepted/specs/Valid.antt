@@ -7,11 +7,11 @@ use Prim.Native.Nat.{ℕ, _≤_, _<_}
 use lib.Dec.{leb, eqb}
 use lib.ListN.{length}
 use native.Mathlib.Omega.{arith}
-use borrow.Author.Tests.{leb-true, ltb-true, eqb-true, not-true}
+use borrow.Author.Tests.{leb-true, ltb-true, eqb-true, not-true, le-leb, eq-eqb}
 use Rattle.lists.specs.Tests.{and-left, and-right}
 use Rattle.timetable.specs.Timetable.{Station, Stop, Timetable, stopsOf, stationsMost, tripsMost, stopsMost}
 use Rattle.timetable.specs.Timetable.{lastMinute, validStation, listed, leaves, ends, follows, runs, validTrip}
-use Rattle.timetable.specs.Timetable.{validStations, validTrips, counted, valid}
+use Rattle.timetable.specs.Timetable.{validStations, validTrips, counted, climb, numbered, valid}
 
 -- ---- the facts
 pub record ValidStation (s : Station) : Type 0 where
@@ -55,6 +55,8 @@ pub record Valid (t : Timetable) : Type 0 where
   pub stations : length (t .stations) ≤ stationsMost
   pub trips : length (t .trips) ≤ tripsMost
   pub stops : length (stopsOf (t .trips)) ≤ stopsMost
+  pub numbers : length (t .numbers) ≡ length (t .trips)
+  pub climbs : climb 0 (t .numbers) ≡ true
   pub each-station : validStations (t .stations) ≡ true
   pub each-trip : validTrips (length (t .stations)) (t .trips) ≡ true
 
@@ -86,8 +88,23 @@ it-follows n b s v =
     }
 
 pub is-valid : (t : Timetable) → valid t ≡ true → Valid t
-unfolding valid counted
-is-valid t v = search (and-left, and-right, leb-true)
+unfolding valid counted numbered
+is-valid t v = search (and-left, and-right, leb-true, eqb-true)
+
+-- and back
+pub valid-is : (t : Timetable) → Valid t → valid t ≡ true
+unfolding valid counted numbered
+valid-is t h =
+    simp (
+      le-leb 1 (length (t .stations)) (h .least),
+      le-leb (length (t .stations)) stationsMost (h .stations),
+      le-leb (length (t .trips)) tripsMost (h .trips),
+      le-leb (length (stopsOf (t .trips))) stopsMost (h .stops),
+      eq-eqb (length (t .numbers)) (length (t .trips)) (h .numbers),
+      h .climbs,
+      h .each-station,
+      h .each-trip,
+    )
 
 -- ---- a trip, stop by stop
 pub runs-none : (n : ℕ) (b : Stop) → runs n b [] ≡ true → ⊥

@@ -1,12 +1,12 @@
--- The text written out from a timetable: a line for each station, then a line for each stop, trip by trip.
+-- Lines written out from a timetable: a line for each station, and a line for each stop of a trip.
 -- "Station: `S,station,change minutes,change penalty`", "Stop: `T,trip,stop,station,arrive,depart,ride penalty`".
 -- "Exports write arrive and depart as `hh:mm`".
 -- "Arrive is empty exactly at stop 1. Depart and ride penalty are empty together, only at a trip's last stop".
 use mathlib.Core.Bool.{Bool, true, false, cond}
-use mathlib.Core.List.{List, [], _∷_, _++_}
+use mathlib.Core.List.{List, [], _∷_}
 use Prim.Native.Nat.{ℕ, _+_}
 use lib.Dec.{eqb}
-use Rattle.timetable.specs.Timetable.{Station, Stop, Trip, Timetable}
+use Rattle.timetable.specs.Timetable.{Station, Stop, Trip}
 use Rattle.accepted.specs.Marks.{lined, fielded}
 use Rattle.accepted.specs.Digits.{digits}
 use Rattle.accepted.specs.Clock.{clock}
@@ -51,14 +51,9 @@ unfoldable pub stopLines : (trip k : ℕ) → List Stop → List (List ℕ)
 stopLines trip k [] = []
 stopLines trip k (s ∷ l) = stopLine trip k s (noneAfter l) ∷ stopLines trip (k + 1) l
 
--- the lines of trips, the first of which has number n
-unfoldable pub tripLines : ℕ → List Trip → List (List ℕ)
-tripLines n [] = []
-tripLines n (t ∷ l) = stopLines n 1 t ++ tripLines (n + 1) l
+-- "Each line ends with byte 10": the text of stations alone, and that of an extra trip of number n
+unfoldable pub stationText : List Station → List ℕ
+stationText l = lined (stationLines 1 l)
 
-unfoldable pub linesOf : Timetable → List (List ℕ)
-linesOf t = stationLines 1 (t .stations) ++ tripLines 1 (t .trips)
-
--- "Each line ends with byte 10"
-unfoldable pub textOf : Timetable → List ℕ
-textOf t = lined (linesOf t)
+unfoldable pub tripText : (n : ℕ) → Trip → List ℕ
+tripText n t = lined (stopLines n 1 t)

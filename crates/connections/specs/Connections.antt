@@ -42,7 +42,7 @@ pub record Net : Type 0 where
 
 abbrev pub net : Timetable → Net
 net t =
-    record { stations = length (t .stations); rides = ridesOf (t .trips); changes = changesOf (t .stations) }
+    record { stations = length (t .stations); rides = ridesOf t; changes = changesOf (t .stations) }
 
 -- "A connection is one or more rides": a single ride, or a ride, a change and a connection from there.
 pub data Connection : Type 0 where

@@ -1,6 +1,7 @@
 -- What a connection is known by: a ride by its numbers, a change by its station, which has one way of changing.
 use mathlib.Core.Path.{_≡_}
-use Rattle.timetable.specs.Timetable.{Timetable}
+use lib.Dec.{T}
+use Rattle.timetable.specs.Timetable.{Timetable, valid}
 use Rattle.lists.specs.Lists.{_∈_}
 use Rattle.connections.specs.Rides.{Ride}
 use Rattle.connections.specs.Connections.{Change, Net, net}
@@ -11,5 +12,5 @@ pub record Named (n : Net) : Type 0 where
       → r .alight ≡ s .alight → r ≡ s
   pub change : (w v : Change) → w ∈ n .changes → v ∈ n .changes → w .from ≡ v .from → w ≡ v
 
-pub named : (t : Timetable) → Named (net t)
-named t = record { ride = ride-unique (t .trips); change = change-unique (t .stations) }
+pub named : (t : Timetable) → T (valid t) → Named (net t)
+named t ok = record { ride = ride-unique t ok; change = change-unique (t .stations) }

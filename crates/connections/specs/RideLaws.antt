@@ -5,33 +5,38 @@ use Prim.Native.Nat.{ℕ, zero, suc, _+_, _≤_, _<_}
 use native.Mathlib.Omega.{arith}
 use lib.Dec.{T}
 use lib.ListN.{length, getD}
-use Rattle.timetable.specs.Timetable.{Station, Stop, Trip}
+use Rattle.timetable.specs.Timetable.{Station, Stop, Trip, Timetable, numberOf, valid}
+use Rattle.timetable.specs.Numbers.{number-unique}
 use Rattle.lists.specs.Lists.{_∈_, filter, range}
 use Rattle.lists.specs.Tests.{reads, writes}
 use Rattle.lists.specs.Members.{filter-in, filter-out, concatMap-in, concatMap-out, range-in, range-out}
 use Rattle.connections.specs.Rides.{Ride, noStop, ridePoints, rideAt, mayRide, ridesFrom, tripRides}
-use Rattle.connections.specs.Rides.{ridesOf}
+use Rattle.connections.specs.Rides.{rideIn, ridesOf}
 use Rattle.connections.specs.Connections.{Change, changeAt, changesOf}
 
 -- a ride of the timetable: a trip, a stop to board at and a later stop to alight at
-pub record Taken (t : List Trip) (r : Ride) : Type 0 where
+pub record Taken (t : Timetable) (r : Ride) : Type 0 where
   pub z : ℕ
   pub x : ℕ
   pub y : ℕ
-  pub listed : z < length t
+  pub listed : z < length (t .trips)
   pub later : x < y
-  pub inside : y < length (getD t z [])
-  pub is : rideAt (getD t z []) z x y ≡ r
+  pub inside : y < length (getD (t .trips) z [])
+  pub is : rideIn t z x y ≡ r
 
-module _ (t : List Trip) where
+module _ (t : Timetable) where
+  abbrev ridesAt : (z : ℕ) → List Ride
+  ridesAt z = tripRides (getD (t .trips) z []) (numberOf t z)
+
   pub rides-out : (r : Ride) → r ∈ ridesOf t → Taken t r
   unfolding ridesOf
   rides-out r m =
-      let i = concatMap-out (λ z. tripRides (getD t z []) z) (range 0 (length t)) m in
-      let l = getD t (i .0) [] in
-      let j = concatMap-out (ridesFrom l (i .0)) (range 0 (length l)) (i .2) in
-      let k = Memᴰ·of-map (rideAt l (i .0) (j .0)) (filter (mayRide l (j .0)) (range 0 (length l))) (j .2) in
-      let a = range-out 0 (length t) (i .0) (i .1) in
+      let i = concatMap-out ridesAt (range 0 (length (t .trips))) m in
+      let l = getD (t .trips) (i .0) [] in
+      let n = numberOf t (i .0) in
+      let j = concatMap-out (ridesFrom l n) (range 0 (length l)) (i .2) in
+      let k = Memᴰ·of-map (rideAt l n (j .0)) (filter (mayRide l (j .0)) (range 0 (length l))) (j .2) in
+      let a = range-out 0 (length (t .trips)) (i .0) (i .1) in
       let may = filter-out {x = k .0} (mayRide l (j .0)) (range 0 (length l)) (k .1) .1 in
       record {
         z = i .0;
@@ -43,22 +48,24 @@ module _ (t : List Trip) where
         is = k .2;
       }
 
-  pub rides-in : (z x y : ℕ) → z < length t → x < y → y < length (getD t z []) → rideAt (getD t z []) z x y ∈ ridesOf t
+  pub rides-in : (z x y : ℕ) → z < length (t .trips) → x < y → y < length (getD (t .trips) z [])
+      → rideIn t z x y ∈ ridesOf t
   unfolding ridesOf
   rides-in z x y h g i =
-      let l = getD t z [] in
+      let l = getD (t .trips) z [] in
+      let n = numberOf t z in
       let may : T (mayRide l x y) = search writes in
       let alight = filter-in (mayRide l x) (range-in 0 (length l) y (omega arith) (omega arith)) may in
       let board = range-in 0 (length l) x (omega arith) (omega arith) in
-      let trip = range-in 0 (length t) z (omega arith) (omega arith) in
-      let on-trip = concatMap-in (ridesFrom l z) board (Memᴰ·map (rideAt l z x) alight) in
-      concatMap-in (λ z. tripRides (getD t z []) z) trip on-trip
+      let trip = range-in 0 (length (t .trips)) z (omega arith) (omega arith) in
+      let on-trip = concatMap-in (ridesFrom l n) board (Memᴰ·map (rideAt l n x) alight) in
+      concatMap-in ridesAt trip on-trip
 
   -- a ride is known by its numbers
-  pub ride-unique : (r s : Ride) → r ∈ ridesOf t → s ∈ ridesOf t → r .trip ≡ s .trip → r .board ≡ s .board
+  pub ride-unique : T (valid t) → (r s : Ride) → r ∈ ridesOf t → s ∈ ridesOf t → r .trip ≡ s .trip → r .board ≡ s .board
       → r .alight ≡ s .alight → r ≡ s
-  ride-unique r s m k e f g =
-      sym (i .is) ∙ (λ v. rideAt (getD t (same-z v) []) (same-z v) (same-x v) (same-y v)) ∙ j .is
+  ride-unique ok r s m k e f g =
+      sym (i .is) ∙ (λ v. rideIn t (same-z v) (same-x v) (same-y v)) ∙ j .is
     where
       i : Taken t r
       i = rides-out r m
@@ -67,7 +74,9 @@ module _ (t : List Trip) where
       j = rides-out s k
 
       same-z : i .z ≡ j .z
-      same-z = omega (arith, e, ap (λ r. r .trip) (i .is), ap (λ r. r .trip) (j .is))
+      same-z =
+          number-unique t ok (i .z) (j .z) (i .listed) (j .listed)
+          (ap (λ r. r .trip) (i .is) ∙ e ∙ sym (ap (λ r. r .trip) (j .is)))
 
       same-x : i .x ≡ j .x
       same-x = omega (arith, f, ap (λ r. r .board) (i .is), ap (λ r. r .board) (j .is))

@@ -1,12 +1,12 @@
 -- Rides. Document 01: "A ride is a trip, a stop to board at and a later stop to alight at." A ride carries what the
--- timetable says of it, so that nobody has to look it up again. Places count from 0, numbers from 1: the trip at place
--- z is trip z + 1.
+-- timetable says of it, so that nobody has to look it up again. Places count from 0; stops have numbers from 1, trips
+-- have numbers of their own.
 use mathlib.Core.Bool.{Bool, _&&_}
 use mathlib.Core.List.{List, [], _∷_, map}
 use Prim.Native.Nat.{ℕ, zero, suc, _+_}
 use lib.Dec.{ltb}
 use lib.ListN.{length, getD}
-use Rattle.timetable.specs.Timetable.{Stop, Trip}
+use Rattle.timetable.specs.Timetable.{Stop, Trip, Timetable, numberOf}
 use Rattle.lists.specs.Lists.{filter, concatMap, range}
 
 pub record Ride : Type 0 where
@@ -32,11 +32,11 @@ ridePoints (s ∷ l) x zero = 0
 ridePoints (s ∷ l) zero (suc y) = s .points + ridePoints l zero y
 ridePoints (s ∷ l) (suc x) (suc y) = ridePoints l x y
 
--- the ride on trip l, which stands at place z, from the stop at place x to the stop at place y
-abbrev pub rideAt : (l : Trip) (z x y : ℕ) → Ride
-rideAt l z x y =
+-- the ride on trip l, which has number n, from the stop at place x to the stop at place y
+abbrev pub rideAt : (l : Trip) (n x y : ℕ) → Ride
+rideAt l n x y =
     record {
-      trip = suc z;
+      trip = n;
       board = suc x;
       alight = suc y;
       from = (getD l x noStop) .station;
@@ -46,18 +46,22 @@ rideAt l z x y =
       points = ridePoints l x y;
     }
 
+-- the ride on the trip at place z
+abbrev pub rideIn : Timetable → (z x y : ℕ) → Ride
+rideIn t z x y = rideAt (getD (t .trips) z []) (numberOf t z) x y
+
 -- "a stop to board at and a later stop to alight at": who boards trip l at place x may alight at place y. Every stop is
 -- open to both; all that lists rides, from trips or from lines, asks here.
 abbrev pub mayRide : (l : Trip) (x y : ℕ) → Bool
 mayRide l x y = ltb x y && ltb y (length l)
 
 -- the rides on a trip that board at place x
-abbrev pub ridesFrom : (l : Trip) (z x : ℕ) → List Ride
-ridesFrom l z x = map (rideAt l z x) (filter (mayRide l x) (range 0 (length l)))
+abbrev pub ridesFrom : (l : Trip) (n x : ℕ) → List Ride
+ridesFrom l n x = map (rideAt l n x) (filter (mayRide l x) (range 0 (length l)))
 
-abbrev pub tripRides : (l : Trip) (z : ℕ) → List Ride
-tripRides l z = concatMap (ridesFrom l z) (range 0 (length l))
+abbrev pub tripRides : (l : Trip) (n : ℕ) → List Ride
+tripRides l n = concatMap (ridesFrom l n) (range 0 (length l))
 
 -- every ride of the trips
-unfoldable pub ridesOf : List Trip → List Ride
-ridesOf t = concatMap (λ z. tripRides (getD t z []) z) (range 0 (length t))
+unfoldable pub ridesOf : Timetable → List Ride
+ridesOf t = concatMap (λ z. tripRides (getD (t .trips) z []) (numberOf t z)) (range 0 (length (t .trips)))

@@ -147,7 +147,7 @@ module _ (t : Timetable) (v : T (valid t)) where
 
   pub stations-few : length (t .stations) ≤ stationsMost
   unfolding valid counted
-  stations-few = search reads
+  stations-few = search reads depth 7
 
   pub change-priced : (w : Change) → w ∈ (net t) .changes → Priced w
   change-priced w m =
@@ -163,7 +163,7 @@ module _ (t : Timetable) (v : T (valid t)) where
 
   ride-good : (r : Ride) → r ∈ (net t) .rides → Good r
   ride-good r m =
-      let k = rides-out (t .trips) r m in
+      let k = rides-out t r m in
       let l = getD (t .trips) (k .z) [] in
       let s = length (t .stations) in
       let v = valid-trip s (t .trips) trips-valid (k .z) (k .listed) in

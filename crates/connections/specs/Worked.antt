@@ -5,7 +5,7 @@ use mathlib.Core.List.{List, [], _∷_}
 use Prim.Native.Nat.{ℕ}
 use lib.Dec.{T}
 use Rattle.timetable.specs.Timetable.{Timetable, validStation, listed, leaves, ends, follows, runs}
-use Rattle.timetable.specs.Timetable.{validTrip, validStations, validTrips, counted, valid}
+use Rattle.timetable.specs.Timetable.{validTrip, validStations, validTrips, counted, climb, numbered, valid}
 use Rattle.timetable.specs.Worked.{station, stop, variant, M}
 use Rattle.results.specs.Results.{dominates, equal, entries, result}
 use Rattle.connections.specs.Rides.{ridePoints, ridesOf}
@@ -14,7 +14,8 @@ use Rattle.connections.specs.Planner.{connections, plannerList, tieKey, 
 
 -- it is accepted, so that the theorems hold of it
 pub M-valid : T (valid M)
-unfolding valid counted validStations validTrips validTrip validStation listed leaves ends follows runs M variant
+unfolding valid counted numbered climb validStations validTrips validTrip validStation listed leaves ends follows runs
+    M variant
 M-valid = tt
 
 -- the planner's rows, for a query from a at minute m to b
@@ -52,6 +53,7 @@ unfoldable pub valley : Timetable
 valley =
     record {
       stations = station 0 1 ∷ station 0 1 ∷ [];
+      numbers = 1 ∷ 2 ∷ [];
       trips = (stop 1 0 480 0 ∷ stop 2 500 0 0 ∷ []) ∷ (stop 1 0 485 0 ∷ stop 2 515 0 0 ∷ []) ∷ [];
     }
 
@@ -64,6 +66,7 @@ unfoldable pub alike : Timetable
 alike =
     record {
       stations = station 0 1 ∷ station 0 1 ∷ [];
+      numbers = 1 ∷ 2 ∷ [];
       trips = (stop 1 0 480 0 ∷ stop 2 500 0 0 ∷ []) ∷ (stop 1 0 490 0 ∷ stop 2 500 0 0 ∷ []) ∷ [];
     }
 

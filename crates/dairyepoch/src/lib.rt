@@ -11,6 +11,14 @@ ghost use Rattle.lines_turned.specs.Turning.{byTripReply, byTripWords, byStopRe
 ghost use Rattle.promises.specs.DirectQuery.{directReply, directWords};
 ghost use Rattle.promises.specs.StoreCall.{storeReply, storeAfter};
 ghost use Rattle.promises.specs.Query.{askReply, askWords};
+ghost use Rattle.promises.specs.Changes.{
+  cancelReply,
+  cancelTimetable,
+  cancelLines,
+  addReply,
+  addTimetable,
+  addLines,
+};
 ghost use Rattle.promises.specs.Packed.{packed, packedReply, packedCount};
 ghost use Rattle.dairyepoch.specs.Packed.{packedPlace};
 use reading::Reply;
@@ -264,4 +272,44 @@ pub extern "C" fn dairyepoch_query(
         (now (answer .entry)) ⌝ }
 {
     pack_count(query_call::query(timetable, lines, store, work, from, to, minute, answer))
+}
+
+// Cancels the trip of this number: the timetable and its line tables are those of the trips that now run.
+#[no_mangle]
+pub extern "C" fn dairyepoch_cancel_trip(
+    timetable: &mut [u16],
+    lines: &mut [u16],
+    work: &mut [u32],
+    trip: u32,
+) -> u64
+    ensures reply { λ r. ⌜ r
+        ≡ packedCount (cancelReply (now (timetable .entry)) (now (lines .entry)) (length (now (work .entry))) trip) ⌝ }
+    ensures timetable { λ _. ⌜ now (timetable .exit)
+        ≡ cancelTimetable (now (timetable .entry)) (now (lines .entry)) (length (now (work .entry))) trip ⌝ }
+    ensures lines { λ _. ⌜ now (lines .exit)
+        ≡ cancelLines (now (timetable .entry)) (now (lines .entry)) (length (now (work .entry))) trip ⌝ }
+{
+    pack_count(changes::cancel(timetable, lines, work, trip))
+}
+
+// Adds a trip of this number by its lines: the timetable and its line tables are those of the trips that now run.
+#[no_mangle]
+pub extern "C" fn dairyepoch_add_trip(
+    timetable: &mut [u16],
+    lines: &mut [u16],
+    work: &mut [u32],
+    trip: u32,
+    text: &[u8],
+) -> u64
+    ensures reply { λ r. ⌜ r
+        ≡ packedReply (addReply (now (timetable .entry)) (now (lines .entry)) (length (now (work .entry))) trip
+        (now (text .entry))) ⌝ }
+    ensures timetable { λ _. ⌜ now (timetable .exit)
+        ≡ addTimetable (now (timetable .entry)) (now (lines .entry)) (length (now (work .entry))) trip
+        (now (text .entry)) ⌝ }
+    ensures lines { λ _. ⌜ now (lines .exit)
+        ≡ addLines (now (timetable .entry)) (now (lines .entry)) (length (now (work .entry))) trip
+        (now (text .entry)) ⌝ }
+{
+    pack_reply(changes::add(timetable, lines, work, trip, text))
 }

@@ -36,7 +36,7 @@ pub record Cases : Type 0 where
   pub c : storeWords (net M) 2 ≡ 0 ∷ 1 ∷ 3 ∷ 0 ∷ []
   pub d : storeWords (net M) 3 ≡ 0 ∷ 0 ∷ []
   -- "(e) Lines of M: trip 1; then trips 3, 2. (f) With trip 2 arriving at 514: three lines."
-  pub e : lineNumbers (M .trips) ≡ (1 ∷ []) ∷ (3 ∷ 2 ∷ []) ∷ []
+  pub e : lineNumbers M ≡ (1 ∷ []) ∷ (3 ∷ 2 ∷ []) ∷ []
   pub f : length (lines ((variant 3 514) .trips)) ≡ 3
   -- "(g) From 2 to 3 at 501: one row, 14,0. (h) At 503: 17,0.", and from the store of 2
   pub g : planned M 2 501 3 ≡ oneRide 14 0 3 1 2 ∷ []

@@ -31,7 +31,7 @@ pub record DemandTwo (t : Timetable) : Type 0 where
       → c ∈ directs (net t) a m b ↔ (Feasible (net t) a m b c × (rideCount c ≡ 1))
   -- the first trips of the lines have these costs
   pub by-lines : (a m b : ℕ)
-      → costs (measure m) (firstRides (t .trips) a m b) ≡ costs (measure m) (directs (net t) a m b)
+      → costs (measure m) (firstRides t a m b) ≡ costs (measure m) (directs (net t) a m b)
   -- "and a store, where one is made, holds a sequence exactly if it is the pattern, by Definition 3, of an optimal
   -- connection at some minute of the timetable", whatever words stand behind it
   pub store : (a : ℕ) (post q : List ℕ) → q ∈ readable (storeWords (net t) a ++ post) ↔ Sequence (net t) a q

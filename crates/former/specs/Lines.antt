@@ -14,7 +14,7 @@ use Rattle.text.specs.Number.{fieldValue}
 use Rattle.text.specs.Time.{timeValue}
 use Rattle.text.specs.Shape.{field, stopShape, shapeBy}
 use Rattle.reading.specs.Draft.{Draft, lineNumber, withLine}
-use Rattle.reading.specs.Reading.{Refused, readBy}
+use Rattle.reading.specs.Reading.{Refused, readUnder, readBy}
 use Rattle.accepted.specs.Marks.{fielded, Free, AllFree, one-piece, piece-before, pieces-fielded}
 use Rattle.former.specs.Former.{formerAt, formerFields, formerLine, formerLines}
 use Rattle.former.specs.Fields.{value-stays, length-former, field-former, fields-shorter, fields-free}
@@ -188,12 +188,12 @@ read-step : (time : List ℕ → ℕ) (d : Draft) (k : ℕ) (s : List ℕ) (rest
     → readBy time d k (s ∷ rest)
     ≡ cond (eqb (lineNumber d (shapeBy time s)) 0) (readBy time (withLine d (shapeBy time s)) (k + 1) rest)
     (Refused (lineNumber d (shapeBy time s)) k)
-unfolding readBy
+unfolding readUnder
 read-step time d k s [] some = absurd (omega arith)
 read-step time d k s (u ∷ l) some = refl
 
 one-left : (d : Draft) (k : ℕ) (s : List ℕ) → readBy fieldValue d k (s ∷ []) ≡ readBy timeValue d k (s ∷ [])
-unfolding readBy
+unfolding readUnder
 one-left d k s = refl
 
 pub outcome-stays : (d : Draft) (k : ℕ) (l : List (List ℕ)) → 0 < length l → AllFree 10 l

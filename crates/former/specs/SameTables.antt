@@ -16,9 +16,10 @@ use Rattle.timetable.specs.Timetable.{Timetable, valid}
 use Rattle.reading.specs.Draft.{blank}
 use Rattle.reading.specs.Reading.{Accepted, readBy, readLines, textMost, reading}
 use Rattle.reading.specs.Reading.{readReply, readWords}
-use Rattle.accepted.specs.WrittenOut.{linesOf, textOf}
-use Rattle.accepted.specs.Sound.{accepted-yes, lines-valid}
-use Rattle.accepted.specs.Taken.{valid-accepted}
+use Rattle.accepted.specs.Kept.{accepted-yes}
+use Rattle.accepted.specs.Sound.{lines-valid}
+use Rattle.accepted.specs.Led.{Led}
+use Rattle.accepted.specs.Leads.{valid-led}
 use Rattle.lines_tables.specs.Building.{buildReply, buildWords}
 use Rattle.former.specs.Former.{formerReading, formerReply, formerWords, formerText}
 use Rattle.former.specs.Lines.{some-pieces, pieces-free, lines-shorter, outcome-stays}
@@ -63,13 +64,12 @@ same-tables text short =
       tables = λ old tables n. ap (λ w. buildWords w tables n) (words-same old);
     }
 
--- ---- nothing is lost: what the old form could say, the new form can
+-- ---- nothing is lost: what the old form could lead to, the new form and changes after it can
 pub former-valid : (text : List ℕ) (t : Timetable) (n : ℕ) → formerReading text ≡ Accepted t n → valid t ≡ true
 unfolding formerReading
 former-valid text t n e =
     lines-valid fieldValue (pieces 10 text) t n
     (accepted-yes (leb (length text) textMost) (readBy fieldValue blank 1 (pieces 10 text)) 1 0 t n e)
 
-pub said-anew : (text : List ℕ) (t : Timetable) (n : ℕ) → formerReading text ≡ Accepted t n
-    → reading (textOf t) ≡ Accepted t (length (linesOf t))
-said-anew text t n e = valid-accepted t (former-valid text t n e)
+pub led-anew : (text : List ℕ) (t : Timetable) (n : ℕ) → formerReading text ≡ Accepted t n → Led t
+led-anew text t n e = valid-led t (former-valid text t n e)

@@ -15,7 +15,7 @@ use Rattle.lists.specs.Members.{filter-in, filter-out, first-out, concatMap-in,
 use Rattle.results.specs.Results.{costs}
 use Rattle.results.specs.Domination.{NoWorse}
 use Rattle.results.specs.Kept.{costs-covered}
-use Rattle.connections.specs.Rides.{Ride, rideAt, mayRide}
+use Rattle.connections.specs.Rides.{Ride, rideIn, mayRide}
 use Rattle.connections.specs.Connections.{Net, net, Connection, direct, onward, Feasible, arrival, penalty, cost}
 use Rattle.connections.specs.Planner.{boardable, measure, rideCount}
 use Rattle.connections.specs.RideLaws.{Taken, rides-in, rides-out}
@@ -25,48 +25,53 @@ use Rattle.lines.specs.Behind.{behind-at, behind-points}
 use Rattle.lines.specs.Ordered.{lines-good, line-length, line-stop, first-covers}
 use Rattle.lines.specs.Once.{line-of, trip-listed}
 
-module _ (t : List Trip) where
+module _ (timetable : Timetable) where
+  abbrev trips : List Trip
+  trips = timetable .trips
+
   -- the ride between the same two places of the trip in front arrives no later and costs the same
-  pub lemma-1 : (z w x y : ℕ) → T (behind (getD t z []) (getD t w []))
-      → ((rideAt (getD t z []) z x y) .arrive ≤ (rideAt (getD t w []) w x y) .arrive)
-      × ((rideAt (getD t z []) z x y) .points ≡ (rideAt (getD t w []) w x y) .points)
-  lemma-1 z w x y h =
-      (behind-at (getD t z []) (getD t w []) h y .arrive, behind-points (getD t z []) (getD t w []) h x y)
+  pub lemma-1 : (z w x y : ℕ) → T (behind (getD trips z []) (getD trips w []))
+      → ((rideIn timetable z x y) .arrive ≤ (rideIn timetable w x y) .arrive)
+      × ((rideIn timetable z x y) .points ≡ (rideIn timetable w x y) .points)
+  lemma-1 z w x y h = (
+    behind-at (getD trips z []) (getD trips w []) h y .arrive,
+    behind-points (getD trips z []) (getD trips w []) h x y,
+  )
 
   -- where a line takes one from a to b: a place to board, and a later one to alight
   pub record Pair (a b : ℕ) (l : List ℕ) (x y : ℕ) : Type 0 where
     pub later : x < y
-    pub inside : y < length (course t l)
-    pub board : stationOn t l x ≡ a
-    pub alight : stationOn t l y ≡ b
+    pub inside : y < length (course trips l)
+    pub board : stationOn trips l x ≡ a
+    pub alight : stationOn trips l y ≡ b
 
   pub record FirstRide (a u b : ℕ) (c : Connection) : Type 0 where
     pub line : List ℕ
     pub x : ℕ
     pub y : ℕ
     pub z : ℕ
-    pub listed : line ∈ lines t
+    pub listed : line ∈ lines trips
     pub pair : Pair a b line x y
-    pub first : z ∈ firstOf (inTime t u x) line
-    pub is : direct (rideAt (getD t z []) z x y) ≡ c
+    pub first : z ∈ firstOf (inTime trips u x) line
+    pub is : direct (rideIn timetable z x y) ≡ c
 
   abbrev boardsAt : (a : ℕ) (l : List ℕ) (x : ℕ) → Bool
-  boardsAt a l x = eqb (stationOn t l x) a
+  boardsAt a l x = eqb (stationOn trips l x) a
 
   abbrev alightsAt : (b : ℕ) (l : List ℕ) (x y : ℕ) → Bool
-  alightsAt b l x y = mayRide (course t l) x y && eqb (stationOn t l y) b
+  alightsAt b l x y = mayRide (course trips l) x y && eqb (stationOn trips l y) b
 
-  pub first-ride : (a u b : ℕ) (c : Connection) → c ∈ firstRides t a u b → FirstRide a u b c
+  pub first-ride : (a u b : ℕ) (c : Connection) → c ∈ firstRides timetable a u b → FirstRide a u b c
   unfolding firstRides
   first-ride a u b c m =
-      let i = concatMap-out (firstOn t a u b) (lines t) m in
+      let i = concatMap-out (firstOn timetable a u b) (lines trips) m in
       let l = i .0 in
-      let size = length (course t l) in
-      let j = concatMap-out (firstFrom t u b l) (filter (boardsAt a l) (range 0 size)) (i .2) in
+      let size = length (course trips l) in
+      let j = concatMap-out (firstFrom timetable u b l) (filter (boardsAt a l) (range 0 size)) (i .2) in
       let x = j .0 in
-      let k = concatMap-out (firstTo t u l x) (filter (alightsAt b l x) (range 0 size)) (j .2) in
+      let k = concatMap-out (firstTo timetable u l x) (filter (alightsAt b l x) (range 0 size)) (j .2) in
       let y = k .0 in
-      let w = Memᴰ·of-map (λ z. direct (rideAt (getD t z []) z x y)) (firstOf (inTime t u x) l) (k .2) in
+      let w = Memᴰ·of-map (λ z. direct (rideIn timetable z x y)) (firstOf (inTime trips u x) l) (k .2) in
       let fx = filter-out (boardsAt a l) (range 0 size) (j .1) in
       let fy = filter-out (alightsAt b l x) (range 0 size) (k .1) .1 in
       record {
@@ -79,28 +84,29 @@ module _ (t : List Trip) where
             record {
               later = search reads;
               inside = search reads;
-              board = eqb→eq (stationOn t l x) a (fx .1);
+              board = eqb→eq (stationOn trips l x) a (fx .1);
               alight = search reads;
             };
         first = w .1;
         is = w .2;
       }
 
-  pub first-in : (a u b : ℕ) (l : List ℕ) (x y z : ℕ) → l ∈ lines t → Pair a b l x y → z ∈ firstOf (inTime t u x) l
-      → direct (rideAt (getD t z []) z x y) ∈ firstRides t a u b
+  pub first-in : (a u b : ℕ) (l : List ℕ) (x y z : ℕ) → l ∈ lines trips → Pair a b l x y
+      → z ∈ firstOf (inTime trips u x) l
+      → direct (rideIn timetable z x y) ∈ firstRides timetable a u b
   unfolding firstRides
   first-in a u b l x y z m p f =
-      let size = length (course t l) in
+      let size = length (course trips l) in
       let h = p .later in
       let g = p .inside in
       let at-x = range-in 0 size x (omega arith) (omega arith) in
       let at-y = range-in 0 size y (omega arith) (omega arith) in
       let to = p .alight in
-      let boards = filter-in (boardsAt a l) at-x (eq→eqb (stationOn t l x) a (p .board)) in
+      let boards = filter-in (boardsAt a l) at-x (eq→eqb (stationOn trips l x) a (p .board)) in
       let alights = filter-in (alightsAt b l x) at-y (search writes) in
-      let ride = Memᴰ·map (λ z. direct (rideAt (getD t z []) z x y)) f in
-      let from-x = concatMap-in (firstTo t u l x) alights ride in
-      concatMap-in (firstOn t a u b) m (concatMap-in (firstFrom t u b l) boards from-x)
+      let ride = Memᴰ·map (λ z. direct (rideIn timetable z x y)) f in
+      let from-x = concatMap-in (firstTo timetable u l x) alights ride in
+      concatMap-in (firstOn timetable a u b) m (concatMap-in (firstFrom timetable u b l) boards from-x)
 
 some-rides : (c : Connection) → 1 ≤ rideCount c
 some-rides (direct r) = omega arith
@@ -149,9 +155,9 @@ module _ (timetable : Timetable) (a u b : ℕ) where
       into (onward r w c) f = absurd (omega (arith, f .1, some-rides c))
 
   -- a first ride is a direct ride
-  pub first-direct : (c : Connection) → c ∈ firstRides t a u b → c ∈ directs n a u b
+  pub first-direct : (c : Connection) → c ∈ firstRides timetable a u b → c ∈ directs n a u b
   first-direct c m =
-      let f = first-ride t a u b c m in
+      let f = first-ride timetable a u b c m in
       let z = f .z in
       let o = lines-good t (f .line) (f .listed) in
       let p = f .pair in
@@ -162,17 +168,17 @@ module _ (timetable : Timetable) (a u b : ℕ) where
       let from = sym (line-stop t (f .line) z (f .x) o (k .0) .station) ∙ p .board in
       let to = sym (line-stop t (f .line) z (f .y) o (k .0) .station) ∙ p .alight in
       let timely = k .1 in
-      let listed = rides-in t z (f .x) (f .y) z-listed (p .later) (omega arith) in
-      Memᴰ·cast (sym (f .is)) (direct-in (rideAt (getD t z []) z (f .x) (f .y)) listed (search writes))
+      let listed = rides-in timetable z (f .x) (f .y) z-listed (p .later) (omega arith) in
+      Memᴰ·cast (sym (f .is)) (direct-in (rideIn timetable z (f .x) (f .y)) listed (search writes))
 
   record Covered (c : Connection) : Type 0 where
     one : Connection
-    first : one ∈ firstRides t a u b
+    first : one ∈ firstRides timetable a u b
     no-worse : NoWorse (cost u one) (cost u c)
 
   -- and each direct ride has a first ride that is no worse
   covered : (c : Connection) → c ∈ directs n a u b → Covered c
-  covered c m = go (rides-out t r (x .1))
+  covered c m = go (rides-out timetable r (x .1))
     where
       x : (r : Ride) × (r ∈ n .rides) × T (wanted r) × (direct r ≡ c)
       x = direct-out c m
@@ -183,7 +189,7 @@ module _ (timetable : Timetable) (a u b : ℕ) where
       w : T (wanted r)
       w = x .2
 
-      go : Taken t r → Covered c
+      go : Taken timetable r → Covered c
       go k =
           let z = k .z in
           let s = line-of t z (k .listed) in
@@ -197,16 +203,16 @@ module _ (timetable : Timetable) (a u b : ℕ) where
           let timely : T (leb u (r .depart)) = search reads in
           let z-leaves : T (inTime t u (k .x) z) = subst (λ v. T (leb u (v .depart))) (sym (k .is)) timely in
           let f = first-covers t (inTime t u (k .x)) l (o .ordered) z (s .member) z-leaves in
-          let q = lemma-1 t (f .one) z (k .x) (k .y) (f .before) in
+          let q = lemma-1 timetable (f .one) z (k .x) (k .y) (f .before) in
           let arrives = ap (λ v. v .arrive) (k .is) in
           let points = ap (λ v. v .points) (k .is) in
           let arrives-c = ap arrival (x .3) in
           let points-c = ap penalty (x .3) in
           record {
-            one = direct (rideAt (getD t (f .one) []) (f .one) (k .x) (k .y));
+            one = direct (rideIn timetable (f .one) (k .x) (k .y));
             first =
                 first-in
-                t
+                timetable
                 a
                 u
                 b
@@ -226,11 +232,11 @@ module _ (timetable : Timetable) (a u b : ℕ) where
           }
 
   -- the first half of demand 2: the costs of a direct query, from the first trips of the lines
-  pub direct-costs : costs (measure u) (firstRides t a u b) ≡ costs (measure u) (directs n a u b)
+  pub direct-costs : costs (measure u) (firstRides timetable a u b) ≡ costs (measure u) (directs n a u b)
   direct-costs =
       costs-covered
       (measure u)
       (directs n a u b)
-      (firstRides t a u b)
+      (firstRides timetable a u b)
       first-direct
       (λ c m. let k = covered c m in (k .one, k .first, k .no-worse))

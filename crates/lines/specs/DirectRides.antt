@@ -5,9 +5,9 @@ use mathlib.Core.List.{List, [], map}
 use Prim.Native.Nat.{ℕ}
 use lib.Dec.{leb, eqb}
 use lib.ListN.{length, getD}
-use Rattle.timetable.specs.Timetable.{Trip}
+use Rattle.timetable.specs.Timetable.{Trip, Timetable}
 use Rattle.lists.specs.Lists.{filter, firstOf, concatMap, range}
-use Rattle.connections.specs.Rides.{noStop, rideAt, mayRide}
+use Rattle.connections.specs.Rides.{noStop, rideIn, mayRide}
 use Rattle.connections.specs.Connections.{Net, Connection, direct}
 use Rattle.connections.specs.Planner.{boardable, rowsOf}
 use Rattle.lines.specs.Lines.{lines, course, stationOn}
@@ -27,21 +27,24 @@ abbrev pub inTime : List Trip → (u x z : ℕ) → Bool
 inTime t u x z = leb u ((getD (getD t z []) x noStop) .depart)
 
 -- the first trip of line l, from place x to place y
-abbrev pub firstTo : List Trip → (u : ℕ) (l : List ℕ) (x y : ℕ) → List Connection
-firstTo t u l x y = map (λ z. direct (rideAt (getD t z []) z x y)) (firstOf (inTime t u x) l)
+abbrev pub firstTo : Timetable → (u : ℕ) (l : List ℕ) (x y : ℕ) → List Connection
+firstTo t u l x y =
+    map (λ z. direct (rideIn t z x y)) (firstOf (inTime (t .trips) u x) l)
 
 -- from place x to each later place of b; the trips of a line agree in where one may ride
-abbrev pub firstFrom : List Trip → (u b : ℕ) (l : List ℕ) (x : ℕ) → List Connection
+abbrev pub firstFrom : Timetable → (u b : ℕ) (l : List ℕ) (x : ℕ) → List Connection
 firstFrom t u b l x =
     concatMap
     (firstTo t u l x)
-    (filter (λ y. mayRide (course t l) x y && eqb (stationOn t l y) b) (range 0 (length (course t l))))
+    (filter (λ y. mayRide (course (t .trips) l) x y && eqb (stationOn (t .trips) l y) b)
+    (range 0 (length (course (t .trips) l))))
 
 -- from each place of a on line l
-abbrev pub firstOn : List Trip → (a u b : ℕ) (l : List ℕ) → List Connection
+abbrev pub firstOn : Timetable → (a u b : ℕ) (l : List ℕ) → List Connection
 firstOn t a u b l =
-    concatMap (firstFrom t u b l) (filter (λ x. eqb (stationOn t l x) a) (range 0 (length (course t l))))
+    concatMap (firstFrom t u b l) (filter (λ x. eqb (stationOn (t .trips) l x) a)
+    (range 0 (length (course (t .trips) l))))
 
 -- on all lines
-unfoldable pub firstRides : List Trip → (a u b : ℕ) → List Connection
-firstRides t a u b = concatMap (firstOn t a u b) (lines t)
+unfoldable pub firstRides : Timetable → (a u b : ℕ) → List Connection
+firstRides t a u b = concatMap (firstOn t a u b) (lines (t .trips))

@@ -7,7 +7,7 @@ use mathlib.Core.List.{List, [], _∷_, _++_, map}
 use Prim.Native.Nat.{ℕ, suc}
 use lib.Dec.{leb, eqb}
 use lib.ListN.{length, getD}
-use Rattle.timetable.specs.Timetable.{Stop, Trip}
+use Rattle.timetable.specs.Timetable.{Stop, Trip, Timetable, numberOf}
 use Rattle.lists.specs.Lists.{filter, concatMap, range, sort}
 use Rattle.connections.specs.Rides.{noStop}
 
@@ -49,7 +49,7 @@ abbrev pub firstDeparture : Trip → ℕ
 firstDeparture [] = 0
 firstDeparture (s ∷ l) = s .depart
 
--- a trip's first departure, then its place
+-- a trip's first departure, then its place: trips stand in rising number
 abbrev pub tripKey : List Trip → (z : ℕ) → List ℕ
 tripKey t z = firstDeparture (getD t z []) ∷ z ∷ []
 
@@ -62,8 +62,8 @@ unfoldable pub lines : List Trip → List (List ℕ)
 lines t = addTrips t (inOrder t) []
 
 -- the lines with the numbers of their trips
-abbrev pub lineNumbers : List Trip → List (List ℕ)
-lineNumbers t = map (map suc) (lines t)
+abbrev pub lineNumbers : Timetable → List (List ℕ)
+lineNumbers t = map (map (numberOf t)) (lines (t .trips))
 
 abbrev pub headOf : List ℕ → ℕ
 headOf [] = 0

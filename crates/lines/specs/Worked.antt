@@ -5,7 +5,7 @@ use lib.ListN.{length}
 use Rattle.timetable.specs.Worked.{variant, M}
 use Rattle.lines.specs.Lines.{inOrder, lines, lineNumbers, calls}
 
-pub case-e : lineNumbers (M .trips) ≡ (1 ∷ []) ∷ (3 ∷ 2 ∷ []) ∷ []
+pub case-e : lineNumbers M ≡ (1 ∷ []) ∷ (3 ∷ 2 ∷ []) ∷ []
 unfolding M variant lines inOrder
 case-e = refl
 

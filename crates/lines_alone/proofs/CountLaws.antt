@@ -6,12 +6,23 @@ use Prim.Native.Nat.{ℕ, suc, _+_, _-_, _≤_, _<_}
 use native.Mathlib.Omega.{arith}
 use borrow.Author.Tests.{le-leb, lt-leb}
 use lib.Dec.{leb}
-use lib.ListN.{length, getD, length-append, length-map}
+use lib.ListN.{length, getD, take, length-append, length-map}
 use Rattle.lists.specs.Lists.{range}
 use Rattle.lists.specs.Ranges.{length-range, range-more, range-none}
 use Rattle.timetable.specs.Timetable.{stopsOf}
 use Rattle.lines_lookup.specs.Lookup.{Line, lineAt}
-use Rattle.lines_alone.specs.Drawn.{Home, homeOf, stopOn, tripOn, drawnTrip, drawnTrips, tripsFrom, countsFit}
+use Rattle.lines_alone.specs.Drawn.{
+  Home,
+  homeOf,
+  stopOn,
+  tripOn,
+  drawnNumbers,
+  drawnTrip,
+  drawnTrips,
+  tripsFrom,
+  countsFit,
+}
+use Rattle.lines_alone.proofs.NumberLaws.{number-told}
 
 pub length-tripOn : (v : List ℕ) (h : Home) → length (tripOn v h) ≡ (h .line) .positions
 unfolding tripOn
@@ -27,16 +38,20 @@ module _ (v : List ℕ) (trips : ℕ) where
       (z count : ℕ)
       (so-far : length (stopsOf (drawnTrips v 0 trips)) ≡ count + length (stopsOf (drawnTrips v z (trips - z))))
     where
-      pub stops-more : (h : Home) → h ≡ homeOf v (z + 1) → z < trips
+      pub stops-more : (numbers : List ℕ) → take trips numbers ≡ drawnNumbers v → z < trips
+          → (number : ℕ) → number ≡ getD numbers z 0 → (h : Home) → h ≡ homeOf v number
           → length (stopsOf (drawnTrips v 0 trips))
           ≡ count + (h .line) .positions + length (stopsOf (drawnTrips v (z + 1) (trips - (z + 1))))
-      stops-more h e more =
+      stops-more numbers told more number is h e =
           let next : length (stopsOf (drawnTrips v z (trips - z)))
           ≡ length (drawnTrip v z) + length (stopsOf (drawnTrips v (z + 1) (trips - (z + 1)))) =
           ap (λ r. length (stopsOf (map (drawnTrip v) r))) (range-more z trips more)
           ∙ length-append (drawnTrip v z) (stopsOf (drawnTrips v (z + 1) (trips - (z + 1)))) in
+          let home : h ≡ homeOf v (getD (drawnNumbers v) z 0) =
+          e ∙ ap (homeOf v) (number-told v numbers trips told z more number is) in
           let this : length (drawnTrip v z) ≡ (h .line) .positions =
-          length-tripOn v (homeOf v (z + 1)) ∙ ap (λ (x : Home). (x .line) .positions) (sym e) in
+          length-tripOn v (homeOf v (getD (drawnNumbers v) z 0))
+          ∙ ap (λ (x : Home). (x .line) .positions) (sym home) in
           omega (arith, so-far, next, this)
 
       pub stops-counted : trips ≤ z → count ≡ length (stopsOf (drawnTrips v 0 trips))
@@ -69,17 +84,11 @@ module _ (v : List ℕ) (s : ℕ) (is-s : s ≡ getD v 0 0) where
   unfolding countsFit
   stations-many h = simp (← is-s, lt-leb s 64 h)
 
-  module _ (few-s : s ≤ 64) (t : ℕ) (is-t : t ≡ getD v 2 0) where
-    pub trips-many : 256 < t → false ≡ countsFit v
+  module _ (few-s : s ≤ 64) (n : ℕ) (is-n : n ≡ getD v 1 0) where
+    pub lines-many : 256 < n → false ≡ countsFit v
     unfolding countsFit
-    trips-many h = simp (← is-s, le-leb s 64 few-s, ← is-t, lt-leb t 256 h)
+    lines-many h = simp (← is-s, le-leb s 64 few-s, ← is-n, lt-leb n 256 h)
 
-    module _ (few-t : t ≤ 256) (n : ℕ) (is-n : n ≡ getD v 1 0) where
-      pub lines-many : 256 < n → false ≡ countsFit v
-      unfolding countsFit
-      lines-many h = simp (← is-s, le-leb s 64 few-s, ← is-t, le-leb t 256 few-t, ← is-n, lt-leb n 256 h)
-
-      pub counts-tested : (k : ℕ) → k ≡ tripsFrom v 0 n → n ≤ 256 → leb k 256 ≡ countsFit v
-      unfolding countsFit
-      counts-tested k e few-n =
-          simp (← is-s, le-leb s 64 few-s, ← is-t, le-leb t 256 few-t, ← is-n, le-leb n 256 few-n, e)
+    pub counts-tested : (k : ℕ) → k ≡ tripsFrom v 0 n → n ≤ 256 → leb k 256 ≡ countsFit v
+    unfolding countsFit
+    counts-tested k e few-n = simp (← is-s, le-leb s 64 few-s, ← is-n, le-leb n 256 few-n, e)

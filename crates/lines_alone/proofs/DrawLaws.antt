@@ -7,7 +7,9 @@ use native.Mathlib.Omega.{arith}
 use borrow.Author.Tests.{lt-ltb, le-ltb}
 use lib.ListN.{
   length,
+  getD,
   set,
+  take,
   replicate,
   length-append,
   length-map,
@@ -39,10 +41,12 @@ use Rattle.lines_alone.specs.Drawn.{
   stopWith,
   stopOn,
   tripOn,
+  drawnNumbers,
   drawnTrip,
   drawnTrips,
   plainStation,
 }
+use Rattle.lines_alone.proofs.NumberLaws.{number-told}
 use Rattle.lines_alone.proofs.CountLaws.{length-tripOn}
 
 -- the next words, behind the m that stand there
@@ -205,9 +209,10 @@ module _ (v : List ℕ) (trips z count : ℕ) (counted : count ≡ length (stops
   abbrev those : List Trip
   those = drawnTrips v 0 z
 
-  module _ (h : Home) (is : h ≡ homeOf v (z + 1)) (more : z < trips) where
+  module _ (numbers : List ℕ) (told : take trips numbers ≡ drawnNumbers v) (number : ℕ)
+      (read : number ≡ getD numbers z 0) (h : Home) (is : h ≡ homeOf v number) (more : z < trips) where
     next-trip : drawnTrip v z ≡ tripOn v h
-    next-trip = ap (tripOn v) (sym is)
+    next-trip = ap (tripOn v) (sym (is ∙ ap (homeOf v) (number-told v numbers trips told z more number read)))
 
     next-long : length (drawnTrip v z) ≡ (h .line) .positions
     next-long = ap length next-trip ∙ length-tripOn v h

@@ -1,4 +1,5 @@
-pub mod FindLaws
+pub mod MarkLaws
+pub mod NumberLaws
 pub mod CountLaws
 pub mod DrawLaws
 pub mod SomeLaws

@@ -7,7 +7,7 @@ use native.Mathlib.Nat.{zero-add}
 use native.Mathlib.Omega.{arith}
 use borrow.Author.Tests.{le-leb, lt-leb, not-true, not-false}
 use lib.Dec.{leb}
-use lib.ListN.{length, getD, drop, replicate, length-map, length-replicate}
+use lib.ListN.{length, getD, take, drop, replicate, length-map, length-replicate, take-append-drop}
 use Rattle.words.specs.Put.{put, put-append}
 use Rattle.lists.specs.Lists.{range}
 use Rattle.lists.specs.Ranges.{length-range}
@@ -19,83 +19,99 @@ use Rattle.timetable.specs.WordLaws.{length-stationWords, joined-words}
 use Rattle.accepted.specs.Spelled.{words-spell, words-chained}
 use Rattle.lines_check.specs.Question10.{begins, areTables}
 use Rattle.lines_alone.specs.Facts.{they-fit}
-use Rattle.lines_alone.specs.Drawn.{drawnTrip, drawnTrips, plainStation, drawn, countsFit, areSome, aloneNumber}
+use Rattle.lines_alone.specs.Drawn.{
+  drawnNumbers,
+  drawnTrip,
+  drawnTrips,
+  plainStation,
+  drawn,
+  countsFit,
+  areSome,
+  aloneNumber,
+}
+use Rattle.lines_alone.specs.Marks.{Marked, markedNumbers}
+use Rattle.lines_alone.proofs.NumberLaws.{trips-drawn, trips-told}
 
 -- ---- drawing within the limits
 module _ (v : List ℕ) (fit : countsFit v ≡ true) where
   pub few-stations : (s : ℕ) → s ≡ getD v 0 0 → s ≤ 64
   few-stations s is = omega (arith, they-fit v fit .stations)
 
-  pub few-trips : (t : ℕ) → t ≡ getD v 2 0 → t ≤ 256
-  few-trips t is = omega (arith, they-fit v fit .trips)
-
   pub stations-room : (s : ℕ) → s ≡ getD v 0 0 → 2 * s ≤ 8320
   stations-room s is = omega (arith, few-stations s is)
 
-  pub starts-room : (t : ℕ) → t ≡ getD v 2 0 → t < 257
-  starts-room t is = omega (arith, few-trips t is)
-
-  module _ (t : ℕ) (is-t : t ≡ getD v 2 0) (few : length (stopsOf (drawnTrips v 0 (getD v 2 0))) ≤ 2048) where
-    pub few-stops : length (stopsOf (drawnTrips v 0 t)) ≤ 2048
-    few-stops = omega (arith, few, ap (λ n. length (stopsOf (drawnTrips v 0 n))) is-t)
-
+  module _ (t : ℕ) (few : length (stopsOf (drawnTrips v 0 t)) ≤ 2048) where
     pub few-counted : (n : ℕ) → n ≡ length (stopsOf (drawnTrips v 0 t)) → n ≤ 2048
-    few-counted n e = omega (arith, few-stops)
+    few-counted n e = omega (arith, few)
 
     pub stops-room : (s : ℕ) → s ≡ getD v 0 0 → (body : List ℕ) → length body ≡ 8320
         → 2 * s + 4 * length (stopsOf (drawnTrips v 0 t)) ≤ length body
-    stops-room s is-s body long = omega (arith, few-stops, few-stations s is-s)
+    stops-room s is-s body long = omega (arith, few, few-stations s is-s)
 
 -- ---- what is drawn
-module _ (v : List ℕ) (s t n : ℕ) (is-s : s ≡ getD v 0 0) (is-t : t ≡ getD v 2 0)
-    (counts : n ≡ length (stopsOf (drawnTrips v 0 t))) where
+-- each trip has a number
+pub drawn-numbered : (v : List ℕ) → length ((drawn v) .numbers) ≡ length ((drawn v) .trips)
+unfolding drawn
+drawn-numbered v =
+    let n = length (drawnNumbers v) in
+    sym (length-map (range 0 n) (drawnTrip v) ∙ length-range 0 n)
+
+module _ (v : List ℕ) (s t n : ℕ) (is-s : s ≡ getD v 0 0) (counts : n ≡ length (stopsOf (drawnTrips v 0 t)))
+    (numbers : List ℕ) (told : take t numbers ≡ drawnNumbers v) (room₃ : t ≤ length numbers) where
   abbrev stations : List ℕ
   stations = stationWords (replicate s plainStation)
 
   abbrev stops : List ℕ
   stops = stopWords (stopsOf (drawnTrips v 0 t))
 
+  is-t : t ≡ length (drawnNumbers v)
+  is-t = trips-told v numbers t told room₃
+
+  numbers-held : numbers ≡ put 0 (drawnNumbers v) numbers
+  unfolding put
+  numbers-held = sym (take-append-drop t numbers) ∙ (λ i. told i ++ drop (is-t i) numbers) ∙ rw zero-add
+
   pub drawn-written : (zeros mid body zeros₂ starts old out : List ℕ)
       → 2 * s + 4 * length (stopsOf (drawnTrips v 0 t)) ≤ length zeros
       → mid ≡ put 0 (stationWords (replicate s plainStation)) zeros
       → body ≡ put (2 * s) (stopWords (stopsOf (drawnTrips v 0 t))) mid
       → starts ≡ put 0 (startWords 0 (drawnTrips v 0 t)) zeros₂
-      → out ≡ put 0 (joined s t n body starts) old → out ≡ put 0 (words (drawn v)) old
+      → out ≡ put 0 (joined s t n body starts numbers) old → out ≡ put 0 (words (drawn v)) old
   unfolding drawn
   drawn-written zeros mid body zeros₂ starts old out room first second third wrote =
+      let m = length (drawnNumbers v) in
       let many : length stations ≡ 2 * s =
       length-stationWords (replicate s plainStation) ∙ ap (λ k. 2 * k) (length-replicate s plainStation) in
       let both : body ≡ put 0 (stations ++ stops) zeros =
       second
       ∙ (λ i. put (sym (zero-add (2 * s)) i) stops (first i))
       ∙ put-append 0 (2 * s) stations stops zeros many (omega arith) in
-      let told : body
-      ≡ put 0 (stationWords (replicate (getD v 0 0) plainStation) ++ stopWords (stopsOf (drawnTrips v 0 (getD v 2 0))))
-      zeros =
+      let held : body
+      ≡ put 0 (stationWords (replicate (getD v 0 0) plainStation) ++ stopWords (stopsOf (drawnTrips v 0 m))) zeros =
       both
       ∙ (λ i. put 0
       (stationWords (replicate (is-s i) plainStation) ++ stopWords (stopsOf (drawnTrips v 0 (is-t i))))
       zeros) in
-      let begun : starts ≡ put 0 (startWords 0 (drawnTrips v 0 (getD v 2 0))) zeros₂ =
+      let begun : starts ≡ put 0 (startWords 0 (drawnTrips v 0 m)) zeros₂ =
       third ∙ (λ i. put 0 (startWords 0 (drawnTrips v 0 (is-t i))) zeros₂) in
       let stations-are : s ≡ length (replicate (getD v 0 0) plainStation) =
       is-s ∙ sym (length-replicate (getD v 0 0) plainStation) in
-      let trips-are : t ≡ length (drawnTrips v 0 (getD v 2 0)) =
-      is-t ∙ sym (length-map (range 0 (getD v 2 0)) (drawnTrip v) ∙ length-range 0 (getD v 2 0)) in
-      let stops-are : n ≡ length (stopsOf (drawnTrips v 0 (getD v 2 0))) =
+      let stops-are : n ≡ length (stopsOf (drawnTrips v 0 m)) =
       counts ∙ ap (λ k. length (stopsOf (drawnTrips v 0 k))) is-t in
       wrote
       ∙ ap (λ w. put 0 w old)
-      (joined-words (drawn v) s t n stations-are trips-are stops-are body starts zeros zeros₂ told begun)
+      (joined-words (drawn v) s t n stations-are (is-t ∙ drawn-numbered v) stops-are body starts numbers zeros zeros₂
+      numbers held begun numbers-held (drawn-numbered v))
 
 -- ---- its words spell it, whatever stands behind them
-module _ (t : Timetable) (old w : List ℕ) (is : w ≡ put 0 (words t) old) where
+module _ (t : Timetable) (numbered : length (t .numbers) ≡ length (t .trips)) (old w : List ℕ)
+    (is : w ≡ put 0 (words t) old) where
   begun : w ≡ words t ++ drop (0 + length (words t)) old
   unfolding put
   begun = is
 
   spelled : timetableOf w ≡ t
-  spelled = ap timetableOf begun ∙ words-spell t (drop (0 + length (words t)) old)
+  spelled = ap timetableOf begun ∙ words-spell t (drop (0 + length (words t)) old) numbered
 
   tested : isTimetable w ≡ valid t
   unfolding isTimetable
@@ -104,6 +120,16 @@ module _ (t : Timetable) (old w : List ℕ) (is : w ≡ put 0 (words t) old) whe
       rw (linked, spelled)
 
 -- ---- question 10
+pub stops-few : (v : List ℕ) (t n : ℕ) → n ≡ length (stopsOf (drawnTrips v 0 t)) → n ≤ 2048
+    → length (stopsOf (drawnTrips v 0 t)) ≤ 2048
+stops-few v t n counts h = omega (arith, counts)
+
+uncounted : (t : Timetable) → 256 < length (t .trips) → counted t ≡ false
+unfolding counted
+uncounted t h =
+    let stations : Bool = leb 1 (length (t .stations)) && leb (length (t .stations)) 64 in
+    rw (and-false stations (leb (length (t .trips)) 256) (lt-leb (length (t .trips)) 256 h))
+
 many-uncounted : (t : Timetable) → 2048 < length (stopsOf (t .trips)) → counted t ≡ false
 unfolding counted
 many-uncounted t h =
@@ -112,9 +138,10 @@ many-uncounted t h =
     (leb (length (stopsOf (t .trips))) 2048)
     (lt-leb (length (stopsOf (t .trips))) 2048 h)
 
-many-invalid : (v : List ℕ) → 2048 < length (stopsOf (drawnTrips v 0 (getD v 2 0))) → valid (drawn v) ≡ false
-unfolding valid drawn
-many-invalid v h = rw (many-uncounted (drawn v) h)
+-- too many trips, or too many stops
+many-invalid : (v : List ℕ) → counted (drawn v) ≡ false → valid (drawn v) ≡ false
+unfolding valid
+many-invalid v e = rw e
 
 module _ (v : List ℕ) (r : Bool) (fits : r ≡ countsFit v) where
   pub counts-no : not r ≡ true → false ≡ areSome v
@@ -125,35 +152,40 @@ module _ (v : List ℕ) (r : Bool) (fits : r ≡ countsFit v) where
     pub counts-yes : countsFit v ≡ true
     counts-yes = sym fits ∙ not-false r fine
 
-    module _ (t n : ℕ) (is-t : t ≡ getD v 2 0) (counts : n ≡ length (stopsOf (drawnTrips v 0 t))) where
-      counted-all : n ≡ length (stopsOf (drawnTrips v 0 (getD v 2 0)))
-      counted-all = counts ∙ ap (λ k. length (stopsOf (drawnTrips v 0 k))) is-t
+    pub lines-few : (n : ℕ) → n ≡ getD v 1 0 → n ≤ 256
+    lines-few n is = omega (arith, they-fit v counts-yes .lines)
 
-      pub stops-few : n ≤ 2048 → length (stopsOf (drawnTrips v 0 (getD v 2 0))) ≤ 2048
-      stops-few h = omega (arith, counted-all)
+    drawn-not : valid (drawn v) ≡ false → false ≡ areSome v
+    unfolding areSome
+    drawn-not e = rw (counts-yes, e)
 
-      pub stops-no : 2048 < n → false ≡ areSome v
-      unfolding areSome
-      stops-no h =
-          let many : 2048 < length (stopsOf (drawnTrips v 0 (getD v 2 0))) = omega (arith, counted-all) in
-          rw (counts-yes, many-invalid v many)
+    module _ (marks : List ℕ) (held : Marked v 0 marks) (t : ℕ) (told : t ≡ length (markedNumbers marks)) where
+      all-are : t ≡ length (drawnNumbers v)
+      all-are = trips-drawn v marks held t told
 
-    pub trips-few : (t : ℕ) → t ≡ getD v 2 0 → t ≤ 256
-    trips-few t is = few-trips v counts-yes t is
+      pub trips-no : 256 < t → false ≡ areSome v
+      unfolding drawn
+      trips-no h =
+          drawn-not (many-invalid v (uncounted (drawn v) (omega (arith, h, all-are, drawn-numbered v))))
+
+      pub stops-no : (n : ℕ) → n ≡ length (stopsOf (drawnTrips v 0 t)) → 2048 < n → false ≡ areSome v
+      unfolding drawn
+      stops-no n counts h =
+          let all = ap (λ k. length (stopsOf (drawnTrips v 0 k))) all-are in
+          drawn-not (many-invalid v (many-uncounted (drawn v) (omega (arith, counts, h, all))))
 
     module _ (old w : List ℕ) (drawn-is : w ≡ put 0 (words (drawn v)) old) (q : Bool) (asked : q ≡ isTimetable w) where
+      is-valid : q ≡ valid (drawn v)
+      is-valid = asked ∙ tested (drawn v) (drawn-numbered v) old w drawn-is
+
       pub drawn-no : not q ≡ true → false ≡ areSome v
-      unfolding areSome
-      drawn-no denied =
-          let invalid : valid (drawn v) ≡ false = sym (asked ∙ tested (drawn v) old w drawn-is) ∙ not-true q denied in
-          simp (counts-yes, invalid)
+      drawn-no denied = drawn-not (sym is-valid ∙ not-true q denied)
 
       pub some-asked : not q ≡ false → (b : Bool) → b ≡ areTables w v → b ≡ areSome v
       unfolding areSome
       some-asked granted b e =
-          let sound : valid (drawn v) ≡ true =
-          sym (asked ∙ tested (drawn v) old w drawn-is) ∙ not-false q granted in
-          simp (counts-yes, sound) (e ∙ ap (begins v) (spelled (drawn v) old w drawn-is))
+          let sound : valid (drawn v) ≡ true = sym is-valid ∙ not-false q granted in
+          simp (counts-yes, sound) (e ∙ ap (begins v) (spelled (drawn v) (drawn-numbered v) old w drawn-is))
 
 -- ---- the ways out of the call that asks
 module _ (v : List ℕ) (n : ℕ) where

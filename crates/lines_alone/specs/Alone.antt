@@ -1,29 +1,35 @@
--- Question 10 for line tables lent without a timetable: "could they come from an accepted timetable?" The test areSome
--- has a yes exactly for the words that do, and what building wrote, with number 0, always has its yes. This is for a
--- reader, as `question10-alone`, `building-has-yes-alone` and `building-asked-alone` say it.
-use mathlib.Core.Path.{_≡_, refl, sym, ap, subst, _∙_}
+-- Question 10 for line tables lent without a timetable: "could they come from an accepted timetable?", where, document
+-- 02, Eleven, "numbers may have gaps". The test areSome has a yes exactly for the words that do, and what building
+-- wrote, with number 0, always has its yes. This is for a reader, as `question10-alone`, `building-has-yes-alone` and
+-- `building-asked-alone` say it.
+use mathlib.Core.Path.{_≡_, refl, ap, _∙_}
 use mathlib.Core.Bool.{Bool, true, _&&_}
 use mathlib.Core.Logic.{_↔_}
 use mathlib.Core.List.{List, [], _∷_}
-use Prim.Native.Nat.{ℕ, zero, suc, _+_, _≤_, _<_}
+use Prim.Native.Nat.{ℕ, zero, suc, _+_, _<_}
 use native.Mathlib.Omega.{arith}
 use borrow.Author.Tests.{le-leb}
 use lib.ListN.{length, getD, replicate, length-append, length-replicate}
-use Rattle.words.specs.Below.{Below}
 use Rattle.lists.specs.Tests.{and-left, and-right}
-use Rattle.timetable.specs.Timetable.{Timetable, Trip, validStation, validStations, validTrips, counted, valid}
+use Rattle.timetable.specs.Timetable.{
+  Timetable,
+  validStation,
+  validStations,
+  validTrips,
+  counted,
+  numbered,
+  valid,
+}
 use Rattle.timetable.specs.Words.{timetableOf}
 use Rattle.timetable.specs.Access.{spelled-valid}
-use Rattle.reading.specs.Reading.{Accepted, reading, textMost}
+use Rattle.accepted.specs.Led.{Led}
+use Rattle.accepted.specs.Leads.{led-valid, valid-led}
 use Rattle.accepted.specs.Valid.{is-valid}
-use Rattle.accepted.specs.WrittenOut.{linesOf, textOf}
-use Rattle.accepted.specs.TextReadBack.{text-bytes, text-short}
-use Rattle.accepted.specs.Taken.{valid-accepted}
-use Rattle.accepted.specs.Sound.{accepted-valid}
 use Rattle.lines.specs.Lines.{lines}
 use Rattle.lines.specs.Once.{onLines}
 use Rattle.lines_found.specs.Bounds.{all-on-lines, no-more-lines}
 use Rattle.replies.specs.Replies.{numberOf}
+use Rattle.lines_tables.specs.Tables.{lineWords, linePlaces, allLineWords, tableWords}
 use Rattle.lines_tables.specs.Building.{slicesLeast, buildReply, buildWords}
 use Rattle.lines_lookup.specs.Lookup.{lineCount, lineAt}
 use Rattle.lines_lookup.specs.Told.{Told, Holds}
@@ -40,30 +46,12 @@ use Rattle.lines_check.specs.Built.{
 use Rattle.lines_alone.specs.Drawn.{plainStation, drawn, tripsFrom, countsFit, areSome, aloneNumber}
 use Rattle.lines_alone.specs.Redrawn.{plain, redrawn}
 
--- Some text of at most 65,536 bytes is accepted by reading, and the words v begin with the line tables of its
--- timetable: "no question judges the words past a table".
+-- Some sequence of reading, cancelling and adding leads to a timetable, and the words v begin with its line tables:
+-- "no question judges the words past a table".
 pub record ComesFromTimetable (v : List ℕ) : Type 0 where
-  pub text : List ℕ
-  pub bytes : Below 256 text
-  pub short : length text ≤ textMost
   pub timetable : Timetable
-  pub lines : ℕ
-  pub accepted : reading text ≡ Accepted timetable lines
-  pub holds : Holds v (length (timetable .stations)) (timetable .trips)
-
--- a valid timetable has a text, the one that is written out from it
-valid-comes : (v : List ℕ) (t : Timetable) → valid t ≡ true → Holds v (length (t .stations)) (t .trips)
-    → ComesFromTimetable v
-valid-comes v t y holds =
-    record {
-      text = textOf t;
-      bytes = text-bytes t y;
-      short = text-short t y;
-      timetable = t;
-      lines = length (linesOf t);
-      accepted = valid-accepted t y;
-      holds = holds;
-    }
+  pub led : Led timetable
+  pub holds : Holds v timetable
 
 -- ---- from the test to a timetable: the one that is drawn
 yes-comes : (v : List ℕ) → areSome v ≡ true → ComesFromTimetable v
@@ -72,8 +60,11 @@ yes-comes v y =
     let fits : Bool = countsFit v in
     let drawn-valid : Bool = valid (drawn v) in
     let both = and-left (fits && drawn-valid) (begins v (drawn v)) y in
-    valid-comes v (drawn v) (and-right fits drawn-valid both)
-    (begins-holds v (drawn v) .0 (and-right (fits && drawn-valid) (begins v (drawn v)) y))
+    record {
+      timetable = drawn v;
+      led = valid-led (drawn v) (and-right fits drawn-valid both);
+      holds = begins-holds v (drawn v) .0 (and-right (fits && drawn-valid) (begins v (drawn v)) y);
+    }
 
 -- ---- from a timetable to the test
 plain-stations : (n : ℕ) → validStations (replicate n plainStation) ≡ true
@@ -82,18 +73,39 @@ plain-stations zero = refl
 plain-stations (suc n) = plain-stations n
 
 -- change values aside, a valid timetable is valid
-plain-valid : (t : Timetable) → valid t ≡ true → valid (plain (length (t .stations)) (t .trips)) ≡ true
-unfolding valid counted
+plain-valid : (t : Timetable) → valid t ≡ true → valid (plain t) ≡ true
+unfolding valid counted numbered
 plain-valid t y =
     let n = length (t .stations) in
     let stations : Bool = validStations (t .stations) in
     let trips : Bool = validTrips n (t .trips) in
-    let counts = and-left (counted t) stations (and-left (counted t && stations) trips y) in
-    rw (length-replicate n plainStation, counts, plain-stations n) (and-right (counted t && stations) trips y)
+    let front = and-left (counted t && numbered t && stations) trips y in
+    let counts = and-left (counted t && numbered t) stations front in
+    rw (length-replicate n plainStation, counts, plain-stations n)
+    (and-right (counted t && numbered t && stations) trips y)
 
-plain-begins : (v : List ℕ) (n : ℕ) (t : List Trip) → Holds v n t → begins v (plain n t) ≡ true
-plain-begins v n t holds =
-    begins-holds v (plain n t) .1 (subst (λ k. Holds v k t) (sym (length-replicate n plainStation)) holds)
+-- and its line tables are the same
+plain-places : (t : Timetable) (k : ℕ) (ls : List (List ℕ)) → linePlaces (plain t) k ls ≡ linePlaces t k ls
+unfolding linePlaces lineWords
+plain-places t k [] = refl
+plain-places t k (l ∷ ls) = ap (λ r. k ∷ r) (plain-places t (k + length (lineWords t l)) ls)
+
+plain-lines : (t : Timetable) (ls : List (List ℕ)) → allLineWords (plain t) ls ≡ allLineWords t ls
+unfolding allLineWords lineWords
+plain-lines t ls = refl
+
+plain-tables : (t : Timetable) → tableWords (plain t) ≡ tableWords t
+unfolding tableWords
+plain-tables t =
+    rw (
+      length-replicate (length (t .stations)) plainStation,
+      plain-lines t (lines (t .trips)),
+      plain-places t (4 + length (lines (t .trips))) (lines (t .trips)),
+    )
+
+plain-begins : (v : List ℕ) (t : Timetable) → Holds v t → begins v (plain t) ≡ true
+plain-begins v t holds =
+    begins-holds v (plain t) .1 (record { is = rw (plain-tables t) (holds .is) })
 
 -- the trips on the lines, by their counts
 counted-trips : (v : List ℕ) (i : ℕ) (ls : List (List ℕ))
@@ -113,8 +125,7 @@ counted-trips v i (l ∷ ls) h =
     )
 
 -- no more lines than trips, and no more trips on them
-counts-fit : (v : List ℕ) (t : Timetable) → valid t ≡ true → Told v (length (t .stations)) (t .trips)
-    → countsFit v ≡ true
+counts-fit : (v : List ℕ) (t : Timetable) → valid t ≡ true → Told v t → countsFit v ≡ true
 unfolding countsFit
 counts-fit v t y told =
     let bounds = is-valid t y in
@@ -124,28 +135,18 @@ counts-fit v t y told =
     let all = ap (tripsFrom v 0) (told .line-count) in
     rw (
       le-leb (getD v 0 0) 64 (omega (arith, told .stations, bounds .stations)),
-      le-leb (getD v 2 0) 256 (omega (arith, told .trip-count, bounds .trips)),
       le-leb (lineCount v) 256 (omega (arith, told .line-count, no-more-lines (t .trips), bounds .trips)),
       le-leb (tripsFrom v 0 (lineCount v)) 256 (omega (arith, all, trips, all-on-lines (t .trips), bounds .trips)),
     )
 
-valid-trips : (t : Timetable) → valid t ≡ true → validTrips (length (t .stations)) (t .trips) ≡ true
-unfolding valid
-valid-trips t y =
-    and-right (counted t && validStations (t .stations)) (validTrips (length (t .stations)) (t .trips)) y
-
-holds-yes : (v : List ℕ) (t : Timetable) → valid t ≡ true → Holds v (length (t .stations)) (t .trips)
-    → areSome v ≡ true
+holds-yes : (v : List ℕ) (t : Timetable) → valid t ≡ true → Holds v t → areSome v ≡ true
 unfolding areSome
 holds-yes v t y holds =
-    let n = length (t .stations) in
-    let told = holding v n (t .trips) holds in
-    rw (redrawn v n (t .trips) told (valid-trips t y), counts-fit v t y told, plain-valid t y)
-    (plain-begins v n (t .trips) holds)
+    let told = holding v t holds in
+    rw (redrawn v t told y, counts-fit v t y told, plain-valid t y) (plain-begins v t holds)
 
 comes-yes : (v : List ℕ) → ComesFromTimetable v → areSome v ≡ true
-comes-yes v c =
-    holds-yes v (c .timetable) (accepted-valid (c .text) (c .timetable) (c .lines) (c .accepted)) (c .holds)
+comes-yes v c = holds-yes v (c .timetable) (led-valid (c .led)) (c .holds)
 
 -- ---- the theorem
 pub question10-alone : (v : List ℕ) → areSome v ≡ true ↔ ComesFromTimetable v

@@ -1,14 +1,14 @@
--- The timetable that line tables tell, change values aside: each trip is found by its number on the lines, and its
--- stops are read there. From it question 10 is answered for tables lent without a timetable: could they come from this
--- one? Alone shows that, if they come from any, they come from this one.
+-- The timetable that line tables tell, change values aside: the numbers that stand on lines, rising, and for each of
+-- them the trip that is found there, whose stops are read. From it question 10 is answered for tables lent without a
+-- timetable: could they come from this one? Alone shows that, if they come from any, they come from this one.
 use mathlib.Core.Bool.{Bool, cond, _&&_}
 use mathlib.Core.List.{List, [], _∷_, map}
 use Prim.Native.Nat.{ℕ, zero, suc, _+_, _-_, _%_}
 use lib.Dec.{leb, ltb, eqb}
 use lib.ListN.{length, getD, replicate}
-use Rattle.lists.specs.Lists.{range}
+use Rattle.lists.specs.Lists.{filter, range}
 use Rattle.questions.specs.Question.{ask, firstNo}
-use Rattle.timetable.specs.Timetable.{Station, Stop, Trip, Timetable, valid}
+use Rattle.timetable.specs.Timetable.{Station, Stop, Trip, Timetable, numberMost, valid}
 use Rattle.lines_tables.specs.Building.{slicesLeast}
 use Rattle.lines_lookup.specs.Lookup.{Line, lineCount, lineAt, numberAt, stationAt, lowAt, arriveAt, departAt}
 use Rattle.lines_lookup.specs.First.{firstFrom}
@@ -35,10 +35,14 @@ hasTrip v number i = ltb (placeOn v (lineAt v i) number) ((lineAt v i) .trips)
 abbrev pub homeLine : List ℕ → (number : ℕ) → ℕ
 homeLine v number = firstFrom (hasTrip v number) 0 (lineCount v)
 
+-- some line has it
+abbrev pub stands : List ℕ → (number : ℕ) → Bool
+stands v number = ltb (homeLine v number) (lineCount v)
+
 unfoldable pub homeOf : List ℕ → (number : ℕ) → Home
 homeOf v number =
     cond
-    (ltb (homeLine v number) (lineCount v))
+    (stands v number)
     (record {
       line = lineAt v (homeLine v number);
       place = placeOn v (lineAt v (homeLine v number)) number;
@@ -67,9 +71,17 @@ stopOn v h p = stopWith v h p (nextPoints v (h .line) p)
 unfoldable pub tripOn : List ℕ → Home → Trip
 tripOn v h = map (stopOn v h) (range 0 ((h .line) .positions))
 
--- the trip at place z has number z + 1
+-- those of k numbers from a on that stand on lines
+unfoldable pub numbersFrom : List ℕ → (a k : ℕ) → List ℕ
+numbersFrom v a k = filter (stands v) (range a k)
+
+-- Document 02, Eleven: the trips "taken in rising number", where "numbers may have gaps and go to 9,999"
+unfoldable pub drawnNumbers : List ℕ → List ℕ
+drawnNumbers v = numbersFrom v 1 numberMost
+
+-- the trip at place z is that of the number at place z
 abbrev pub drawnTrip : List ℕ → (z : ℕ) → Trip
-drawnTrip v z = tripOn v (homeOf v (z + 1))
+drawnTrip v z = tripOn v (homeOf v (getD (drawnNumbers v) z 0))
 
 -- n trips from place z on
 abbrev pub drawnTrips : List ℕ → (z n : ℕ) → List Trip
@@ -80,7 +92,12 @@ abbrev pub plainStation : Station
 plainStation = record { minutes = 0; points = 1 }
 
 unfoldable pub drawn : List ℕ → Timetable
-drawn v = record { stations = replicate (getD v 0 0) plainStation; trips = drawnTrips v 0 (getD v 2 0) }
+drawn v =
+    record {
+      stations = replicate (getD v 0 0) plainStation;
+      numbers = drawnNumbers v;
+      trips = drawnTrips v 0 (length (drawnNumbers v));
+    }
 
 -- the trips on n lines from place i on
 unfoldable pub tripsFrom : List ℕ → (i n : ℕ) → ℕ
@@ -90,10 +107,7 @@ tripsFrom v i (suc n) = (lineAt v i) .trips + tripsFrom v (i + 1) n
 -- counts that a timetable within the limits leads to: without them a search for trips might take long
 unfoldable pub countsFit : List ℕ → Bool
 countsFit v =
-    leb (getD v 0 0) 64
-    && leb (getD v 2 0) 256
-    && leb (lineCount v) 256
-    && leb (tripsFrom v 0 (lineCount v)) 256
+    leb (getD v 0 0) 64 && leb (lineCount v) 256 && leb (tripsFrom v 0 (lineCount v)) 256
 
 -- question 10 for tables lent without a timetable, as it is decided
 unfoldable pub areSome : List ℕ → Bool

@@ -13,7 +13,6 @@ use Rattle.lines_alone.specs.Drawn.{drawn, tripsFrom, countsFit, areSome
 
 pub record Fit (v : List ℕ) : Type 0 where
   pub stations : getD v 0 0 ≤ 64
-  pub trips : getD v 2 0 ≤ 256
   pub lines : lineCount v ≤ 256
   pub trips-on : tripsFrom v 0 (lineCount v) ≤ 256
 

@@ -1,22 +1,22 @@
 -- What is handed out for a line: the numbers of its trips, as the timetable that the line tables tell has them, and a
 -- piece that lies within the slice.
-use mathlib.Core.Path.{_≡_, refl, sym, ap, _∙_}
+use mathlib.Core.Path.{_≡_, refl, sym, ap, subst, _∙_}
 use mathlib.Core.Bool.{Bool, true, false, _&&_}
 use mathlib.Core.List.{List, [], _∷_, _++_, map, append-assoc}
-use Prim.Native.Nat.{ℕ, suc, _+_, _-_, _≤_, _<_}
+use Prim.Native.Nat.{ℕ, _+_, _-_, _≤_, _<_}
 use native.Mathlib.Omega.{arith}
 use borrow.Author.Tests.{leb-true, eq-eqb}
-use lib.Dec.{leb}
+use lib.Dec.{T, leb}
 use lib.ListN.{length, getD, take, drop, length-map, length-append, List·getD-map}
 use lib.Seq.{take-at, drop-at, take-all, getD-take}
 use Rattle.questions.specs.Question.{ask, firstNo}
 use Rattle.lists.specs.Tests.{and-left, and-right}
-use Rattle.timetable.specs.Timetable.{Trip}
+use Rattle.timetable.specs.Timetable.{Trip, Timetable, numberOf}
+use Rattle.timetable.specs.Numbers.{numbers-many}
 use Rattle.timetable.specs.Words.{words}
 use Rattle.lines.specs.Lines.{lines, lineNumbers, course}
 use Rattle.lines_tables.specs.Tables.{courseWords, lineTimes, lineWords, linePlaces, allLineWords, callPlaces}
 use Rattle.lines_tables.specs.Tables.{allCallPairs, indexPlace, tableWords}
-use Rattle.lines_tables.specs.Building.{tablesOf}
 use Rattle.lines_lookup.specs.Lookup.{lineCount, linePlace, lineAt}
 use Rattle.lines_lookup.specs.Told.{Holds}
 use Rattle.lines_lookup.specs.Places.{Stands, part-inside, left-stands, right-stands}
@@ -35,39 +35,45 @@ stands-taken part v k s =
     ∙ take-at part (s .past) (length part) refl
 
 -- ---- the trips of the line at place i
-module _ (v : List ℕ) (n : ℕ) (t : List Trip) (i : ℕ) (holds : Holds v n t) (h : i < lineCount v) where
+module _ (v : List ℕ) (timetable : Timetable) (i : ℕ) (holds : Holds v timetable) (h : i < lineCount v) where
+  abbrev t : List Trip
+  t = timetable .trips
+
   abbrev trips : List ℕ
   trips = getD (lines t) i []
 
+  abbrev numbers : List ℕ
+  numbers = map (numberOf timetable) trips
+
   is-line : i < length (lines t)
-  is-line = omega (arith, holding v n t holds .line-count)
+  is-line = omega (arith, holding v timetable holds .line-count)
 
   many : (lineAt v i) .trips ≡ length trips
-  many = holding v n t holds .line i is-line .trips
+  many = holding v timetable holds .line i is-line .trips
 
-  numbers-stand : Stands (map suc trips) v (linePlace v i + 2)
+  numbers-stand : Stands numbers v (linePlace v i + 2)
   unfolding lineWords
   numbers-stand =
       let counts = length (course t trips) ∷ length trips ∷ [] in
       let behind =
-      right-stands counts (map suc trips ++ courseWords (course t trips) ++ lineTimes t trips) v (linePlace v i)
-      (line-stands v n t holds i is-line) in
-      left-stands (map suc trips) (courseWords (course t trips)) v (linePlace v i + 2)
-      (left-stands (map suc trips ++ courseWords (course t trips)) (lineTimes t trips) v (linePlace v i + 2) behind)
+      right-stands counts (numbers ++ courseWords (course t trips) ++ lineTimes t trips) v (linePlace v i)
+      (line-stands v timetable holds i is-line) in
+      left-stands numbers (courseWords (course t trips)) v (linePlace v i + 2)
+      (left-stands (numbers ++ courseWords (course t trips)) (lineTimes t trips) v (linePlace v i + 2) behind)
 
   numbers-inside : linePlace v i + 2 + (lineAt v i) .trips ≤ length v
   numbers-inside =
       omega (
         arith,
-        part-inside (map suc trips) v (linePlace v i + 2) numbers-stand,
-        length-map trips suc,
+        part-inside numbers v (linePlace v i + 2) numbers-stand,
+        length-map trips (numberOf timetable),
         many,
       )
 
-  numbers-are : take ((lineAt v i) .trips) (drop (linePlace v i + 2) v) ≡ map suc trips
+  numbers-are : take ((lineAt v i) .trips) (drop (linePlace v i + 2) v) ≡ numbers
   numbers-are =
-      ap (λ k. take k (drop (linePlace v i + 2) v)) (many ∙ sym (length-map trips suc))
-      ∙ stands-taken (map suc trips) v (linePlace v i + 2) numbers-stand
+      ap (λ k. take k (drop (linePlace v i + 2) v)) (many ∙ sym (length-map trips (numberOf timetable)))
+      ∙ stands-taken numbers v (linePlace v i + 2) numbers-stand
 
 -- ---- where the call's number is 0
 -- so the questions behind the first have their yes
@@ -95,31 +101,32 @@ module _ (v : List ℕ) (n line : ℕ) (granted : pieceNumber v n line ≡ 0) wh
   pub lines-few : lineCount v ≤ 256
   lines-few = they-fit v (some .fit) .lines
 
-  held : Holds v (length ((drawn v) .stations)) ((drawn v) .trips)
+  held : Holds v (drawn v)
   held = begins-holds v (drawn v) .0 (some .own)
 
   pub piece-within : pieceStart v line + pieceLength v line ≤ length v
   unfolding pieceStart pieceLength
   piece-within =
-      numbers-inside v (length ((drawn v) .stations)) ((drawn v) .trips) (line - 1) held
+      numbers-inside v (drawn v) (line - 1) held
       (omega (arith, line-least, line-most))
 
   -- it begins within the line tables, which are not long: they hold themselves, whatever stands behind them
   abbrev told : List ℕ
-  told = tablesOf (drawn v)
+  told = tableWords (drawn v)
 
   told-few : length told ≤ 16384
   told-few =
       let w = words (drawn v) ++ [] in
-      let is = words-spell (drawn v) [] in
-      omega (arith, tables-fit w (valid-yes (drawn v) [] (some .sound)), ap (λ t. length (tablesOf t)) is)
+      let many = numbers-many (drawn v) (subst T (sym (some .sound)) tt) in
+      let is = words-spell (drawn v) [] many in
+      omega (arith, tables-fit w (valid-yes (drawn v) [] (some .sound)), ap (λ t. length (tableWords t)) is)
 
-  told-holds : Holds told (length ((drawn v) .stations)) ((drawn v) .trips)
+  told-holds : Holds told (drawn v)
   told-holds = record { is = take-all (length told) told (omega arith) }
 
   told-line : line - 1 < length (lines ((drawn v) .trips))
   told-line =
-      let counted = holding v (length ((drawn v) .stations)) ((drawn v) .trips) held .line-count in
+      let counted = holding v (drawn v) held .line-count in
       omega (arith, line-least, line-most, counted)
 
   told-long : 4 + length (lines ((drawn v) .trips)) ≤ length told
@@ -127,14 +134,14 @@ module _ (v : List ℕ) (n line : ℕ) (granted : pieceNumber v n line ≡ 0) wh
   told-long =
       let t = (drawn v) .trips in
       let n = length ((drawn v) .stations) in
-      let places = linePlaces t (4 + length (lines t)) (lines t) in
-      let two = places ++ allLineWords t (lines t) in
-      let three = two ++ callPlaces t (indexPlace t + n + 1) 1 n in
+      let places = linePlaces (drawn v) (4 + length (lines t)) (lines t) in
+      let two = places ++ allLineWords (drawn v) (lines t) in
+      let three = two ++ callPlaces t (indexPlace (drawn v) + n + 1) 1 n in
       omega (
         arith,
-        length-linePlaces t (4 + length (lines t)) (lines t),
-        length-append places (allLineWords t (lines t)),
-        length-append two (callPlaces t (indexPlace t + n + 1) 1 n),
+        length-linePlaces (drawn v) (4 + length (lines t)) (lines t),
+        length-append places (allLineWords (drawn v) (lines t)),
+        length-append two (callPlaces t (indexPlace (drawn v) + n + 1) 1 n),
         length-append three (allCallPairs t 1 n),
       )
 
@@ -146,17 +153,17 @@ module _ (v : List ℕ) (n line : ℕ) (granted : pieceNumber v n line ≡ 0) wh
   pub start-few : pieceStart v line ≤ 16384
   unfolding pieceStart
   start-few =
-      let counted = holding told (length ((drawn v) .stations)) ((drawn v) .trips) told-holds .line-count in
+      let counted = holding told (drawn v) told-holds .line-count in
       let inside =
-      numbers-inside told (length ((drawn v) .stations)) ((drawn v) .trips) (line - 1) told-holds
+      numbers-inside told (drawn v) (line - 1) told-holds
       (omega (arith, told-line, counted)) in
       omega (arith, inside, told-place, told-few)
 
   -- "The trips of one line are handed out": of whatever timetable the tables are, these are the numbers of the trips of
   -- its line, in the line's order
-  pub trips-handed : (k : ℕ) (t : List Trip) → Holds v k t → piece v n line ≡ getD (lineNumbers t) (line - 1) []
+  pub trips-handed : (t : Timetable) → Holds v t → piece v n line ≡ getD (lineNumbers t) (line - 1) []
   unfolding piece pieceStart pieceLength
-  trips-handed k t h =
+  trips-handed t h =
       rw (eq-eqb (pieceNumber v n line) 0 granted)
-      (numbers-are v k t (line - 1) h (omega (arith, line-least, line-most)))
-      ∙ sym (List·getD-map (map suc) (lines t) (line - 1) [])
+      (numbers-are v t (line - 1) h (omega (arith, line-least, line-most)))
+      ∙ sym (List·getD-map (map (numberOf t)) (lines (t .trips)) (line - 1) [])

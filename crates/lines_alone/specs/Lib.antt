@@ -1,4 +1,5 @@
 pub mod Drawn
+pub mod Marks
 pub mod Piece
 pub mod Redrawn
 pub mod Alone

@@ -9,7 +9,8 @@ use Rattle.lists.specs.Lists.{same}
 use Rattle.words.specs.Put.{put}
 use Rattle.timetable.specs.Words.{isTimetable}
 use Rattle.lines_tables.specs.Model.{tableAt}
-use Rattle.lines_tables.proofs.BuildLaws.{tables-taken, tables-are}
+use Rattle.lines_tables.specs.Same.{same-tables}
+use Rattle.lines_tables.proofs.BuildLaws.{tables-taken}
 use Rattle.lines_check.specs.Question10.{begins, areTables, tablesNumber}
 
 pub compared : (w v work out : List ℕ) (count : ℕ) (r : Bool) → isTimetable w ≡ true → length work ≡ 16384
@@ -17,7 +18,7 @@ pub compared : (w v work out : List ℕ) (count : ℕ) (r : Bool) → isTimetabl
     → r ≡ areTables w v
 unfolding begins
 compared w v work out count r accepted room written counted e =
-    let are = tables-are w accepted in
+    let are = same-tables w accepted in
     e
     ∙ (λ i. same (tables-taken w work out count accepted room written counted i) (take (counted i) v))
     ∙ (λ i. same (are i) (take (length (are i)) v))

@@ -17,40 +17,33 @@ use Rattle.questions.specs.Question.{ask, firstNo, yes-here, yes-later}
 use Rattle.words.specs.Put.{put, length-put, take-put}
 use Rattle.timetable.specs.Timetable.{Timetable}
 use Rattle.timetable.specs.Words.{timetableOf, isTimetable}
-use Rattle.timetable.specs.Check.{length-stations}
 use Rattle.lines_tables.specs.Tables.{tableWords}
 use Rattle.lines_tables.specs.Same.{same-tables}
 use Rattle.lines_tables.specs.Fits.{table-fits}
 use Rattle.replies.specs.Replies.{numberOf, reply-number, words-done}
-use Rattle.lines_tables.specs.Building.{slicesLeast, buildNumber, lineCount, buildReply, buildWords, tablesOf}
+use Rattle.lines_tables.specs.Building.{slicesLeast, buildNumber, lineCount, buildReply, buildWords}
 use Rattle.lines_lookup.specs.Told.{Holds}
 use Rattle.lines_check.specs.Question10.{begins, areTables, tablesNumber}
 
 -- ---- the test of the first words says that they are those of the line tables
-pub begins-holds : (v : List ℕ) (t : Timetable) → begins v t ≡ true ↔ Holds v (length (t .stations)) (t .trips)
+pub begins-holds : (v : List ℕ) (t : Timetable) → begins v t ≡ true ↔ Holds v t
 unfolding begins
 begins-holds v t = (to, from)
   where
-    to : begins v t ≡ true → Holds v (length (t .stations)) (t .trips)
-    to e = record { is = sym (same-eq (tablesOf t) (take (length (tablesOf t)) v) (subst T (sym e) tt)) }
+    to : begins v t ≡ true → Holds v t
+    to e = record { is = sym (same-eq (tableWords t) (take (length (tableWords t)) v) (subst T (sym e) tt)) }
 
-    from : Holds v (length (t .stations)) (t .trips) → begins v t ≡ true
-    from h = rw (h .is) (T-true (same (tablesOf t) (tablesOf t)) (same-refl (tablesOf t)))
+    from : Holds v t → begins v t ≡ true
+    from h = rw (h .is) (T-true (same (tableWords t) (tableWords t)) (same-refl (tableWords t)))
 
 -- ---- "Success has number 0", and nothing else has
 pub built-number : (w : List ℕ) (m n : ℕ) → numberOf (buildReply w m n) ≡ 0 → buildNumber w m n ≡ 0
 unfolding buildReply
 built-number w m n e = sym (reply-number (buildNumber w m n) (lineCount (timetableOf w))) ∙ e
 
-pub tables-fit : (w : List ℕ) → isTimetable w ≡ true → length (tablesOf (timetableOf w)) ≤ slicesLeast
+pub tables-fit : (w : List ℕ) → isTimetable w ≡ true → length (tableWords (timetableOf w)) ≤ slicesLeast
 tables-fit w y =
-    let trips = (timetableOf w) .trips in
-    omega (
-      arith,
-      table-fits w y,
-      ap length (same-tables w y),
-      ap (λ k. length (tableWords k trips)) (length-stations w),
-    )
+    omega (arith, table-fits w y, ap length (same-tables w y))
 
 -- ---- what building wrote, with number 0
 module _ (w old : List ℕ) (n : ℕ) (done : numberOf (buildReply w (length old) n) ≡ 0) where
@@ -67,14 +60,14 @@ module _ (w old : List ℕ) (n : ℕ) (done : numberOf (buildReply w (length old
   pub built-yes-9 : isTimetable w ≡ true
   built-yes-9 = yes-here 8 (isTimetable w) [] (yes-later 7 longEnough (ask 9 (isTimetable w) ∷ []) no-refusal)
 
-  pub built-words : buildWords w old n ≡ put 0 (tablesOf (timetableOf w)) old
+  pub built-words : buildWords w old n ≡ put 0 (tableWords (timetableOf w)) old
   unfolding buildWords
   built-words =
       let none = built-number w (length old) n done in
-      sym (words-done (buildNumber w (length old) n) (tablesOf (timetableOf w)) old none)
+      sym (words-done (buildNumber w (length old) n) (tableWords (timetableOf w)) old none)
 
-  pub built-holds : Holds (buildWords w old n) (length ((timetableOf w) .stations)) ((timetableOf w) .trips)
-  built-holds = record { is = rw built-words (take-put (tablesOf (timetableOf w)) old) }
+  pub built-holds : Holds (buildWords w old n) (timetableOf w)
+  built-holds = record { is = rw built-words (take-put (tableWords (timetableOf w)) old) }
 
   pub built-room : slicesLeast ≤ length old
   built-room =
@@ -91,7 +84,7 @@ module _ (w old : List ℕ) (n : ℕ) (done : numberOf (buildReply w (length old
   pub built-long : length (buildWords w old n) ≡ length old
   built-long =
       ap length built-words
-      ∙ length-put 0 (tablesOf (timetableOf w)) old (omega (arith, tables-fit w built-yes-9, built-room))
+      ∙ length-put 0 (tableWords (timetableOf w)) old (omega (arith, tables-fit w built-yes-9, built-room))
 
   -- question 10 has its yes, and so have all three
   pub built-has-yes : areTables w (buildWords w old n) ≡ true

@@ -9,11 +9,12 @@ use Rattle.lists.specs.Lists.{same}
 use Rattle.questions.specs.Question.{Question, ask, firstNo}
 use Rattle.timetable.specs.Timetable.{Timetable}
 use Rattle.timetable.specs.Words.{timetableOf, isTimetable}
-use Rattle.lines_tables.specs.Building.{slicesLeast, tablesOf}
+use Rattle.lines_tables.specs.Building.{slicesLeast}
+use Rattle.lines_tables.specs.Tables.{tableWords}
 
 -- the words begin with those of the timetable's line tables: "no question judges the words past a table"
 unfoldable pub begins : List ℕ → Timetable → Bool
-begins v t = same (tablesOf t) (take (length (tablesOf t)) v)
+begins v t = same (tableWords t) (take (length (tableWords t)) v)
 
 -- the line tables v are those of the timetable w
 abbrev pub areTables : (w v : List ℕ) → Bool

@@ -9,7 +9,7 @@ use native.Mathlib.Omega.{arith}
 use lib.ListN.{length, getD, length-append, length-map}
 use Rattle.lists.specs.Lists.{concatMap, range}
 use Rattle.lists.specs.Ranges.{length-range}
-use Rattle.timetable.specs.Timetable.{Trip}
+use Rattle.timetable.specs.Timetable.{Trip, Timetable, numberOf}
 use Rattle.connections.specs.Rides.{noStop}
 use Rattle.lines.specs.Lines.{course, stationOn}
 use Rattle.lines_tables.specs.Tables.{stopOf, timeRow, lineTimes, totalOn, positionWords, courseWords, lineWords}
@@ -78,7 +78,14 @@ module _ (t : List Trip) where
       )
 
 -- ---- the line at place i, whose words stand where the tables say
-module _ (v : List ℕ) (t : List Trip) (i : ℕ) (l : List ℕ) (s : Stands (lineWords t l) v (linePlace v i)) where
+module _ (v : List ℕ) (timetable : Timetable) (i : ℕ) (l : List ℕ)
+    (s : Stands (lineWords timetable l) v (linePlace v i)) where
+  abbrev t : List Trip
+  t = timetable .trips
+
+  abbrev numbers : List ℕ
+  numbers = map (numberOf timetable) l
+
   abbrev at : ℕ
   at = linePlace v i
 
@@ -88,7 +95,7 @@ module _ (v : List ℕ) (t : List Trip) (i : ℕ) (l : List ℕ) (s : Stands (li
   abbrev line : Line
   line = lineAt v i
 
-  lined : Stands (stops ∷ length l ∷ (map suc l ++ courseWords (course t l) ++ lineTimes t l)) v at
+  lined : Stands (stops ∷ length l ∷ (numbers ++ courseWords (course t l) ++ lineTimes t l)) v at
   unfolding lineWords
   lined = s
 
@@ -101,29 +108,29 @@ module _ (v : List ℕ) (t : List Trip) (i : ℕ) (l : List ℕ) (s : Stands (li
   trips-told = word-at _ v at lined 1 (omega arith)
 
   -- numbers, course and times stand one behind the other
-  behind-counts : Stands (map suc l ++ courseWords (course t l) ++ lineTimes t l) v (at + 2)
+  behind-counts : Stands (numbers ++ courseWords (course t l) ++ lineTimes t l) v (at + 2)
   behind-counts = right-stands (stops ∷ length l ∷ []) _ v at lined
 
-  numbers-and-course : Stands (map suc l ++ courseWords (course t l)) v (at + 2)
+  numbers-and-course : Stands (numbers ++ courseWords (course t l)) v (at + 2)
   numbers-and-course = left-stands _ (lineTimes t l) v (at + 2) behind-counts
 
-  numbers-stand : Stands (map suc l) v (at + 2)
+  numbers-stand : Stands numbers v (at + 2)
   numbers-stand = left-stands _ (courseWords (course t l)) v (at + 2) numbers-and-course
 
-  course-at : at + 2 + length (map suc l) ≡ coursePlace line
+  course-at : at + 2 + length numbers ≡ coursePlace line
   unfolding lineAt
-  course-at = omega (arith, length-map l suc, trips-told)
+  course-at = omega (arith, length-map l (numberOf timetable), trips-told)
 
   course-stands : Stands (courseWords (course t l)) v (coursePlace line)
   course-stands =
       subst (Stands (courseWords (course t l)) v) course-at
-      (right-stands (map suc l) (courseWords (course t l)) v (at + 2) numbers-and-course)
+      (right-stands numbers (courseWords (course t l)) v (at + 2) numbers-and-course)
 
-  times-at : at + 2 + length (map suc l ++ courseWords (course t l)) ≡ coursePlace line + 3 * line .positions
+  times-at : at + 2 + length (numbers ++ courseWords (course t l)) ≡ coursePlace line + 3 * line .positions
   times-at =
       omega (
         arith,
-        length-append (map suc l) (courseWords (course t l)),
+        length-append numbers (courseWords (course t l)),
         length-courseWords (course t l),
         course-at,
         positions-told,
@@ -132,12 +139,13 @@ module _ (v : List ℕ) (t : List Trip) (i : ℕ) (l : List ℕ) (s : Stands (li
   times-stand : Stands (lineTimes t l) v (coursePlace line + 3 * line .positions)
   times-stand =
       subst (Stands (lineTimes t l) v) times-at
-      (right-stands (map suc l ++ courseWords (course t l)) (lineTimes t l) v (at + 2) behind-counts)
+      (right-stands (numbers ++ courseWords (course t l)) (lineTimes t l) v (at + 2) behind-counts)
 
-  number-told : (j : ℕ) → j < length l → numberAt v line j ≡ suc (getD l j 0)
+  number-told : (j : ℕ) → j < length l → numberAt v line j ≡ numberOf timetable (getD l j 0)
   unfolding numberAt lineAt
   number-told j h =
-      word-at (map suc l) v (at + 2) numbers-stand j (omega (arith, length-map l suc)) ∙ map-at suc l j 0 h
+      word-at numbers v (at + 2) numbers-stand j (omega (arith, length-map l (numberOf timetable)))
+      ∙ map-at (numberOf timetable) l j 0 h
 
   module _ (p : ℕ) (h : p < stops) where
     -- the words of position p
@@ -206,7 +214,7 @@ module _ (v : List ℕ) (t : List Trip) (i : ℕ) (l : List ℕ) (s : Stands (li
         word-at _ v (timesPlace line p + line .trips) departures-stand j (omega (arith, length-timeRow t true p l))
         ∙ map-at (λ z. (stopOf t z p) .depart) l j 0 g
 
-  pub line-told : LineTold v t i l
+  pub line-told : LineTold v timetable i l
   line-told =
       record {
         positions = positions-told;

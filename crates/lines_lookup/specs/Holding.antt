@@ -8,7 +8,7 @@ use lib.ListN.{length, getD, length-append}
 use lib.Seq.{slice}
 use Rattle.lists.specs.Lists.{range}
 use Rattle.lists.specs.Ranges.{length-range}
-use Rattle.timetable.specs.Timetable.{Trip}
+use Rattle.timetable.specs.Timetable.{Trip, Timetable}
 use Rattle.lines.specs.Lines.{lines}
 use Rattle.lines_tables.specs.Tables.{
   lineWords,
@@ -37,7 +37,7 @@ use Rattle.lines_lookup.specs.Places.{
 use Rattle.lines_lookup.specs.HeldLine.{line-told}
 
 -- ---- the words that say where lines and lists of stations begin
-module _ (t : List Trip) where
+module _ (t : Timetable) where
   line-place : (k i : ℕ) (ls : List (List ℕ)) → i < length ls
       → getD (linePlaces t k ls) i 0 ≡ k + rowPlace (lineWords t) ls i
   unfolding linePlaces rowPlace
@@ -50,6 +50,7 @@ module _ (t : List Trip) where
   length-linePlaces k [] = refl
   length-linePlaces k (l ∷ ls) = ap suc (length-linePlaces (k + length (lineWords t l)) ls)
 
+module _ (t : List Trip) where
   call-place : (k s n i : ℕ) → i ≤ n → getD (callPlaces t k s n) i 0 ≡ k + rowPlace (callPairs t) (range s n) i
   unfolding callPlaces rowPlace
   call-place k s zero zero h = omega arith
@@ -64,24 +65,30 @@ module _ (t : List Trip) where
   length-callPlaces k s (suc n) = omega (arith, length-callPlaces (k + length (callPairs t s)) (suc s) n)
 
 -- ---- the whole tables
-module _ (v : List ℕ) (n : ℕ) (t : List Trip) (holds : Holds v n t) where
+module _ (v : List ℕ) (timetable : Timetable) (holds : Holds v timetable) where
+  abbrev n : ℕ
+  n = length (timetable .stations)
+
+  abbrev t : List Trip
+  t = timetable .trips
+
   -- where the words of the first line and the list of the first station begin
   abbrev firstLine : ℕ
   firstLine = 4 + length (lines t)
 
   abbrev firstList : ℕ
-  firstList = indexPlace t + n + 1
+  firstList = indexPlace timetable + n + 1
 
   -- the words that say where lines and where lists begin
   abbrev placeWords : List ℕ
-  placeWords = linePlaces t firstLine (lines t)
+  placeWords = linePlaces timetable firstLine (lines t)
 
   abbrev firstWords : List ℕ
   firstWords = callPlaces t firstList 1 n
 
   -- behind the first four words: what stands before firstWords, what stands before the lists, and all
   abbrev upToLines : List ℕ
-  upToLines = placeWords ++ allLineWords t (lines t)
+  upToLines = placeWords ++ allLineWords timetable (lines t)
 
   abbrev upToFirsts : List ℕ
   upToFirsts = upToLines ++ firstWords
@@ -89,15 +96,15 @@ module _ (v : List ℕ) (n : ℕ) (t : List Trip) (holds : Holds v n t) where
   abbrev parts : List ℕ
   parts = upToFirsts ++ allCallPairs t 1 n
 
-  table-stands : Stands (n ∷ length (lines t) ∷ length t ∷ indexPlace t ∷ parts) v 0
+  table-stands : Stands (n ∷ length (lines t) ∷ length t ∷ indexPlace timetable ∷ parts) v 0
   unfolding tableWords
-  table-stands = front-stands (tableWords n t) v (holds .is)
+  table-stands = front-stands (tableWords timetable) v (holds .is)
 
-  head-word : (j : ℕ) → j < 4 → getD v j 0 ≡ getD (n ∷ length (lines t) ∷ length t ∷ indexPlace t ∷ parts) j 0
+  head-word : (j : ℕ) → j < 4 → getD v j 0 ≡ getD (n ∷ length (lines t) ∷ length t ∷ indexPlace timetable ∷ parts) j 0
   head-word j h = ap (λ k. getD v k 0) (omega arith) ∙ word-at _ v 0 table-stands j (omega arith)
 
   parts-stand : Stands parts v 4
-  parts-stand = right-stands (n ∷ length (lines t) ∷ length t ∷ indexPlace t ∷ []) parts v 0 table-stands
+  parts-stand = right-stands (n ∷ length (lines t) ∷ length t ∷ indexPlace timetable ∷ []) parts v 0 table-stands
 
   before-pairs : Stands upToFirsts v 4
   before-pairs = left-stands upToFirsts (allCallPairs t 1 n) v 4 parts-stand
@@ -105,33 +112,39 @@ module _ (v : List ℕ) (n : ℕ) (t : List Trip) (holds : Holds v n t) where
   before-firsts : Stands upToLines v 4
   before-firsts = left-stands upToLines firstWords v 4 before-pairs
 
-  pub line-place-told : (i : ℕ) → i < length (lines t) → linePlace v i ≡ firstLine + rowPlace (lineWords t) (lines t) i
+  pub line-place-told : (i : ℕ) → i < length (lines t) → linePlace v i
+      ≡ firstLine + rowPlace (lineWords timetable) (lines t) i
   line-place-told i h =
-      word-at placeWords v 4 (left-stands placeWords (allLineWords t (lines t)) v 4 before-firsts) i
-      (omega (arith, length-linePlaces t firstLine (lines t)))
-      ∙ line-place t firstLine i (lines t) h
+      word-at placeWords v 4 (left-stands placeWords (allLineWords timetable (lines t)) v 4 before-firsts) i
+      (omega (arith, length-linePlaces timetable firstLine (lines t)))
+      ∙ line-place timetable firstLine i (lines t) h
 
-  lines-stand : Stands (allLineWords t (lines t)) v firstLine
+  lines-stand : Stands (allLineWords timetable (lines t)) v firstLine
   lines-stand =
-      subst (λ k. Stands (allLineWords t (lines t)) v (4 + k)) (length-linePlaces t firstLine (lines t))
-      (right-stands placeWords (allLineWords t (lines t)) v 4 before-firsts)
+      subst (λ k. Stands (allLineWords timetable (lines t)) v (4 + k)) (length-linePlaces timetable firstLine (lines t))
+      (right-stands placeWords (allLineWords timetable (lines t)) v 4 before-firsts)
 
-  pub line-stands : (i : ℕ) → i < length (lines t) → Stands (lineWords t (getD (lines t) i [])) v (linePlace v i)
+  pub line-stands : (i : ℕ) → i < length (lines t)
+      → Stands (lineWords timetable (getD (lines t) i [])) v (linePlace v i)
   unfolding allLineWords
   line-stands i h =
-      subst (Stands (lineWords t (getD (lines t) i [])) v) (sym (line-place-told i h))
-      (row-stands (lineWords t) (lines t) v firstLine i [] h lines-stand)
+      subst (Stands (lineWords timetable (getD (lines t) i [])) v) (sym (line-place-told i h))
+      (row-stands (lineWords timetable) (lines t) v firstLine i [] h lines-stand)
 
   -- ---- the lists of stations
-  length-lines : 4 + length upToLines ≡ indexPlace t
+  length-lines : 4 + length upToLines ≡ indexPlace timetable
   length-lines =
-      omega (arith, length-append placeWords (allLineWords t (lines t)), length-linePlaces t firstLine (lines t))
+      omega (
+        arith,
+        length-append placeWords (allLineWords timetable (lines t)),
+        length-linePlaces timetable firstLine (lines t),
+      )
 
   length-firsts : 4 + length upToFirsts ≡ firstList
   length-firsts =
       omega (arith, length-append upToLines firstWords, length-lines, length-callPlaces t firstList 1 n)
 
-  firsts-stand : Stands firstWords v (indexPlace t)
+  firsts-stand : Stands firstWords v (indexPlace timetable)
   firsts-stand = subst (Stands firstWords v) length-lines (right-stands upToLines firstWords v 4 before-pairs)
 
   pairs-stand : Stands (allCallPairs t 1 n) v firstList
@@ -142,7 +155,7 @@ module _ (v : List ℕ) (n : ℕ) (t : List Trip) (holds : Holds v n t) where
   unfolding callsPlace
   calls-place-told s h =
       ap (λ k. getD v (k + s) 0) (head-word 3 (omega arith))
-      ∙ word-at firstWords v (indexPlace t) firsts-stand s (omega (arith, length-callPlaces t firstList 1 n))
+      ∙ word-at firstWords v (indexPlace timetable) firsts-stand s (omega (arith, length-callPlaces t firstList 1 n))
       ∙ call-place t firstList 1 n s h
 
   module _ (s : ℕ) (h : s < n) where
@@ -176,13 +189,13 @@ module _ (v : List ℕ) (n : ℕ) (t : List Trip) (holds : Holds v n t) where
         ap (λ k. slice (callsPlace v s) k v) (sym calls-end)
         ∙ part-slice (callPairs t (suc s)) v (callsPlace v s) calls-stand
 
--- of any trips, valid or not: only where the words stand counts
-pub holding : (v : List ℕ) (n : ℕ) (t : List Trip) → Holds v n t → Told v n t
-holding v n t holds =
+-- of any timetable, valid or not: only where the words stand counts
+pub holding : (v : List ℕ) (t : Timetable) → Holds v t → Told v t
+holding v t holds =
     record {
-      stations = head-word v n t holds 0 (omega arith);
-      line-count = head-word v n t holds 1 (omega arith);
-      trip-count = head-word v n t holds 2 (omega arith);
-      line = (λ i h. line-told v t i (getD (lines t) i []) (line-stands v n t holds i h));
-      calls = calls-are v n t holds;
+      stations = head-word v t holds 0 (omega arith);
+      line-count = head-word v t holds 1 (omega arith);
+      trip-count = head-word v t holds 2 (omega arith);
+      line = (λ i h. line-told v t i (getD (lines (t .trips)) i []) (line-stands v t holds i h));
+      calls = calls-are v t holds;
     }

@@ -10,7 +10,7 @@ use lib.Seq.{slice}
 use Rattle.lists.specs.Lists.{_∈_, filter, concatMap, range}
 use Rattle.lists.specs.Tests.{eq→eqb}
 use Rattle.lists.specs.Members.{filter-in, filter-out, concatMap-in, concatMap-out, range-in, range-out, concat-append}
-use Rattle.timetable.specs.Timetable.{Trip}
+use Rattle.timetable.specs.Timetable.{Trip, Timetable}
 use Rattle.lines.specs.Lines.{lines, course, stationOn, lineCalls, calls}
 use Rattle.lines_tables.specs.Tables.{callPairs}
 use Rattle.lines_lookup.specs.Lookup.{callsPlace, listOf}
@@ -94,8 +94,12 @@ module _ (t : List Trip) (s : ℕ) where
       0
       (length (lines t))
 
-module _ (v : List ℕ) (n : ℕ) (t : List Trip) (told : Told v n t) (s : ℕ) (some : 1 ≤ s) (listed : s ≤ n) where
-  calls-are : callsOf v s ≡ allCalls t s
+module _ (v : List ℕ) (timetable : Timetable) (told : Told v timetable) (s : ℕ) (some : 1 ≤ s)
+    (listed : s ≤ length (timetable .stations)) where
+  abbrev trips : List Trip
+  trips = timetable .trips
+
+  calls-are : callsOf v s ≡ allCalls trips s
   unfolding callsOf listOf callPairs calls
   calls-are =
       let last : s - 1 + 1 ≡ s = omega arith in
@@ -103,14 +107,14 @@ module _ (v : List ℕ) (n : ℕ) (t : List Trip) (told : Told v n t) (s : ℕ) 
       rw (le-leb 1 s some, le-leb s (getD v 0 0) (omega (arith, told .stations)))
       (ap (λ k. pairsOf (slice (callsPlace v (s - 1)) (callsPlace v k) v)) (sym last)
       ∙ ap pairsOf (told .calls (s - 1) (omega arith))
-      ∙ ap (λ k. pairsOf (concatMap (λ q. q) (concatMap (lineCalls t k) (range 0 (length (lines t)))))) this
-      ∙ lines-read t s 0 (length (lines t)))
+      ∙ ap (λ k. pairsOf (concatMap (λ q. q) (concatMap (lineCalls trips k) (range 0 (length (lines trips)))))) this
+      ∙ lines-read trips s 0 (length (lines trips)))
 
-  pub calls-out : (c : Call) → c ∈ callsOf v s → Met t s c
-  calls-out c m = all-out t s c (rw calls-are at m)
+  pub calls-out : (c : Call) → c ∈ callsOf v s → Met trips s c
+  calls-out c m = all-out trips s c (rw calls-are at m)
 
-  pub calls-in : (c : Call) → Met t s c → c ∈ callsOf v s
-  calls-in c k = rw calls-are (all-in t s c k)
+  pub calls-in : (c : Call) → Met trips s c → c ∈ callsOf v s
+  calls-in c k = rw calls-are (all-in trips s c k)
 
   pub calls-rise : Rising (callsOf v s)
-  calls-rise = rw calls-are (all-rising t s)
+  calls-rise = rw calls-are (all-rising trips s)

@@ -41,10 +41,6 @@ pub build-values : (w : List ℕ) (m n : ℕ) (r : Reply) → r ≡ buildReply w
 unfolding buildReply buildValues
 build-values w m n r e = reply-values (buildNumber w m n) (lineCount (timetableOf w)) r e
 
--- the line tables of a timetable
-abbrev pub tablesOf : Timetable → List ℕ
-tablesOf t = tableWords (length (t .stations)) (t .trips)
-
 -- the words of the slice after the call
 unfoldable pub buildWords : List ℕ → (old : List ℕ) (n : ℕ) → List ℕ
-buildWords w old n = wordsAfter (buildNumber w (length old) n) (tablesOf (timetableOf w)) old
+buildWords w old n = wordsAfter (buildNumber w (length old) n) (tableWords (timetableOf w)) old

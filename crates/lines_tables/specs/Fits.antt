@@ -13,7 +13,7 @@ use lib.ListN.{length, length-append, length-map}
 use Rattle.lists.specs.Lists.{range}
 use Rattle.lists.specs.Ranges.{length-range}
 use Rattle.timetable.specs.Timetable.{Trip}
-use Rattle.timetable.specs.Words.{stationCount, tripCount, stopCount, startAt, timetableOf, isTimetable}
+use Rattle.timetable.specs.Words.{stationCount, tripCount, stopCount, startAt, numberAt, timetableOf, isTimetable}
 use Rattle.timetable.specs.Check.{length-trips}
 use Rattle.timetable.specs.Access.{trip-stops, start-first, start-last, stations-few, trips-few, stops-few}
 use Rattle.lines.specs.Lines.{lines, headOf}
@@ -105,9 +105,9 @@ module _ (w : List ℕ) (yes : isTimetable w ≡ true) where
       )
 
 -- ---- the words of one line
-pub numbers-long : (line : List ℕ) → length (numbersAt line) ≡ length line
+pub numbers-long : (w line : List ℕ) → length (numbersAt w line) ≡ length line
 unfolding numbersAt
-numbers-long line = length-map line suc
+numbers-long w line = length-map line (numberAt w)
 
 pub course-long : (w : List ℕ) (z k n : ℕ) → length (courseAt w z k n) ≡ 3 * n
 unfolding courseAt
@@ -149,9 +149,9 @@ block-most w line is =
     let n = callsOf w z in
     omega (
       arith,
-      length-append (numbersAt line ++ courseAt w z 0 n) (timesAt w line 0 n),
-      length-append (numbersAt line) (courseAt w z 0 n),
-      numbers-long line,
+      length-append (numbersAt w line ++ courseAt w z 0 n) (timesAt w line 0 n),
+      length-append (numbersAt w line) (courseAt w z 0 n),
+      numbers-long w line,
       course-long w z 0 n,
       times-long w line 0 n,
       first-stops w line (is .some),

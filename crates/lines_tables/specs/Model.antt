@@ -9,7 +9,7 @@ use lib.Dec.{eqb}
 use lib.ListN.{length, getD, take, drop}
 use Rattle.lists.specs.Lists.{concatMap, range}
 use Rattle.timetable.specs.Timetable.{Stop}
-use Rattle.timetable.specs.Words.{stationCount, tripCount, stopAt, startAt, timetableOf}
+use Rattle.timetable.specs.Words.{stationCount, tripCount, stopAt, startAt, numberAt, timetableOf}
 use Rattle.lines.specs.Lines.{lines, headOf}
 use Rattle.lines.specs.Once.{onLines}
 use Rattle.lines_found.specs.Grouped.{endsFrom}
@@ -43,15 +43,16 @@ totalAt w z (suc p) = totalAt w z p + (callAt w z p) .points
 unfoldable pub courseAt : List ℕ → (z k n : ℕ) → List ℕ
 courseAt w z k n = concatMap (λ p. positionWords ((callAt w z p) .station) (totalAt w z p)) (range k n)
 
-unfoldable pub numbersAt : List ℕ → List ℕ
-numbersAt line = map suc line
+-- the numbers of the trips of a line
+unfoldable pub numbersAt : List ℕ → (line : List ℕ) → List ℕ
+numbersAt w line = map (numberAt w) line
 
 -- all words of one line
 unfoldable pub blockAt : List ℕ → (line : List ℕ) → List ℕ
 blockAt w line =
     callsOf w (headOf line)
     ∷ length line
-    ∷ (numbersAt line
+    ∷ (numbersAt w line
     ++ courseAt w (headOf line) 0 (callsOf w (headOf line))
     ++ timesAt w line 0 (callsOf w (headOf line)))
 

@@ -1,4 +1,4 @@
--- The words of line tables (docs/LAYOUT.md), by the lines of a timetable of n stations. Document 01: "Lines and the
+-- The words of line tables (docs/LAYOUT.md), by the lines of a timetable. Document 01: "Lines and the
 -- positions on them count from 1. For each station the tables list (line, position), rising; a station met twice on a
 -- line is listed twice."; "The trips of one line are handed out as the piece of the line tables that holds them".
 use mathlib.Core.Bool.{Bool, true, false, cond}
@@ -6,7 +6,7 @@ use mathlib.Core.List.{List, [], _∷_, _++_, map}
 use Prim.Native.Nat.{ℕ, zero, suc, _+_, _%_, _/_}
 use lib.ListN.{length, getD}
 use Rattle.lists.specs.Lists.{concatMap, range}
-use Rattle.timetable.specs.Timetable.{Stop, Trip}
+use Rattle.timetable.specs.Timetable.{Stop, Trip, Timetable, numberOf}
 use Rattle.connections.specs.Rides.{noStop, ridePoints}
 use Rattle.lines.specs.Lines.{lines, course, calls}
 
@@ -37,18 +37,18 @@ courseWords c =
     concatMap (λ p. positionWords ((getD c p noStop) .station) (totalOn c p)) (range 0 (length c))
 
 -- all words of one line: positions, trips, the trips' numbers, the course, the times
-unfoldable pub lineWords : List Trip → (line : List ℕ) → List ℕ
+unfoldable pub lineWords : Timetable → (line : List ℕ) → List ℕ
 lineWords t line =
-    length (course t line)
+    length (course (t .trips) line)
     ∷ length line
-    ∷ (map suc line ++ courseWords (course t line) ++ lineTimes t line)
+    ∷ (map (numberOf t) line ++ courseWords (course (t .trips) line) ++ lineTimes (t .trips) line)
 
 -- where the words of each line begin, those of the first at index k
-unfoldable pub linePlaces : List Trip → (k : ℕ) → List (List ℕ) → List ℕ
+unfoldable pub linePlaces : Timetable → (k : ℕ) → List (List ℕ) → List ℕ
 linePlaces t k [] = []
 linePlaces t k (l ∷ ls) = k ∷ linePlaces t (k + length (lineWords t l)) ls
 
-unfoldable pub allLineWords : List Trip → List (List ℕ) → List ℕ
+unfoldable pub allLineWords : Timetable → List (List ℕ) → List ℕ
 allLineWords t ls = concatMap (lineWords t) ls
 
 -- (line, position) at which lines call at station s
@@ -64,16 +64,17 @@ callPlaces t k s zero = k ∷ []
 callPlaces t k s (suc n) = k ∷ callPlaces t (k + length (callPairs t s)) (suc s) n
 
 -- where the lists of stations begin
-abbrev pub indexPlace : List Trip → ℕ
-indexPlace t = 4 + length (lines t) + length (allLineWords t (lines t))
+abbrev pub indexPlace : Timetable → ℕ
+indexPlace t = 4 + length (lines (t .trips)) + length (allLineWords t (lines (t .trips)))
 
-unfoldable pub tableWords : (stations : ℕ) → List Trip → List ℕ
-tableWords n t =
-    n
-    ∷ length (lines t)
-    ∷ length t
+-- the line tables of a timetable
+unfoldable pub tableWords : Timetable → List ℕ
+tableWords t =
+    length (t .stations)
+    ∷ length (lines (t .trips))
+    ∷ length (t .trips)
     ∷ indexPlace t
-    ∷ (linePlaces t (4 + length (lines t)) (lines t)
-    ++ allLineWords t (lines t)
-    ++ callPlaces t (indexPlace t + n + 1) 1 n
-    ++ allCallPairs t 1 n)
+    ∷ (linePlaces t (4 + length (lines (t .trips))) (lines (t .trips))
+    ++ allLineWords t (lines (t .trips))
+    ++ callPlaces (t .trips) (indexPlace t + length (t .stations) + 1) 1 (length (t .stations))
+    ++ allCallPairs (t .trips) 1 (length (t .stations)))

@@ -16,13 +16,14 @@ use Rattle.replies.specs.Replies.{replyOf, wordsAfter, reply-done, reply-refuse
 use Rattle.replies.specs.Later.{Asked, asked-none, asked-more, asked-on, asked-out}
 use Rattle.words.specs.Put.{put, length-put}
 use Rattle.timetable.specs.Words.{timetableOf, isTimetable}
-use Rattle.lines_tables.specs.Building.{slicesLeast, lineCount, tablesOf}
+use Rattle.lines_tables.specs.Tables.{tableWords}
+use Rattle.lines_tables.specs.Building.{slicesLeast, lineCount}
 use Rattle.lines_tables.specs.Model.{tableAt}
+use Rattle.lines_tables.specs.Same.{same-tables}
 use Rattle.lines_tables.specs.Fits.{table-fits}
-use Rattle.lines_tables.proofs.BuildLaws.{tables-are}
 use Rattle.lines_lookup.specs.Holding.{holding}
 use Rattle.lines_check.specs.Question10.{areTables}
-use Rattle.lines_turned.specs.ByTrip.{tablesByTrip}
+use Rattle.lines_turned.specs.ByTrip.{wordsByTrip}
 use Rattle.lines_turned.specs.Held.{Held, held-written}
 use Rattle.lines_turned.specs.Turning.{
   areByTrip,
@@ -70,7 +71,7 @@ module _ (own r : Bool) (is-r : r ≡ own) where
     unfolding ownReply
     done-reply w v count held e =
         let t = timetableOf w in
-        ap Done (e ∙ holding v (length (t .stations)) (t .trips) (held .holds) .line-count)
+        ap Done (e ∙ holding v t (held .holds) .line-count)
         ∙ reply-done (firstNo (ask 10 own ∷ [])) (lineCount t) none
 
     -- the tables that were built, word 1 of which counts the lines
@@ -79,9 +80,9 @@ module _ (own r : Bool) (is-r : r ≡ own) where
     built-reply w old v accepted e = done-reply w v (getD v 1 0) (held-written w old v accepted e) refl
 
     pub built-words : (w old out : List ℕ) → isTimetable w ≡ true → out ≡ put 0 (tableAt w) old
-        → out ≡ ownWords own (tablesOf (timetableOf w)) old
+        → out ≡ ownWords own (tableWords (timetableOf w)) old
     built-words w old out accepted e =
-        done-words (tablesOf (timetableOf w)) old out (e ∙ ap (λ x. put 0 x old) (tables-are w accepted))
+        done-words (tableWords (timetableOf w)) old out (e ∙ ap (λ x. put 0 x old) (same-tables w accepted))
 
 -- ---- questions 8 and 9
 module _ (w : List ℕ) (k n m : ℕ) where
@@ -228,13 +229,13 @@ module _ (w v : List ℕ) (n number : ℕ) where
     pub trip-refused-words : (number ≡ 0 → ⊥) → old ≡ byTripWords w v n old
     unfolding byTripWords
     trip-refused-words ne =
-        out-words w (length v) n (length old) number is-number (areTables w v) (tablesByTrip (timetableOf w)) old ne
+        out-words w (length v) n (length old) number is-number (areTables w v) (wordsByTrip (timetableOf w)) old ne
 
     pub trip-words : (new : List ℕ) → number ≡ 0
-        → new ≡ ownWords (areTables w v) (tablesByTrip (timetableOf w)) old → new ≡ byTripWords w v n old
+        → new ≡ ownWords (areTables w v) (wordsByTrip (timetableOf w)) old → new ≡ byTripWords w v n old
     unfolding byTripWords
     trip-words new e f =
-        let result = tablesByTrip (timetableOf w) in
+        let result = wordsByTrip (timetableOf w) in
         later-words w (length v) n (length old) number is-number (areTables w v) result old new e f
 
 -- ---- and back
@@ -252,10 +253,11 @@ module _ (w u : List ℕ) (n number : ℕ) where
     pub stop-refused-words : (number ≡ 0 → ⊥) → old ≡ byStopWords w u n old
     unfolding byStopWords
     stop-refused-words ne =
-        out-words w (length u) n (length old) number is-number (areByTrip w u) (tablesOf (timetableOf w)) old ne
+        out-words w (length u) n (length old) number is-number (areByTrip w u) (tableWords (timetableOf w)) old ne
 
     pub stop-words : (new : List ℕ) → number ≡ 0
-        → new ≡ ownWords (areByTrip w u) (tablesOf (timetableOf w)) old → new ≡ byStopWords w u n old
+        → new ≡ ownWords (areByTrip w u) (tableWords (timetableOf w)) old → new ≡ byStopWords w u n old
     unfolding byStopWords
     stop-words new e f =
-        later-words w (length u) n (length old) number is-number (areByTrip w u) (tablesOf (timetableOf w)) old new e f
+        let result = tableWords (timetableOf w) in
+        later-words w (length u) n (length old) number is-number (areByTrip w u) result old new e f

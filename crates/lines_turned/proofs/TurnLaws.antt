@@ -9,14 +9,14 @@ use borrow.Author.Tests.{not-true, not-false}
 use lib.ListN.{length, getD, take, drop, take-append-drop}
 use lib.Seq.{slice, length-take-le, drop-drop}
 use Rattle.words.specs.Put.{put, put-append}
-use Rattle.timetable.specs.Timetable.{Trip}
+use Rattle.timetable.specs.Timetable.{Timetable}
 use Rattle.timetable.specs.Words.{timetableOf}
 use Rattle.timetable.specs.Check.{length-stations}
 use Rattle.lines.specs.Lines.{lines}
 use Rattle.lines_lookup.specs.Lookup.{Line, lineAt, callsPlace}
 use Rattle.lines_lookup.specs.Holding.{holding}
 use Rattle.lines_check.specs.Built.{tables-fit}
-use Rattle.lines_turned.specs.ByTrip.{lineByTrip, tablesByTrip}
+use Rattle.lines_turned.specs.ByTrip.{lineByTrip, wordsByTrip}
 use Rattle.lines_turned.specs.Turned.{lineEnd, turnedLine, starts, starts-append, starts-same}
 use Rattle.lines_turned.specs.Laid.{lineStart, start-first, start-last, start-next}
 use Rattle.lines_turned.specs.Turning.{areByTrip}
@@ -36,85 +36,82 @@ use Rattle.lines_turned.specs.Found.{
 use Rattle.lines_turned.specs.Held.{Held}
 
 module _ (w v : List ℕ) (held : Held w v) where
-  abbrev n : ℕ
-  n = length ((timetableOf w) .stations)
-
-  abbrev t : List Trip
-  t = (timetableOf w) .trips
+  abbrev t : Timetable
+  t = timetableOf w
 
   abbrev whole : List ℕ
-  whole = tablesByTrip (timetableOf w)
+  whole = wordsByTrip t
 
   whole-fits : length whole ≤ 16384
-  whole-fits = omega (arith, same-length n t, tables-fit w (held .accepted))
+  whole-fits = omega (arith, same-length t, tables-fit w (held .accepted))
 
   -- ---- lines, of which there are count
   module _ (count : ℕ) (is-count : count ≡ getD v 1 0) where
-    counted : count ≡ length (lines t)
-    counted = is-count ∙ holding v n t (held .holds) .line-count
+    counted : count ≡ length (lines (t .trips))
+    counted = is-count ∙ holding v t (held .holds) .line-count
 
     -- `x` is any slice lent
     pub front-inside : (x : List ℕ) → 16384 ≤ length x → 4 + count ≤ length x
-    front-inside x h = omega (arith, counted, whole-fits, start-last t, index-inside n t)
+    front-inside x h = omega (arith, counted, whole-fits, start-last t, index-inside t)
 
     pub line-few : (i : ℕ) → i < count → i < 65536
-    line-few i h = omega (arith, counted, whole-fits, start-last t, index-inside n t)
+    line-few i h = omega (arith, counted, whole-fits, start-last t, index-inside t)
 
     front-ends : 4 + count ≡ lineStart t 0
     front-ends = omega (arith, start-first t, counted)
 
     front-words : slice 0 (4 + count) v ≡ take (lineStart t 0) whole
-    front-words = ap (λ k. take k v) front-ends ∙ sym (front-same n t v (held .holds))
+    front-words = ap (λ k. take k v) front-ends ∙ sym (front-same t v (held .holds))
 
     module _ (i : ℕ) (h : i < count) (l : Line) (is-line : l ≡ lineAt v i) where
-      inside : i < length (lines t)
+      inside : i < length (lines (t .trips))
       inside = omega (arith, counted)
 
       within : lineStart t (i + 1) ≤ length whole
-      within = line-inside n t i inside
+      within = line-inside t i inside
 
       pub line-fits : lineEnd l ≤ 16384
       line-fits =
           subst (λ x. lineEnd x ≤ 16384) (sym is-line)
-          (omega (arith, end-found n t v (held .holds) i inside, within, whole-fits))
+          (omega (arith, end-found t v (held .holds) i inside, within, whole-fits))
 
-      turned : turnedLine v l ≡ lineByTrip t (getD (lines t) i [])
-      turned = ap (turnedLine v) is-line ∙ line-turned n t v (held .holds) i inside
+      turned : turnedLine v l ≡ lineByTrip t (getD (lines (t .trips)) i [])
+      turned = ap (turnedLine v) is-line ∙ line-turned t v (held .holds) i inside
 
       -- the next words are those of the line
       next-words : drop (lineStart t i) whole ≡ turnedLine v l ++ drop (lineStart t (i + 1)) whole
-      next-words = line-next n t i inside ∙ ap (λ x. x ++ drop (lineStart t (i + 1)) whole) (sym turned)
+      next-words = line-next t i inside ∙ ap (λ x. x ++ drop (lineStart t (i + 1)) whole) (sym turned)
 
       next-start : lineStart t i + length (turnedLine v l) ≡ lineStart t (i + 1)
       next-start = omega (arith, ap length turned, start-next t i inside)
 
       here : l .at ≡ lineStart t i
       unfolding lineAt
-      here = ap (λ x. x .at) is-line ∙ place-found n t v (held .holds) i inside
+      here = ap (λ x. x .at) is-line ∙ place-found t v (held .holds) i inside
 
   -- ---- the lists of stations
   module _ (stations index end : ℕ)
       (is-stations : stations ≡ getD w 0 0)
       (is-index : index ≡ getD v 3 0)
       (is-end : end ≡ getD v (index + stations) 0) where
-    last-line : index ≡ lineStart t (length (lines t))
-    last-line = is-index ∙ index-found n t v (held .holds)
+    last-line : index ≡ lineStart t (length (lines (t .trips)))
+    last-line = is-index ∙ index-found t v (held .holds)
 
     ends : end ≡ length whole
     unfolding callsPlace
     ends =
         let same : stations ≡ getD v 0 0 =
-        is-stations ∙ sym (length-stations w) ∙ sym (holding v n t (held .holds) .stations) in
-        is-end ∙ (λ z. getD v (is-index z + same z) 0) ∙ end-of-tables n t v (held .holds)
+        is-stations ∙ sym (length-stations w) ∙ sym (holding v t (held .holds) .stations) in
+        is-end ∙ (λ z. getD v (is-index z + same z) 0) ∙ end-of-tables t v (held .holds)
 
     pub lists-order : index ≤ end
-    lists-order = omega (arith, ends, last-line, index-inside n t)
+    lists-order = omega (arith, ends, last-line, index-inside t)
 
     pub lists-inside : (x : List ℕ) → 16384 ≤ length x → end ≤ length x
     lists-inside x h = omega (arith, ends, whole-fits)
 
-    list-words : slice index end v ≡ drop (lineStart t (length (lines t))) whole
-    list-words = (λ z. slice (last-line z) (ends z) v) ∙ lists-same n t v (held .holds)
+    list-words : slice index end v ≡ drop (lineStart t (length (lines (t .trips)))) whole
+    list-words = (λ z. slice (last-line z) (ends z) v) ∙ lists-same t v (held .holds)
 
   -- ---- written: behind the front, which stands in `mid`, the words from the next line on are left
   module _ (mid out : List ℕ) (i : ℕ)
@@ -141,11 +138,11 @@ module _ (w v : List ℕ) (held : Held w v) where
         → end ≡ getD v (index + stations) 0 → last ≡ put index (slice index end v) out → last ≡ put 0 whole old
     all-written old last stations index end h g room first is-stations is-index is-end written =
         let start = lineStart t 0 in
-        let is-i : length (lines t) ≡ i = omega (arith, counted count is-count) in
+        let is-i : length (lines (t .trips)) ≡ i = omega (arith, counted count is-count) in
         let place = last-line stations index end is-stations is-index is-end in
         let lists = list-words stations index end is-stations is-index is-end in
         let fits : start ≤ length whole =
-        omega (arith, front-ends count is-count, counted count is-count, start-last t, index-inside n t) in
+        omega (arith, front-ends count is-count, counted count is-count, start-last t, index-inside t) in
         let none : start ≡ 0 + start = omega arith in
         written
         ∙ (λ z. put (place z) (lists z) out)
@@ -169,7 +166,7 @@ module _ (w v : List ℕ) (held : Held w v) where
           let start = lineStart t 0 in
           let long : length (take start whole) ≡ start =
           length-take-le start whole
-          (omega (arith, front-ends count is-count, counted count is-count, start-last t, index-inside n t)) in
+          (omega (arith, front-ends count is-count, counted count is-count, start-last t, index-inside t)) in
           ap (λ x. starts x u) (sym (take-append-drop start whole))
           ∙ starts-append (take start whole) (drop start whole) u
           ∙ (λ z. (ap (λ x. starts x u) (sym (front-words count is-count)) ∙ sym is-r) z
@@ -208,7 +205,7 @@ module _ (w v : List ℕ) (held : Held w v) where
           → index ≡ getD v 3 0 → end ≡ getD v (index + stations) 0
           → r ≡ starts (slice index end v) (drop index u) → r ≡ areByTrip w u
       lists-decide r stations index end h g is-stations is-index is-end is-r =
-          let is-i : i ≡ length (lines t) = omega (arith, counted count is-count) in
+          let is-i : i ≡ length (lines (t .trips)) = omega (arith, counted count is-count) in
           let lists = list-words stations index end is-stations is-index is-end in
           let place = last-line stations index end is-stations is-index is-end in
           is-r

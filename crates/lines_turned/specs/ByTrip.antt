@@ -3,11 +3,11 @@
 -- the times of a line differs (`lineTimes` of lines_tables has them by stop, then by trip), and so where each is looked
 -- up.
 use mathlib.Core.List.{List, _∷_, [], _++_, map}
-use Prim.Native.Nat.{ℕ, suc, _+_, _*_}
+use Prim.Native.Nat.{ℕ, _+_, _*_}
 use lib.Dec.{leb}
 use lib.ListN.{length, getD}
 use Rattle.lists.specs.Lists.{concatMap, range}
-use Rattle.timetable.specs.Timetable.{Trip, Timetable}
+use Rattle.timetable.specs.Timetable.{Trip, Timetable, numberOf}
 use Rattle.lines.specs.Lines.{lines, course}
 use Rattle.lines_tables.specs.Tables.{stopOf, courseWords, linePlaces, callPlaces, allCallPairs, indexPlace}
 use Rattle.lines_lookup.specs.Lookup.{Line, coursePlace}
@@ -22,27 +22,23 @@ unfoldable pub timesByTrip : List Trip → (line : List ℕ) → List ℕ
 timesByTrip t line = concatMap (tripTimes t (length (course t line))) line
 
 -- all words of one line: positions, trips, the trips' numbers, the course, the times
-unfoldable pub lineByTrip : List Trip → (line : List ℕ) → List ℕ
+unfoldable pub lineByTrip : Timetable → (line : List ℕ) → List ℕ
 lineByTrip t line =
-    length (course t line)
+    length (course (t .trips) line)
     ∷ length line
-    ∷ (map suc line ++ courseWords (course t line) ++ timesByTrip t line)
+    ∷ (map (numberOf t) line ++ courseWords (course (t .trips) line) ++ timesByTrip (t .trips) line)
 
--- all words, of n stations; the places of lines and lists are the same in both layouts
-unfoldable pub wordsByTrip : (stations : ℕ) → List Trip → List ℕ
-wordsByTrip n t =
-    n
-    ∷ length (lines t)
-    ∷ length t
+-- the line tables of a timetable, times by trip; the places of lines and lists are the same in both layouts
+unfoldable pub wordsByTrip : Timetable → List ℕ
+wordsByTrip t =
+    length (t .stations)
+    ∷ length (lines (t .trips))
+    ∷ length (t .trips)
     ∷ indexPlace t
-    ∷ (linePlaces t (4 + length (lines t)) (lines t)
-    ++ concatMap (lineByTrip t) (lines t)
-    ++ callPlaces t (indexPlace t + n + 1) 1 n
-    ++ allCallPairs t 1 n)
-
--- the line tables of a timetable, times by trip
-abbrev pub tablesByTrip : Timetable → List ℕ
-tablesByTrip t = wordsByTrip (length (t .stations)) (t .trips)
+    ∷ (linePlaces t (4 + length (lines (t .trips))) (lines (t .trips))
+    ++ concatMap (lineByTrip t) (lines (t .trips))
+    ++ callPlaces (t .trips) (indexPlace t + length (t .stations) + 1) 1 (length (t .stations))
+    ++ allCallPairs (t .trips) 1 (length (t .stations)))
 
 -- ---- looking up: where the times of the trip at place j begin, and its arrival and departure at place p
 abbrev pub tripPlace : Line → (j : ℕ) → ℕ

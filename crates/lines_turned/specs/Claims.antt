@@ -8,9 +8,10 @@ use Prim.Native.Nat.{ℕ, _≤_, _<_}
 use lib.ListN.{length, getD, take}
 use Rattle.words.specs.Put.{put}
 use Rattle.replies.specs.Replies.{numberOf}
-use Rattle.timetable.specs.Timetable.{Trip}
+use Rattle.timetable.specs.Timetable.{Timetable}
 use Rattle.timetable.specs.Words.{timetableOf}
-use Rattle.lines_tables.specs.Building.{slicesLeast, tablesOf}
+use Rattle.lines_tables.specs.Tables.{tableWords}
+use Rattle.lines_tables.specs.Building.{slicesLeast}
 use Rattle.lines_lookup.specs.Lookup.{
   lineCount,
   lineAt,
@@ -29,11 +30,11 @@ use Rattle.lines_check.specs.Question10.{areTables}
 use Rattle.lines_turned.specs.ByTrip.{wordsByTrip, arriveByTrip, departByTrip, firstByTrip}
 use Rattle.lines_turned.specs.Turning.{areByTrip, byTripReply, byTripWords, byStopReply, byStopWords}
 
--- ---- Lookups: v holds the tables of some trips with times by stop, u with times by trip.
+-- ---- Lookups: v holds the tables of a timetable with times by stop, u with times by trip.
 
 -- the words begin with those of the other layout
-pub record HoldsByTrip (u : List ℕ) (n : ℕ) (t : List Trip) : Type 0 where
-  pub is : take (length (wordsByTrip n t)) u ≡ wordsByTrip n t
+pub record HoldsByTrip (u : List ℕ) (t : Timetable) : Type 0 where
+  pub is : take (length (wordsByTrip t)) u ≡ wordsByTrip t
 
 -- the line at place i: times are looked up where each layout has them, all else where both have it
 pub record SameLine (v u : List ℕ) (i : ℕ) : Type 0 where
@@ -65,16 +66,16 @@ pub record SameLookups (v u : List ℕ) : Type 0 where
 pub record ThereAndBack (w v : List ℕ) (n : ℕ) (old : List ℕ) (k : ℕ) (back : List ℕ) : Type 0 where
   pub asked : areByTrip w (byTripWords w v n old) ≡ true
   pub replies : byStopReply w (byTripWords w v n old) k (length back) ≡ byTripReply w v n (length old)
-  pub words : byStopWords w (byTripWords w v n old) k back ≡ put 0 (take (length (tablesOf (timetableOf w))) v) back
+  pub words : byStopWords w (byTripWords w v n old) k back ≡ put 0 (take (length (tableWords (timetableOf w))) v) back
 
 -- the other way round
 pub record BackAndThere (w u : List ℕ) (n : ℕ) (old : List ℕ) (k : ℕ) (back : List ℕ) : Type 0 where
   pub asked : areTables w (byStopWords w u n old) ≡ true
   pub replies : byTripReply w (byStopWords w u n old) k (length back) ≡ byStopReply w u n (length old)
-  pub words : byTripWords w (byStopWords w u n old) k back ≡ put 0 (take (length (tablesOf (timetableOf w))) u) back
+  pub words : byTripWords w (byStopWords w u n old) k back ≡ put 0 (take (length (tableWords (timetableOf w))) u) back
 
 pub record Claims : Type 0 where
-  pub lookups : (v u : List ℕ) (n : ℕ) (t : List Trip) → Holds v n t → HoldsByTrip u n t → SameLookups v u
+  pub lookups : (v u : List ℕ) (t : Timetable) → Holds v t → HoldsByTrip u t → SameLookups v u
   pub there-and-back : (w v : List ℕ) (n : ℕ) (old : List ℕ) (k : ℕ) (back : List ℕ)
       → numberOf (byTripReply w v n (length old)) ≡ 0 → slicesLeast ≤ k → slicesLeast ≤ length back
       → ThereAndBack w v n old k back

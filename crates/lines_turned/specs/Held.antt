@@ -7,18 +7,16 @@ use borrow.Author.Tests.{not-false}
 use lib.ListN.{length, take}
 use Rattle.words.specs.Put.{put, take-put}
 use Rattle.timetable.specs.Words.{timetableOf, isTimetable}
-use Rattle.timetable.specs.Check.{length-stations}
 use Rattle.lines_tables.specs.Tables.{tableWords}
 use Rattle.lines_tables.specs.Model.{tableAt}
 use Rattle.lines_tables.specs.Same.{same-tables}
-use Rattle.lines_tables.specs.Building.{tablesOf}
 use Rattle.lines_lookup.specs.Told.{Holds}
 use Rattle.lines_check.specs.Question10.{areTables}
 use Rattle.lines_check.specs.Built.{begins-holds}
 
 pub record Held (w v : List ℕ) : Type 0 where
   pub accepted : isTimetable w ≡ true
-  pub holds : Holds v (length ((timetableOf w) .stations)) ((timetableOf w) .trips)
+  pub holds : Holds v (timetableOf w)
 
 -- where question 10 has its yes
 pub held-own : (w v : List ℕ) (r : Bool) → isTimetable w ≡ true → r ≡ areTables w v → not r ≡ false → Held w v
@@ -31,14 +29,13 @@ held-own w v r accepted is-r agreed =
 -- where they were written
 pub held-written : (w old v : List ℕ) → isTimetable w ≡ true → v ≡ put 0 (tableAt w) old → Held w v
 held-written w old v accepted written =
-    let are : tableAt w ≡ tablesOf (timetableOf w) =
-    same-tables w accepted ∙ ap (λ k. tableWords k ((timetableOf w) .trips)) (sym (length-stations w)) in
     record {
       accepted = accepted;
       holds =
           record {
             is =
-                ap (take (length (tablesOf (timetableOf w)))) (written ∙ ap (λ x. put 0 x old) are)
-                ∙ take-put (tablesOf (timetableOf w)) old;
+                ap (take (length (tableWords (timetableOf w))))
+                (written ∙ ap (λ x. put 0 x old) (same-tables w accepted))
+                ∙ take-put (tableWords (timetableOf w)) old;
           };
     }

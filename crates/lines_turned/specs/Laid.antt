@@ -10,7 +10,7 @@ use lib.ListN.{length, getD, drop, length-append, length-map}
 use lib.Seq.{drop-at}
 use Rattle.lists.specs.Lists.{concatMap, range}
 use Rattle.lists.specs.Ranges.{length-range}
-use Rattle.timetable.specs.Timetable.{Trip}
+use Rattle.timetable.specs.Timetable.{Trip, Timetable, numberOf}
 use Rattle.connections.specs.Rides.{noStop}
 use Rattle.lines.specs.Lines.{lines, course}
 use Rattle.lines_tables.specs.Tables.{
@@ -53,25 +53,8 @@ stands-drop part v k s =
     ∙ drop-at (s .before) (part ++ s .past) k (s .place)
     ∙ ap (λ r. part ++ r) (sym (ap (drop (k + length part)) (s .is) ∙ drop-at (s .before ++ part) (s .past) _ up-to))
 
+-- ---- the times of a line
 module _ (t : List Trip) where
-  -- ---- the words of a line
-  -- those before the times
-  abbrev pub lineFront : (line : List ℕ) → List ℕ
-  lineFront line = length (course t line) ∷ length line ∷ (map suc line ++ courseWords (course t line))
-
-  pub length-lineFront : (line : List ℕ) → length (lineFront line) ≡ 2 + length line + 3 * length (course t line)
-  unfolding courseWords
-  length-lineFront line =
-      let c = course t line in
-      let position : ℕ → List ℕ = λ p. positionWords ((getD c p noStop) .station) (totalOn c p) in
-      omega (
-        arith,
-        length-append (map suc line) (concatMap position (range 0 (length c))),
-        length-map line suc,
-        length-rows position 3 (λ p. refl) (range 0 (length c)),
-        length-range 0 (length c),
-      )
-
   pub length-tripTimes : (stops z : ℕ) → length (tripTimes t stops z) ≡ 2 * stops
   unfolding tripTimes
   length-tripTimes stops z =
@@ -97,8 +80,33 @@ module _ (t : List Trip) where
       length-rows row (2 * length line) even (range 0 (length (course t line)))
       ∙ ap (λ k. k * (2 * length line)) (length-range 0 (length (course t line)))
 
+module _ (timetable : Timetable) where
+  abbrev n : ℕ
+  n = length (timetable .stations)
+
+  abbrev t : List Trip
+  t = timetable .trips
+
+  -- ---- the words of a line
+  -- those before the times
+  abbrev pub lineFront : (line : List ℕ) → List ℕ
+  lineFront line = length (course t line) ∷ length line ∷ (map (numberOf timetable) line ++ courseWords (course t line))
+
+  pub length-lineFront : (line : List ℕ) → length (lineFront line) ≡ 2 + length line + 3 * length (course t line)
+  unfolding courseWords
+  length-lineFront line =
+      let c = course t line in
+      let position : ℕ → List ℕ = λ p. positionWords ((getD c p noStop) .station) (totalOn c p) in
+      omega (
+        arith,
+        length-append (map (numberOf timetable) line) (concatMap position (range 0 (length c))),
+        length-map line (numberOf timetable),
+        length-rows position 3 (λ p. refl) (range 0 (length c)),
+        length-range 0 (length c),
+      )
+
   -- both layouts have as many words of a line
-  pub as-many : (line : List ℕ) → length (lineByTrip t line) ≡ length (lineWords t line)
+  pub as-many : (line : List ℕ) → length (lineByTrip timetable line) ≡ length (lineWords timetable line)
   unfolding lineByTrip lineWords
   as-many line =
       let stops = length (course t line) in
@@ -110,116 +118,115 @@ module _ (t : List Trip) where
         arith,
         length-append (lineFront line) (timesByTrip t line),
         length-append (lineFront line) (lineTimes t line),
-        length-timesByTrip line,
-        length-lineTimes line,
+        length-timesByTrip t line,
+        length-lineTimes t line,
         turned,
       )
 
   -- where the words of the line at place i begin; past the last line, where the lists of stations begin
   abbrev pub lineStart : (i : ℕ) → ℕ
-  lineStart i = 4 + length (lines t) + rowPlace (lineWords t) (lines t) i
+  lineStart i = 4 + length (lines t) + rowPlace (lineWords timetable) (lines t) i
 
   pub start-first : lineStart 0 ≡ 4 + length (lines t)
   unfolding rowPlace
   start-first = none (lines t)
     where
-      none : (ls : List (List ℕ)) → 4 + length (lines t) + rowPlace (lineWords t) ls 0 ≡ 4 + length (lines t)
+      none : (ls : List (List ℕ)) → 4 + length (lines t) + rowPlace (lineWords timetable) ls 0 ≡ 4 + length (lines t)
       none [] = omega arith
       none (l ∷ ls) = omega arith
 
-  pub start-last : lineStart (length (lines t)) ≡ indexPlace t
+  pub start-last : lineStart (length (lines t)) ≡ indexPlace timetable
   unfolding allLineWords
-  start-last = omega (arith, all-rows (lineWords t) (lines t))
+  start-last = omega (arith, all-rows (lineWords timetable) (lines t))
 
   pub start-next : (i : ℕ) → i < length (lines t)
-      → lineStart (i + 1) ≡ lineStart i + length (lineByTrip t (getD (lines t) i []))
+      → lineStart (i + 1) ≡ lineStart i + length (lineByTrip timetable (getD (lines t) i []))
   start-next i h =
       let next : i + 1 ≡ suc i = omega arith in
       omega (
         arith,
-        ap (rowPlace (lineWords t) (lines t)) next,
-        row-next (lineWords t) (lines t) i [] h,
+        ap (rowPlace (lineWords timetable) (lines t)) next,
+        row-next (lineWords timetable) (lines t) i [] h,
         as-many (getD (lines t) i []),
       )
 
-  module _ (n : ℕ) where
-    -- the words before those of the lines, and behind them
-    abbrev pub front : List ℕ
-    front =
-        n ∷ length (lines t) ∷ length t ∷ indexPlace t ∷ linePlaces t (4 + length (lines t)) (lines t)
+  -- the words before those of the lines, and behind them
+  abbrev pub front : List ℕ
+  front =
+      n ∷ length (lines t) ∷ length t ∷ indexPlace timetable ∷ linePlaces timetable (4 + length (lines t)) (lines t)
 
-    abbrev pub firsts : List ℕ
-    firsts = callPlaces t (indexPlace t + n + 1) 1 n
+  abbrev pub firsts : List ℕ
+  firsts = callPlaces t (indexPlace timetable + n + 1) 1 n
 
-    abbrev pub pairs : List ℕ
-    pairs = allCallPairs t 1 n
+  abbrev pub pairs : List ℕ
+  pairs = allCallPairs t 1 n
 
-    pub length-front : length front ≡ 4 + length (lines t)
-    length-front = omega (arith, length-linePlaces t (4 + length (lines t)) (lines t))
+  pub length-front : length front ≡ 4 + length (lines t)
+  length-front = omega (arith, length-linePlaces timetable (4 + length (lines t)) (lines t))
 
-    module _ (f : List ℕ → List ℕ) (even : (l : List ℕ) → length (f l) ≡ length (lineWords t l)) where
-      -- tables in which the words of a line are those of f
-      abbrev pub laid : List ℕ
-      laid = front ++ concatMap f (lines t) ++ firsts ++ pairs
+  module _ (f : List ℕ → List ℕ) (even : (l : List ℕ) → length (f l) ≡ length (lineWords timetable l)) where
+    -- tables in which the words of a line are those of f
+    abbrev pub laid : List ℕ
+    laid = front ++ concatMap f (lines t) ++ firsts ++ pairs
 
-      even-places : (i : ℕ) (ls : List (List ℕ)) → rowPlace f ls i ≡ rowPlace (lineWords t) ls i
-      unfolding rowPlace
-      even-places i [] = refl
-      even-places zero (l ∷ ls) = refl
-      even-places (suc i) (l ∷ ls) = omega (arith, even l, even-places i ls)
+    even-places : (i : ℕ) (ls : List (List ℕ)) → rowPlace f ls i ≡ rowPlace (lineWords timetable) ls i
+    unfolding rowPlace
+    even-places i [] = refl
+    even-places zero (l ∷ ls) = refl
+    even-places (suc i) (l ∷ ls) = omega (arith, even l, even-places i ls)
 
-      even-length : (ls : List (List ℕ)) → length (concatMap f ls) ≡ length (concatMap (lineWords t) ls)
-      even-length [] = refl
-      even-length (l ∷ ls) =
-          omega (
-            arith,
-            length-append (f l) (concatMap f ls),
-            length-append (lineWords t l) (concatMap (lineWords t) ls),
-            even l,
-            even-length ls,
-          )
+    even-length : (ls : List (List ℕ)) → length (concatMap f ls) ≡ length (concatMap (lineWords timetable) ls)
+    even-length [] = refl
+    even-length (l ∷ ls) =
+        omega (
+          arith,
+          length-append (f l) (concatMap f ls),
+          length-append (lineWords timetable l) (concatMap (lineWords timetable) ls),
+          even l,
+          even-length ls,
+        )
 
-      module _ (v : List ℕ) (s : Stands laid v 0) where
-        before-lists : Stands (front ++ concatMap f (lines t)) v 0
-        before-lists =
-            left-stands (front ++ concatMap f (lines t)) firsts v 0
-            (left-stands (front ++ concatMap f (lines t) ++ firsts) pairs v 0 s)
+    module _ (v : List ℕ) (s : Stands laid v 0) where
+      before-lists : Stands (front ++ concatMap f (lines t)) v 0
+      before-lists =
+          left-stands (front ++ concatMap f (lines t)) firsts v 0
+          (left-stands (front ++ concatMap f (lines t) ++ firsts) pairs v 0 s)
 
-        pub front-in : Stands front v 0
-        front-in = left-stands front (concatMap f (lines t)) v 0 before-lists
+      pub front-in : Stands front v 0
+      front-in = left-stands front (concatMap f (lines t)) v 0 before-lists
 
-        pub line-in : (i : ℕ) → i < length (lines t) → Stands (f (getD (lines t) i [])) v (lineStart i)
-        line-in i h =
-            let here : 0 + length front + rowPlace f (lines t) i ≡ lineStart i =
-            omega (arith, length-front, even-places i (lines t)) in
-            subst (Stands (f (getD (lines t) i [])) v) here
-            (row-stands f (lines t) v (0 + length front) i [] h
-            (right-stands front (concatMap f (lines t)) v 0 before-lists))
+      pub line-in : (i : ℕ) → i < length (lines t) → Stands (f (getD (lines t) i [])) v (lineStart i)
+      line-in i h =
+          let here : 0 + length front + rowPlace f (lines t) i ≡ lineStart i =
+          omega (arith, length-front, even-places i (lines t)) in
+          subst (Stands (f (getD (lines t) i [])) v) here
+          (row-stands f (lines t) v (0 + length front) i [] h
+          (right-stands front (concatMap f (lines t)) v 0 before-lists))
 
-        pub lists-in : Stands (firsts ++ pairs) v (indexPlace t)
-        unfolding allLineWords
-        lists-in =
-            let here : 0 + length (front ++ concatMap f (lines t)) ≡ indexPlace t =
-            omega (
-              arith,
-              length-append front (concatMap f (lines t)),
-              length-front,
-              even-length (lines t),
-            ) in
-            let whole : Stands (front ++ concatMap f (lines t) ++ (firsts ++ pairs)) v 0 =
-            subst (λ x. Stands x v 0) (append-assoc (front ++ concatMap f (lines t)) firsts pairs) s in
-            subst (Stands (firsts ++ pairs) v) here
-            (right-stands (front ++ concatMap f (lines t)) (firsts ++ pairs) v 0 whole)
-
-      pub length-laid : length laid ≡ indexPlace t + length (firsts ++ pairs)
+      pub lists-in : Stands (firsts ++ pairs) v (indexPlace timetable)
       unfolding allLineWords
-      length-laid =
+      lists-in =
+          let here : 0 + length (front ++ concatMap f (lines t)) ≡ indexPlace timetable =
           omega (
             arith,
-            length-append (front ++ concatMap f (lines t) ++ firsts) pairs,
-            length-append (front ++ concatMap f (lines t)) firsts,
             length-append front (concatMap f (lines t)),
-            length-append firsts pairs,
             length-front,
             even-length (lines t),
-          )
+          ) in
+          let whole : Stands (front ++ concatMap f (lines t) ++ (firsts ++ pairs)) v 0 =
+          subst (λ x. Stands x v 0) (append-assoc (front ++ concatMap f (lines t)) firsts pairs) s in
+          subst (Stands (firsts ++ pairs) v) here
+          (right-stands (front ++ concatMap f (lines t)) (firsts ++ pairs) v 0 whole)
+
+    pub length-laid : length laid ≡ indexPlace timetable + length (firsts ++ pairs)
+    unfolding allLineWords
+    length-laid =
+        omega (
+          arith,
+          length-append (front ++ concatMap f (lines t) ++ firsts) pairs,
+          length-append (front ++ concatMap f (lines t)) firsts,
+          length-append front (concatMap f (lines t)),
+          length-append firsts pairs,
+          length-front,
+          even-length (lines t),
+        )

@@ -14,10 +14,11 @@ use Rattle.questions.specs.Question.{ask, firstNo, yes-here, yes-later}
 use Rattle.replies.specs.Replies.{numberOf, replyOf, reply-number, words-done}
 use Rattle.words.specs.Put.{put, take-put, length-put}
 use Rattle.timetable.specs.Words.{timetableOf, isTimetable}
-use Rattle.lines_tables.specs.Building.{slicesLeast, lineCount, tablesOf}
+use Rattle.lines_tables.specs.Tables.{tableWords}
+use Rattle.lines_tables.specs.Building.{slicesLeast, lineCount}
 use Rattle.lines_check.specs.Question10.{begins, areTables}
 use Rattle.lines_check.specs.Built.{tables-fit}
-use Rattle.lines_turned.specs.ByTrip.{tablesByTrip}
+use Rattle.lines_turned.specs.ByTrip.{wordsByTrip}
 use Rattle.lines_turned.specs.Found.{same-length}
 use Rattle.lines_turned.specs.Claims.{ThereAndBack, BackAndThere, Claims}
 use Rattle.lines_turned.specs.SameLookups.{same-lookups}
@@ -90,11 +91,11 @@ module _ (w : List ℕ) (k n m : ℕ) (own : Bool) (none : turnNumber w k n m ow
 
 -- ---- the words of both layouts are as many, and fit
 module _ (w : List ℕ) where
-  as-long : length (tablesByTrip (timetableOf w)) ≡ length (tablesOf (timetableOf w))
-  as-long = same-length (length ((timetableOf w) .stations)) ((timetableOf w) .trips)
+  as-long : length (wordsByTrip (timetableOf w)) ≡ length (tableWords (timetableOf w))
+  as-long = same-length (timetableOf w)
 
   -- what was written keeps the length
-  kept : (x old : List ℕ) → isTimetable w ≡ true → length x ≡ length (tablesOf (timetableOf w))
+  kept : (x old : List ℕ) → isTimetable w ≡ true → length x ≡ length (tableWords (timetableOf w))
       → slicesLeast ≤ length old → length (put 0 x old) ≡ length old
   kept x old accepted e h = length-put 0 x old (omega (arith, tables-fit w accepted))
 
@@ -111,25 +112,25 @@ module _ (w v : List ℕ) (n : ℕ) (old : List ℕ) (k : ℕ) (back : List ℕ)
   accepted : isTimetable w ≡ true
   accepted = yes-9 w (length v) n (length old) own none
 
-  written : byTripWords w v n old ≡ put 0 (tablesByTrip (timetableOf w)) old
+  written : byTripWords w v n old ≡ put 0 (wordsByTrip (timetableOf w)) old
   unfolding byTripWords
-  written = sym (words-done (byTripNumber w v n (length old)) (tablesByTrip (timetableOf w)) old none)
+  written = sym (words-done (byTripNumber w v n (length old)) (wordsByTrip (timetableOf w)) old none)
 
   asked-then : areByTrip w (byTripWords w v n old) ≡ true
   unfolding areByTrip
-  asked-then = rw written (put-starts (tablesByTrip (timetableOf w)) old)
+  asked-then = rw written (put-starts (wordsByTrip (timetableOf w)) old)
 
   none-then : byStopNumber w (byTripWords w v n old) k (length back) ≡ 0
   none-then =
       again w (length v) n (length old) own none (length (byTripWords w v n old)) k (length back)
       (ap length written
-      ∙ kept w (tablesByTrip (timetableOf w)) old accepted (as-long w)
+      ∙ kept w (wordsByTrip (timetableOf w)) old accepted (as-long w)
       (result-long w (length v) n (length old) own none))
       h g (areByTrip w (byTripWords w v n old)) asked-then
 
-  first-words : take (length (tablesOf (timetableOf w))) v ≡ tablesOf (timetableOf w)
+  first-words : take (length (tableWords (timetableOf w))) v ≡ tableWords (timetableOf w)
   unfolding begins
-  first-words = starts-with (tablesOf (timetableOf w)) v (yes-10 w (length v) n (length old) own none)
+  first-words = starts-with (tableWords (timetableOf w)) v (yes-10 w (length v) n (length old) own none)
 
   there-back : ThereAndBack w v n old k back
   unfolding byTripReply byStopReply byStopWords
@@ -139,7 +140,7 @@ module _ (w v : List ℕ) (n : ℕ) (old : List ℕ) (k : ℕ) (back : List ℕ)
         replies = ap (λ x. replyOf x (lineCount (timetableOf w))) (none-then ∙ sym none);
         words =
             sym
-            (words-done (byStopNumber w (byTripWords w v n old) k (length back)) (tablesOf (timetableOf w)) back
+            (words-done (byStopNumber w (byTripWords w v n old) k (length back)) (tableWords (timetableOf w)) back
             none-then)
             ∙ ap (λ x. put 0 x back) (sym first-words);
       }
@@ -157,26 +158,26 @@ module _ (w u : List ℕ) (n : ℕ) (old : List ℕ) (k : ℕ) (back : List ℕ)
   accepted-2 : isTimetable w ≡ true
   accepted-2 = yes-9 w (length u) n (length old) own-2 none-2
 
-  written-2 : byStopWords w u n old ≡ put 0 (tablesOf (timetableOf w)) old
+  written-2 : byStopWords w u n old ≡ put 0 (tableWords (timetableOf w)) old
   unfolding byStopWords
-  written-2 = sym (words-done (byStopNumber w u n (length old)) (tablesOf (timetableOf w)) old none-2)
+  written-2 = sym (words-done (byStopNumber w u n (length old)) (tableWords (timetableOf w)) old none-2)
 
   asked-2 : areTables w (byStopWords w u n old) ≡ true
   unfolding begins
-  asked-2 = rw written-2 (put-starts (tablesOf (timetableOf w)) old)
+  asked-2 = rw written-2 (put-starts (tableWords (timetableOf w)) old)
 
   none-then-2 : byTripNumber w (byStopWords w u n old) k (length back) ≡ 0
   none-then-2 =
       again w (length u) n (length old) own-2 none-2 (length (byStopWords w u n old)) k (length back)
       (ap length written-2
-      ∙ kept w (tablesOf (timetableOf w)) old accepted-2 refl (result-long w (length u) n (length old) own-2 none-2))
+      ∙ kept w (tableWords (timetableOf w)) old accepted-2 refl (result-long w (length u) n (length old) own-2 none-2))
       h g (areTables w (byStopWords w u n old)) asked-2
 
-  first-words-2 : take (length (tablesOf (timetableOf w))) u ≡ tablesByTrip (timetableOf w)
+  first-words-2 : take (length (tableWords (timetableOf w))) u ≡ wordsByTrip (timetableOf w)
   unfolding areByTrip
   first-words-2 =
       ap (λ k. take k u) (sym (as-long w))
-      ∙ starts-with (tablesByTrip (timetableOf w)) u (yes-10 w (length u) n (length old) own-2 none-2)
+      ∙ starts-with (wordsByTrip (timetableOf w)) u (yes-10 w (length u) n (length old) own-2 none-2)
 
   back-there : BackAndThere w u n old k back
   unfolding byTripReply byStopReply byTripWords
@@ -186,7 +187,7 @@ module _ (w u : List ℕ) (n : ℕ) (old : List ℕ) (k : ℕ) (back : List ℕ)
         replies = ap (λ x. replyOf x (lineCount (timetableOf w))) (none-then-2 ∙ sym none-2);
         words =
             sym
-            (words-done (byTripNumber w (byStopWords w u n old) k (length back)) (tablesByTrip (timetableOf w)) back
+            (words-done (byTripNumber w (byStopWords w u n old) k (length back)) (wordsByTrip (timetableOf w)) back
             none-then-2)
             ∙ ap (λ x. put 0 x back) (sym first-words-2);
       }

@@ -13,7 +13,7 @@ use lib.ListN.{length, getD, length-append}
 use lib.Seq.{slice}
 use Rattle.lists.specs.Lists.{range}
 use Rattle.lists.specs.Ranges.{length-range}
-use Rattle.timetable.specs.Timetable.{Trip}
+use Rattle.timetable.specs.Timetable.{Trip, Timetable}
 use Rattle.lines.specs.Lines.{lines, course}
 use Rattle.lines_tables.specs.Tables.{stopOf, lineTimes, lineWords, callPairs, allCallPairs, indexPlace}
 use Rattle.lines_lookup.specs.Lookup.{
@@ -82,19 +82,25 @@ same-first f g (suc n) j agree =
     let later = same-first f g n (suc j) (λ k h g. agree k (omega arith) (omega arith)) in
     λ z. cond (here z) j (later z)
 
-module _ (v u : List ℕ) (n : ℕ) (t : List Trip) (holds : Holds v n t) (turned : HoldsByTrip u n t) where
-  straight-front : Stands (front t n) v 0
-  straight-front = front-in t n (lineWords t) (λ l. refl) v (straight-stand n t v holds)
+module _ (v u : List ℕ) (timetable : Timetable) (holds : Holds v timetable) (turned : HoldsByTrip u timetable) where
+  abbrev n : ℕ
+  n = length (timetable .stations)
 
-  turned-front : Stands (front t n) u 0
-  turned-front = front-in t n (lineByTrip t) (as-many t) u (turned-stand n t u (turned .is))
+  abbrev t : List Trip
+  t = timetable .trips
+
+  straight-front : Stands (front timetable) v 0
+  straight-front = front-in timetable (lineWords timetable) (λ l. refl) v (straight-stand timetable v holds)
+
+  turned-front : Stands (front timetable) u 0
+  turned-front = front-in timetable (lineByTrip timetable) (as-many timetable) u (turned-stand timetable u (turned .is))
 
   front-word : (m : ℕ) → m < 4 + length (lines t) → getD u m 0 ≡ getD v m 0
   front-word m h =
-      let inside : m < length (front t n) = omega (arith, length-front t n) in
+      let inside : m < length (front timetable) = omega (arith, length-front timetable) in
       ap (λ k. getD u k 0) (sym (zero-add m))
-      ∙ word-at (front t n) u 0 turned-front m inside
-      ∙ sym (word-at (front t n) v 0 straight-front m inside)
+      ∙ word-at (front timetable) u 0 turned-front m inside
+      ∙ sym (word-at (front timetable) v 0 straight-front m inside)
       ∙ ap (λ k. getD v k 0) (zero-add m)
 
   -- ---- a line
@@ -102,37 +108,37 @@ module _ (v u : List ℕ) (n : ℕ) (t : List Trip) (holds : Holds v n t) (turne
     abbrev trips : List ℕ
     trips = getD (lines t) i []
 
-    told : LineTold v t i trips
-    told = holding v n t holds .line i h
+    told : LineTold v timetable i trips
+    told = holding v timetable holds .line i h
 
     abbrev line : Line
     line = lineAt v i
 
-    begins : line .at ≡ lineStart t i
+    begins : line .at ≡ lineStart timetable i
     unfolding lineAt
-    begins = place-found n t v holds i h
+    begins = place-found timetable v holds i h
 
-    straight-line : Stands (lineWords t trips) v (line .at)
+    straight-line : Stands (lineWords timetable trips) v (line .at)
     straight-line =
-        subst (Stands (lineWords t trips) v) (sym begins)
-        (line-in t n (lineWords t) (λ l. refl) v (straight-stand n t v holds) i h)
+        subst (Stands (lineWords timetable trips) v) (sym begins)
+        (line-in timetable (lineWords timetable) (λ l. refl) v (straight-stand timetable v holds) i h)
 
-    turned-line : Stands (lineByTrip t trips) u (line .at)
+    turned-line : Stands (lineByTrip timetable trips) u (line .at)
     turned-line =
-        subst (Stands (lineByTrip t trips) u) (sym begins)
-        (line-in t n (lineByTrip t) (as-many t) u (turned-stand n t u (turned .is)) i h)
+        subst (Stands (lineByTrip timetable trips) u) (sym begins)
+        (line-in timetable (lineByTrip timetable) (as-many timetable) u (turned-stand timetable u (turned .is)) i h)
 
     -- a word before the times
     line-word : (m : ℕ) → m < 2 + line .trips + 3 * line .positions → getD u (line .at + m) 0 ≡ getD v (line .at + m) 0
     unfolding lineWords lineByTrip
     line-word m g =
-        let inside : m < length (lineFront t trips) =
-        omega (arith, length-lineFront t trips, told .positions, told .trips) in
-        word-at (lineFront t trips) u (line .at)
-        (left-stands (lineFront t trips) (timesByTrip t trips) u (line .at) turned-line) m inside
+        let inside : m < length (lineFront timetable trips) =
+        omega (arith, length-lineFront timetable trips, told .positions, told .trips) in
+        word-at (lineFront timetable trips) u (line .at)
+        (left-stands (lineFront timetable trips) (timesByTrip t trips) u (line .at) turned-line) m inside
         ∙ sym
-        (word-at (lineFront t trips) v (line .at)
-        (left-stands (lineFront t trips) (lineTimes t trips) v (line .at) straight-line) m inside)
+        (word-at (lineFront timetable trips) v (line .at)
+        (left-stands (lineFront timetable trips) (lineTimes t trips) v (line .at) straight-line) m inside)
 
     same-line : lineAt u i ≡ lineAt v i
     unfolding lineAt
@@ -184,10 +190,10 @@ module _ (v u : List ℕ) (n : ℕ) (t : List Trip) (holds : Holds v n t) (turne
         behind-front : Stands (timesByTrip t trips) u (coursePlace line + 3 * line .positions)
         unfolding lineByTrip
         behind-front =
-            let there : line .at + length (lineFront t trips) ≡ coursePlace line + 3 * line .positions =
-            omega (arith, length-lineFront t trips, told .positions, told .trips) in
+            let there : line .at + length (lineFront timetable trips) ≡ coursePlace line + 3 * line .positions =
+            omega (arith, length-lineFront timetable trips, told .positions, told .trips) in
             subst (Stands (timesByTrip t trips) u) there
-            (right-stands (lineFront t trips) (timesByTrip t trips) u (line .at) turned-line)
+            (right-stands (lineFront timetable trips) (timesByTrip t trips) u (line .at) turned-line)
 
         trip-stands : Stands (tripTimes t (line .positions) z) u (tripPlace line j)
         unfolding timesByTrip
@@ -245,16 +251,16 @@ module _ (v u : List ℕ) (n : ℕ) (t : List Trip) (holds : Holds v n t) (turne
 
   -- ---- the lists of stations
   abbrev lists : List ℕ
-  lists = firsts t n ++ pairs t n
+  lists = firsts timetable ++ pairs timetable
 
-  straight-lists : Stands lists v (indexPlace t)
-  straight-lists = lists-in t n (lineWords t) (λ l. refl) v (straight-stand n t v holds)
+  straight-lists : Stands lists v (indexPlace timetable)
+  straight-lists = lists-in timetable (lineWords timetable) (λ l. refl) v (straight-stand timetable v holds)
 
-  turned-lists : Stands lists u (indexPlace t)
-  turned-lists = lists-in t n (lineByTrip t) (as-many t) u (turned-stand n t u (turned .is))
+  turned-lists : Stands lists u (indexPlace timetable)
+  turned-lists = lists-in timetable (lineByTrip timetable) (as-many timetable) u (turned-stand timetable u (turned .is))
 
-  index-is : getD v 3 0 ≡ indexPlace t
-  index-is = word-at (front t n) v 0 straight-front 3 (omega (arith, length-front t n))
+  index-is : getD v 3 0 ≡ indexPlace timetable
+  index-is = word-at (front timetable) v 0 straight-front 3 (omega (arith, length-front timetable))
 
   place-same : (s : ℕ) → s ≤ n → callsPlace u s ≡ callsPlace v s
   unfolding callsPlace
@@ -262,12 +268,12 @@ module _ (v u : List ℕ) (n : ℕ) (t : List Trip) (holds : Holds v n t) (turne
       let inside : s < length lists =
       omega (
         arith,
-        length-append (firsts t n) (pairs t n),
-        length-callPlaces t (indexPlace t + n + 1) 1 n,
+        length-append (firsts timetable) (pairs timetable),
+        length-callPlaces t (indexPlace timetable + n + 1) 1 n,
       ) in
       ap (λ k. getD u (k + s) 0) (front-word 3 (omega arith) ∙ index-is)
-      ∙ word-at lists u (indexPlace t) turned-lists s inside
-      ∙ sym (word-at lists v (indexPlace t) straight-lists s inside)
+      ∙ word-at lists u (indexPlace timetable) turned-lists s inside
+      ∙ sym (word-at lists v (indexPlace timetable) straight-lists s inside)
       ∙ ap (λ k. getD v (k + s) 0) (sym index-is)
 
   -- the list of station s + 1 stands at the same place in both
@@ -278,16 +284,17 @@ module _ (v u : List ℕ) (n : ℕ) (t : List Trip) (holds : Holds v n t) (turne
         let stations = range 1 n in
         let inside : s < length stations = omega (arith, length-range 1 n) in
         let this : getD stations s 0 ≡ suc s = omega (arith, range-at 1 n s h) in
-        let here : indexPlace t + length (firsts t n) + rowPlace (callPairs t) stations s ≡ callsPlace v s =
+        let here : indexPlace timetable + length (firsts timetable) + rowPlace (callPairs t) stations s
+        ≡ callsPlace v s =
         omega (
           arith,
-          length-callPlaces t (indexPlace t + n + 1) 1 n,
-          calls-place-told v n t holds s (omega arith),
+          length-callPlaces t (indexPlace timetable + n + 1) 1 n,
+          calls-place-told v timetable holds s (omega arith),
         ) in
         subst (λ x. Stands (callPairs t x) u (callsPlace v s)) this
         (subst (Stands (callPairs t (getD stations s 0)) u) here
-        (row-stands (callPairs t) stations u (indexPlace t + length (firsts t n)) s 0 inside
-        (right-stands (firsts t n) (pairs t n) u (indexPlace t) turned-lists)))
+        (row-stands (callPairs t) stations u (indexPlace timetable + length (firsts timetable)) s 0 inside
+        (right-stands (firsts timetable) (pairs timetable) u (indexPlace timetable) turned-lists)))
 
     calls-end : callsPlace v s + length (callPairs t (suc s)) ≡ callsPlace v (s + 1)
     calls-end =
@@ -296,8 +303,8 @@ module _ (v u : List ℕ) (n : ℕ) (t : List Trip) (holds : Holds v n t) (turne
         let this : getD stations s 0 ≡ suc s = omega (arith, range-at 1 n s h) in
         omega (
           arith,
-          calls-place-told v n t holds s (omega arith),
-          calls-place-told v n t holds (s + 1) (omega arith),
+          calls-place-told v timetable holds s (omega arith),
+          calls-place-told v timetable holds (s + 1) (omega arith),
           ap (rowPlace (callPairs t) stations) next,
           row-next (callPairs t) stations s 0 (omega (arith, length-range 1 n)),
           ap (λ x. length (callPairs t x)) this,
@@ -307,7 +314,7 @@ module _ (v u : List ℕ) (n : ℕ) (t : List Trip) (holds : Holds v n t) (turne
     slice-same =
         (λ z. slice (place-same s (omega arith) z) ((place-same (s + 1) (omega arith) ∙ sym calls-end) z) u)
         ∙ part-slice (callPairs t (suc s)) u (callsPlace v s) turned-calls
-        ∙ sym (holding v n t holds .calls s h)
+        ∙ sym (holding v timetable holds .calls s h)
 
   list-same : (s : ℕ) → listOf u s ≡ listOf v s
   unfolding listOf
@@ -324,21 +331,21 @@ module _ (v u : List ℕ) (n : ℕ) (t : List Trip) (holds : Holds v n t) (turne
       go false e = rw (le-leb 1 (suc s) (omega arith))
       go true e =
           let listed : s < n =
-          omega (arith, leb-true (suc s) (getD v 0 0) e, holding v n t holds .stations) in
+          omega (arith, leb-true (suc s) (getD v 0 0) e, holding v timetable holds .stations) in
           let less : suc s - 1 ≡ s = omega arith in
           rw (le-leb 1 (suc s) (omega arith), less, ← add-one s) (slice-same s listed)
 
-pub same-lookups : (v u : List ℕ) (n : ℕ) (t : List Trip) → Holds v n t → HoldsByTrip u n t → SameLookups v u
+pub same-lookups : (v u : List ℕ) (t : Timetable) → Holds v t → HoldsByTrip u t → SameLookups v u
 unfolding callsOf
-same-lookups v u n t holds turned =
-    let word = front-word v u n t holds turned in
-    let list = list-same v u n t holds turned in
-    let count : lineCount v ≡ length (lines t) = holding v n t holds .line-count in
+same-lookups v u t holds turned =
+    let word = front-word v u t holds turned in
+    let list = list-same v u t holds turned in
+    let count : lineCount v ≡ length (lines (t .trips)) = holding v t holds .line-count in
     record {
       stations = word 0 (omega arith);
       line-count = word 1 (omega arith);
       trip-count = word 2 (omega arith);
-      line = (λ i h. line-same v u n t holds turned i (omega (arith, count)));
+      line = (λ i h. line-same v u t holds turned i (omega (arith, count)));
       list = list;
       calls = (λ s. ap pairsOf (list s));
     }

@@ -11,13 +11,14 @@ use Rattle.questions.specs.Question.{Question, ask, firstNo}
 use Rattle.replies.specs.declared.Reply.{Reply}
 use Rattle.replies.specs.Replies.{replyOf, valuesOf, valuesFor, wordsAfter, reply-values}
 use Rattle.timetable.specs.Words.{timetableOf, isTimetable}
-use Rattle.lines_tables.specs.Building.{slicesLeast, lineCount, tablesOf}
+use Rattle.lines_tables.specs.Tables.{tableWords}
+use Rattle.lines_tables.specs.Building.{slicesLeast, lineCount}
 use Rattle.lines_check.specs.Question10.{areTables}
-use Rattle.lines_turned.specs.ByTrip.{tablesByTrip}
+use Rattle.lines_turned.specs.ByTrip.{wordsByTrip}
 
 -- question 10 in the other layout: the words u begin with those of the timetable's tables, times by trip
 unfoldable pub areByTrip : (w u : List ℕ) → Bool
-areByTrip w u = same (tablesByTrip (timetableOf w)) (take (length (tablesByTrip (timetableOf w))) u)
+areByTrip w u = same (wordsByTrip (timetableOf w)) (take (length (wordsByTrip (timetableOf w))) u)
 
 -- the timetable w, tables of k words, working space of n words, a result slice of m words: "Are the slices long
 -- enough ..? 8", "Could the timetable words come from an accepted text? 9"
@@ -52,7 +53,7 @@ unfoldable pub byTripValues : (w v : List ℕ) (n m : ℕ) → List ℕ
 byTripValues w v n m = valuesFor (byTripNumber w v n m) (lineCount (timetableOf w))
 
 unfoldable pub byTripWords : (w v : List ℕ) (n : ℕ) (old : List ℕ) → List ℕ
-byTripWords w v n old = wordsAfter (byTripNumber w v n (length old)) (tablesByTrip (timetableOf w)) old
+byTripWords w v n old = wordsAfter (byTripNumber w v n (length old)) (wordsByTrip (timetableOf w)) old
 
 -- ---- and back: u are tables with times by trip
 abbrev pub byStopNumber : (w u : List ℕ) (n m : ℕ) → ℕ
@@ -65,7 +66,7 @@ unfoldable pub byStopValues : (w u : List ℕ) (n m : ℕ) → List ℕ
 byStopValues w u n m = valuesFor (byStopNumber w u n m) (lineCount (timetableOf w))
 
 unfoldable pub byStopWords : (w u : List ℕ) (n : ℕ) (old : List ℕ) → List ℕ
-byStopWords w u n old = wordsAfter (byStopNumber w u n (length old)) (tablesOf (timetableOf w)) old
+byStopWords w u n old = wordsAfter (byStopNumber w u n (length old)) (tableWords (timetableOf w)) old
 
 -- ---- number and count of a reply
 pub by-trip-values : (w v : List ℕ) (n m : ℕ) (r : Reply) → r ≡ byTripReply w v n m → valuesOf r ≡ byTripValues w v n m

@@ -8,10 +8,10 @@ ghost use lib.Seq.{slice};
 ghost use Rattle.words.specs.Put.{put};
 ghost use Rattle.timetable.specs.Words.{timetableOf, isTimetable};
 ghost use Rattle.replies.specs.Replies.{valuesOf};
-ghost use Rattle.lines_tables.specs.Building.{tablesOf};
+ghost use Rattle.lines_tables.specs.Tables.{tableWords};
 ghost use Rattle.lines_check.specs.Question10.{areTables};
 ghost use Rattle.lines_lookup.specs.Lookup.{lineAt};
-ghost use Rattle.lines_turned.specs.ByTrip.{tablesByTrip};
+ghost use Rattle.lines_turned.specs.ByTrip.{wordsByTrip};
 ghost use Rattle.lines_turned.specs.Turned.{stepped, turnedTrips, timesFrom, lineEnd, turnedLine, starts};
 ghost use Rattle.lines_turned.specs.Held.{Held};
 ghost use Rattle.lines_turned.specs.Turning.{areByTrip, slicesNumber, ownReply, ownWords};
@@ -100,7 +100,7 @@ fn write_turned(words: &[u16], lines: &[u16], other: &mut [u16])
         × (16384 ≤ length (now lines))
         × (16384 ≤ length (now other)) ⌝ }
     ensures { λ _. ⌜ now (other .exit)
-        ≡ put 0 (tablesByTrip (timetableOf (now (words .entry)))) (now (other .entry)) ⌝ }
+        ≡ put 0 (wordsByTrip (timetableOf (now (words .entry)))) (now (other .entry)) ⌝ }
     ensures { λ _. ⌜ length (now (other .exit)) ≡ length (now (other .entry)) ⌝ }
 {
     let count = lines_lookup::peek(lines, 1);
@@ -131,7 +131,7 @@ fn turn(words: &[u16], lines: &[u16], work: &mut [u32], other: &mut [u16]) -> Re
     ensures { λ _. ⌜ now (other .exit)
         ≡ ownWords
         (areTables (now (words .entry)) (now (lines .entry)))
-        (tablesByTrip (timetableOf (now (words .entry))))
+        (wordsByTrip (timetableOf (now (words .entry))))
         (now (other .entry)) ⌝ }
 {
     if !lines_check::are_tables(words, lines, work) {
@@ -287,7 +287,7 @@ fn turn_back(words: &[u16], other: &[u16], work: &mut [u32], lines: &mut [u16]) 
     ensures { λ _. ⌜ now (lines .exit)
         ≡ ownWords
         (areByTrip (now (words .entry)) (now (other .entry)))
-        (tablesOf (timetableOf (now (words .entry))))
+        (tableWords (timetableOf (now (words .entry))))
         (now (lines .entry)) ⌝ }
 {
     let count = lines_tables::write_tables(words, work);

@@ -104,7 +104,7 @@ tie-before e c k h t = by-departure (before-cases d f (rideCount e ∷ numbers e
     by-departure (inl i) = before-head d′ f′ r s (omega (arith, here, there))
     by-departure (inr i) = by-rides (i .0) (before-cases (rideCount e) (rideCount c) (numbers e) (numbers c) (i .1))
 
-module _ (n : Net) (known : Named n) (b v : ℕ) where
+module _ (n : Net) (b v : ℕ) where
   -- from station x at minute u by the stations q to b, there by minute v, for p points at the most
   pub record Fits (q : List ℕ) (x u p : ℕ) (c : Connection) : Type 0 where
     pub feasible : Feasible n x u b c
@@ -124,13 +124,14 @@ module _ (n : Net) (known : Named n) (b v : ℕ) where
   abbrev pub LeadsTie : (q : List ℕ) (x u p : ℕ) → Ride → Type 0
   LeadsTie q x u p r = (e : Connection) → Fits q x u p e → ¬ T (before (leaving (firstRide e)) (leaving r))
 
+module _ (n : Net) (known : Named n) (b v : ℕ) where
   -- a sequence that is known to go on has a connection that goes on
   goes-on : {G : Type 0} (y : ℕ) (q : List ℕ) (s : Ride) (c : Connection)
       → stations (direct s) ≡ y ∷ q → stations c ≡ q → G
   goes-on y q s c e f = absurd (has-stations c (f ∙ ap tail (sym e)))
 
   -- the last ride
-  pub first-direct : (y x u p : ℕ) (r : Ride) → Leads (y ∷ []) x u p r → First (y ∷ []) x u p (direct r)
+  pub first-direct : (y x u p : ℕ) (r : Ride) → Leads n b v (y ∷ []) x u p r → First n b v (y ∷ []) x u p (direct r)
   first-direct y x u p r l (direct s) f t = l (direct s) f t
   first-direct y x u p r l (onward s z e) f t = has-stations e (ap tail (f .is))
 
@@ -140,15 +141,16 @@ module _ (n : Net) (known : Named n) (b v : ℕ) where
     abbrev left : ℕ
     left = p - (r .points + w .points)
 
-    module _ (fits : Fits (y ∷ q) x u p (onward r w c)) (rest : First q (w .to) (ready r w) left c) where
-      pub begins-before : (e : Connection) → Fits (y ∷ q) x u p e → T (before (numbers e) (numbers (onward r w c)))
+    module _ (fits : Fits n b v (y ∷ q) x u p (onward r w c)) (rest : First n b v q (w .to) (ready r w) left c) where
+      pub begins-before : (e : Connection) → Fits n b v (y ∷ q) x u p e
+          → T (before (numbers e) (numbers (onward r w c)))
           → T (before (rideNumbers (firstRide e)) (rideNumbers r))
       begins-before (direct s) f t = goes-on y q s c (f .is) (ap tail (fits .is))
       begins-before (onward s z e) f t =
           go (three-cases (s .trip) (s .board) (s .alight) (r .trip) (r .board) (r .alight) (numbers e) (numbers c) t)
         where
           moved : s .trip ≡ r .trip → s .board ≡ r .board → s .alight ≡ r .alight
-              → Fits q (w .to) (ready r w) left e
+              → Fits n b v q (w .to) (ready r w) left e
           moved i j k =
               record {
                 feasible = subst (λ g. Feasible n (g .to) (ready r g) b e) changes on;
@@ -177,22 +179,22 @@ module _ (n : Net) (known : Named n) (b v : ℕ) where
           go (inl h) = h
           go (inr h) = absurd (rest e (moved (h .0) (h .1) (h .2)) (h .3))
 
-      pub first-onward : Leads (y ∷ q) x u p r → First (y ∷ q) x u p (onward r w c)
+      pub first-onward : Leads n b v (y ∷ q) x u p r → First n b v (y ∷ q) x u p (onward r w c)
       first-onward l e f t = l e f (begins-before e f t)
 
       -- for the whole connection the later departure goes first
-      pub tie-onward : LeadsTie (y ∷ q) x u p r
-          → (e : Connection) → Fits (y ∷ q) x u p e → ¬ T (before (tieKey e) (tieKey (onward r w c)))
+      pub tie-onward : LeadsTie n b v (y ∷ q) x u p r
+          → (e : Connection) → Fits n b v (y ∷ q) x u p e → ¬ T (before (tieKey e) (tieKey (onward r w c)))
       tie-onward l e f t =
           let rides = same-count e (onward r w c) (f .is ∙ sym (fits .is)) in
           l e f (tie-before e (onward r w c) rides (begins-before e f) t)
 
-  pub tie-direct : (y x u p : ℕ) (r : Ride) → Fits (y ∷ []) x u p (direct r) → LeadsTie (y ∷ []) x u p r
-      → (e : Connection) → Fits (y ∷ []) x u p e → ¬ T (before (tieKey e) (tieKey (direct r)))
+  pub tie-direct : (y x u p : ℕ) (r : Ride) → Fits n b v (y ∷ []) x u p (direct r) → LeadsTie n b v (y ∷ []) x u p r
+      → (e : Connection) → Fits n b v (y ∷ []) x u p e → ¬ T (before (tieKey e) (tieKey (direct r)))
   tie-direct y x u p r fits l e f t =
       l e f (tie-before e (direct r) (same-count e (direct r) (f .is ∙ sym (fits .is))) (single e f) t)
     where
-      single : (e : Connection) → Fits (y ∷ []) x u p e → T (before (numbers e) (numbers (direct r)))
+      single : (e : Connection) → Fits n b v (y ∷ []) x u p e → T (before (numbers e) (numbers (direct r)))
           → T (before (rideNumbers (firstRide e)) (rideNumbers r))
       single (direct s) f t = t
       single (onward s z e) f t = absurd (has-stations e (ap tail (f .is)))

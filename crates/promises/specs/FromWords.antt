@@ -59,7 +59,7 @@ sum-zero : (n k : ℕ) → cond (eqb n 0) k n ≡ 0 → n ≡ 0
 sum-zero zero k e = refl
 sum-zero (suc n) k e = absurd (omega (arith, sym (ap (λ b. cond b k (suc n)) (eqb·suc-zero n)) ∙ e))
 
-asked-zero : (l m : List Question) → Asked l → firstNo (l ++ m) ≡ 0 → firstNo l ≡ 0
+pub asked-zero : (l m : List Question) → Asked l → firstNo (l ++ m) ≡ 0 → firstNo l ≡ 0
 asked-zero l m a e = sum-zero (firstNo l) (firstNo m) (sym (a .number m) ∙ e)
 
 -- ---- the slices of a timetable and of line tables that were built from it are long enough
@@ -94,7 +94,7 @@ module _ (timetable lines : List ℕ) (long-timetable : slicesLeast ≤ length t
       → duration minute c ≤ lastMinute
   feasible-timely from minute to c f = omega (arith, ends-in-time (net plan) plan-sound from minute to c f)
 
-  tables-yes : (work : ℕ) → slicesLeast ≤ work → firstNo (tablesQuestions timetable lines work) ≡ 0
+  pub tables-yes : (work : ℕ) → slicesLeast ≤ work → firstNo (tablesQuestions timetable lines work) ≡ 0
   tables-yes work enough =
       rw (
         le-leb slicesLeast (length timetable) long-timetable,

@@ -1,8 +1,11 @@
 pub mod Packed
+pub mod Changes
 pub mod Query
 pub mod DirectQuery
 pub mod StoreCall
 pub mod Promises
 pub mod Shown
 pub mod FromWords
+pub mod FromAfresh
 pub mod Proved
+pub mod ChangesProved

@@ -1,27 +1,31 @@
 -- The customer's demands 2 and 3, said of the calls themselves. A text is read and its line tables are built, each with
 -- number 0, into slices of any length that held any words; then this is what the direct query, the store call and the
--- query reply, and every word of the slice that they write to. Statements only; `promises` in Proved.antt proves them.
+-- query reply, and every word of the slice that they write to; and the same after trips were cancelled and added.
+-- Statements only; `promises` in Proved.antt and `change-promises` in ChangesProved.antt prove them.
 use mathlib.Core.Path.{_≡_}
 use mathlib.Core.Bool.{true, false, cond}
 use mathlib.Core.Logic.{_↔_}
 use mathlib.Core.List.{List, [], _∷_, _++_}
 use Prim.Native.Nat.{ℕ, _+_, _*_, _≤_, _<_}
 use lib.Dec.{leb}
-use lib.ListN.{length, drop}
+use lib.ListN.{length, drop, getD}
 use Rattle.lists.specs.Lists.{_∈_, concatMap}
-use Rattle.timetable.specs.Timetable.{Timetable}
-use Rattle.timetable.specs.Words.{words, isTimetable}
-use Rattle.reading.specs.Reading.{Accepted, reading, readReply, readWords}
+use Rattle.timetable.specs.Timetable.{Trip, Timetable}
+use Rattle.timetable.specs.Words.{words, timetableOf, isTimetable}
+use Rattle.timetable.specs.Changes.{runsAs, cancelled, added}
+use Rattle.reading.specs.Reading.{Accepted, reading, readExtra, readReply, readWords}
 use Rattle.results.specs.Results.{row, costs, Answers}
 use Rattle.connections.specs.Connections.{net, Connection, Feasible, duration, penalty, stations}
 use Rattle.connections.specs.Planner.{plannerList, measure, rideCount, numbers, rowsOf}
 use Rattle.stores.specs.Stored.{stored, Sequence}
 use Rattle.stores.specs.Words.{nodes, arcs, entriesMost, storeWords, readable, wellMade, keptList}
 use Rattle.lines.specs.DirectRides.{directs, firstRides}
-use Rattle.lines_tables.specs.Building.{slicesLeast, lineCount, buildReply, buildWords, tablesOf}
+use Rattle.lines_tables.specs.Building.{slicesLeast, lineCount, buildReply, buildWords}
+use Rattle.lines_tables.specs.Tables.{tableWords}
 use Rattle.lines_check.specs.Question10.{areTables}
 use Rattle.demands.specs.Demands.{Query}
 use Rattle.promises.specs.Packed.{packedReply, packedCount}
+use Rattle.promises.specs.Changes.{cancelReply, cancelTimetable, cancelLines, addReply, addTimetable, addLines}
 use Rattle.promises.specs.DirectQuery.{directReply, directWords}
 use Rattle.promises.specs.StoreCall.{storeReply, storeAfter}
 use Rattle.promises.specs.Query.{askReply, askWords}
@@ -38,6 +42,20 @@ pub record ReadCall (text before after : List ℕ) (reply : ℕ) : Type 0 where
 pub record BuildCall (timetable : List ℕ) (work : ℕ) (before after : List ℕ) (reply : ℕ) : Type 0 where
   pub replies : reply ≡ packedCount (buildReply timetable (length before) work)
   pub writes : after ≡ buildWords timetable before work
+
+-- dairyepoch_cancel_trip
+pub record CancelCall (timetable lines : List ℕ) (work trip : ℕ) (timetable-after lines-after : List ℕ) (reply : ℕ)
+    : Type 0 where
+  pub replies : reply ≡ packedCount (cancelReply timetable lines work trip)
+  pub writes-timetable : timetable-after ≡ cancelTimetable timetable lines work trip
+  pub writes-lines : lines-after ≡ cancelLines timetable lines work trip
+
+-- dairyepoch_add_trip
+pub record AddCall (timetable lines : List ℕ) (work trip : ℕ) (text timetable-after lines-after : List ℕ) (reply : ℕ)
+    : Type 0 where
+  pub replies : reply ≡ packedReply (addReply timetable lines work trip text)
+  pub writes-timetable : timetable-after ≡ addTimetable timetable lines work trip text
+  pub writes-lines : lines-after ≡ addLines timetable lines work trip text
 
 -- dairyepoch_direct
 pub record DirectCall (timetable lines : List ℕ) (work from to minute : ℕ) (before after : List ℕ) (reply : ℕ) : Type 0
@@ -85,6 +103,32 @@ pub record Loaded (text : List ℕ) (plan : Timetable) (timetable lines : List �
   pub build-reply : ℕ
   pub built : BuildCall timetable work lines-before lines build-reply
   pub build-succeeds : Succeeds build-reply
+
+-- Document 02, Eleven: "Control rooms cancel and add trips during the day." The words of both slices after any changes
+-- to what was loaded, each with number 0; `plan` has the trips that now run.
+pub data Running : (plan : Timetable) (timetable lines : List ℕ) → Type 0 where
+  none-yet : (text : List ℕ) (plan : Timetable) (timetable lines : List ℕ) → Loaded text plan timetable lines
+      → Running plan timetable lines
+  one-cancelled : (plan : Timetable) (timetable lines : List ℕ) (work trip : ℕ)
+      (timetable-after lines-after : List ℕ) (reply : ℕ) → Running plan timetable lines
+      → CancelCall timetable lines work trip timetable-after lines-after reply → Succeeds reply
+      → Running (cancelled plan trip) timetable-after lines-after
+  one-added : (plan : Timetable) (timetable lines : List ℕ) (work trip : ℕ) (text : List ℕ)
+      (timetable-after lines-after : List ℕ) (reply : ℕ) → Running plan timetable lines
+      → AddCall timetable lines work trip text timetable-after lines-after reply → Succeeds reply
+      → (one : Timetable) (text-lines : ℕ) → readExtra plan trip text ≡ Accepted one text-lines
+      → Running (added plan trip (getD (one .trips) 0 [])) timetable-after lines-after
+
+-- "The timetable words and line tables after each change must equal those built afresh from the trips that now run,
+-- taken in rising number": they begin with the words of the plan and of its line tables; 8, 9 and 10 have their yes.
+pub record Afresh (plan : Timetable) (timetable lines : List ℕ) : Type 0 where
+  pub words-are : timetable ≡ words plan ++ drop (length (words plan)) timetable
+  pub tables-are : lines ≡ tableWords plan ++ drop (length (tableWords plan)) lines
+  pub spells : timetableOf timetable ≡ plan
+  pub timetable-long : slicesLeast ≤ length timetable
+  pub lines-long : slicesLeast ≤ length lines
+  pub yes-9 : isTimetable timetable ≡ true
+  pub yes-10 : areTables timetable lines ≡ true
 
 -- "A store is made if it is lent with the words that a store call wrote, with number 0, for source A and the same
 -- timetable."
@@ -172,7 +216,7 @@ pub record Promises : Type 0 where
   pub builds : (text : List ℕ) (plan : Timetable) (timetable lines : List ℕ)
       → (loaded : Loaded text plan timetable lines)
       → (loaded .build-reply ≡ lineCount plan)
-      × (lines ≡ tablesOf plan ++ drop (length (tablesOf plan)) (loaded .lines-before))
+      × (lines ≡ tableWords plan ++ drop (length (tableWords plan)) (loaded .lines-before))
       × (areTables timetable lines ≡ true)
   -- Demand 2: "The direct rides shown carry exactly the costs that are optimal, by Definition 2 of the 2010 transfer
   -- pattern paper, among direct rides, one ride for each", and the list is that of the feasible single rides.
@@ -187,7 +231,7 @@ pub record Promises : Type 0 where
   -- the minute; Definition 2 picks the costs among these": they are the costs among all direct rides
   pub direct-lines : (text : List ℕ) (plan : Timetable) (text-lines : ℕ) → reading text ≡ Accepted plan text-lines
       → (from minute to : ℕ)
-      → costs (measure minute) (firstRides (plan .trips) from minute to)
+      → costs (measure minute) (firstRides plan from minute to)
       ≡ costs (measure minute) (directs (net plan) from minute to)
   -- Demand 2: "a store, where one is made, holds a sequence exactly if it is the pattern, by Definition 3, of an
   -- optimal connection at some minute of the timetable", and 13 has its yes for it.
@@ -245,3 +289,73 @@ pub record Promises : Type 0 where
   pub query-work : (timetable lines store : List ℕ) (work from to minute : ℕ) → work < slicesLeast
       → (before after : List ℕ) (reply : ℕ) → QueryCall timetable lines store work from to minute before after reply
       → Refuses 8 before after reply
+
+-- ---- The promises after changes. Document 02, Eleven.
+pub record ChangePromises : Type 0 where
+  -- "The timetable words and line tables after each change must equal those built afresh from the trips that now run"
+  pub changed-words : (plan : Timetable) (timetable lines : List ℕ) → Running plan timetable lines
+      → Afresh plan timetable lines
+  -- An extra trip that is added with number 0 has accepted lines, so that `one-added` holds of every such call.
+  pub adds : (plan : Timetable) (timetable lines : List ℕ) → Running plan timetable lines
+      → (work trip : ℕ) (text timetable-after lines-after : List ℕ) (reply : ℕ)
+      → AddCall timetable lines work trip text timetable-after lines-after reply → Succeeds reply
+      → (one : Timetable) × (text-lines : ℕ) × (readExtra plan trip text ≡ Accepted one text-lines)
+  -- "Turned away: 18, cancelling a trip that isn't running, and 19, adding one that is, both after 10."
+  pub cancel-turned-away : (plan : Timetable) (timetable lines : List ℕ) → Running plan timetable lines
+      → (work trip : ℕ) → slicesLeast ≤ work → runsAs trip (plan .numbers) ≡ false
+      → (timetable-after lines-after : List ℕ) (reply : ℕ)
+      → CancelCall timetable lines work trip timetable-after lines-after reply
+      → Refuses 18 timetable timetable-after reply × Refuses 18 lines lines-after reply
+  pub add-turned-away : (plan : Timetable) (timetable lines : List ℕ) → Running plan timetable lines
+      → (work trip : ℕ) → slicesLeast ≤ work → runsAs trip (plan .numbers) ≡ true
+      → (text timetable-after lines-after : List ℕ) (reply : ℕ)
+      → AddCall timetable lines work trip text timetable-after lines-after reply
+      → Refuses 19 timetable timetable-after reply × Refuses 19 lines lines-after reply
+  -- "Cancelling and adding return the tables' number of lines."
+  pub cancel-counts : (plan : Timetable) (timetable lines : List ℕ) → Running plan timetable lines
+      → (work trip : ℕ) (timetable-after lines-after : List ℕ) (reply : ℕ)
+      → CancelCall timetable lines work trip timetable-after lines-after reply → Succeeds reply
+      → reply ≡ lineCount (cancelled plan trip)
+  pub add-counts : (plan : Timetable) (timetable lines : List ℕ) → Running plan timetable lines
+      → (work trip : ℕ) (text timetable-after lines-after : List ℕ) (reply : ℕ)
+      → AddCall timetable lines work trip text timetable-after lines-after reply → Succeeds reply
+      → (one : Timetable) (text-lines : ℕ) → readExtra plan trip text ≡ Accepted one text-lines
+      → reply ≡ lineCount (added plan trip (getD (one .trips) 0 []))
+  -- demand 2 for the trips that now run: direct rides, and what a store holds that is rebuilt
+  pub direct-shows-changed : (plan : Timetable) (timetable lines : List ℕ) → Running plan timetable lines
+      → (work from to minute : ℕ) → slicesLeast ≤ work → Query (net plan) from minute to
+      → (before after : List ℕ) (reply : ℕ) → DirectCall timetable lines work from to minute before after reply
+      → Shows minute (directs (net plan) from minute to) before after reply
+  pub rebuilt-stores : (plan : Timetable) (timetable lines : List ℕ) → Running plan timetable lines
+      → (work source : ℕ) → slicesLeast ≤ work → 1 ≤ source → source ≤ length (plan .stations)
+      → (before after : List ℕ) (reply : ℕ) → StoreCall timetable lines work source before after reply
+      → Stores plan source before after reply
+  pub rebuilt-holds : (plan : Timetable) (timetable lines : List ℕ) → Running plan timetable lines
+      → (source : ℕ) (store : List ℕ) → Made timetable lines source store
+      → (sequence : List ℕ) → sequence ∈ readable store ↔ Sequence (net plan) source sequence
+  -- "once rebuilt, it matches the whole list again"
+  pub rebuilt-shows : (plan : Timetable) (timetable lines : List ℕ) → Running plan timetable lines
+      → (work from to minute : ℕ) → slicesLeast ≤ work → Query (net plan) from minute to
+      → (store : List ℕ) → Made timetable lines from store
+      → (before after : List ℕ) (reply : ℕ) → QueryCall timetable lines store work from to minute before after reply
+      → Shows minute (plannerList (net plan) from minute to) before after reply
+  pub changed-list : (plan : Timetable) (timetable lines : List ℕ) → Running plan timetable lines
+      → (from minute to : ℕ) (c : Connection)
+      → c ∈ plannerList (net plan) from minute to ↔ Feasible (net plan) from minute to c
+  -- "Until its store is rebuilt, a display answers for the running connections with stored patterns": from a store made
+  -- before any of the changes, or any other that is well made
+  pub kept-shows-changed : (plan : Timetable) (timetable lines : List ℕ) → Running plan timetable lines
+      → (work from to minute : ℕ) → slicesLeast ≤ work → Query (net plan) from minute to
+      → (store : List ℕ) → wellMade (length (plan .stations)) store ≡ true
+      → (before after : List ℕ) (reply : ℕ) → QueryCall timetable lines store work from to minute before after reply
+      → Shows minute (keptList (net plan) store from minute to) before after reply
+  -- a store made at any time is well made, and stays so: no change adds or takes away a station
+  pub made-well-made : (plan : Timetable) (timetable lines : List ℕ) → Running plan timetable lines
+      → (source : ℕ) (store : List ℕ) → Made timetable lines source store
+      → wellMade (length (plan .stations)) store ≡ true
+  pub cancelled-stations : (plan : Timetable) (trip : ℕ) → (cancelled plan trip) .stations ≡ plan .stations
+  pub added-stations : (plan : Timetable) (trip : ℕ) (one : Trip) → (added plan trip one) .stations ≡ plan .stations
+  pub kept-list-changed : (plan : Timetable) (timetable lines : List ℕ) → Running plan timetable lines
+      → (store : List ℕ) (from minute to : ℕ) (c : Connection)
+      → c ∈ keptList (net plan) store from minute to
+      ↔ (Feasible (net plan) from minute to c × (stations c ∈ readable store))

@@ -1,39 +1,35 @@
 -- The theorem of Promises. A text that was read and line tables that were built, with number 0, have a yes to 9 and 10,
 -- and the words spell the text's timetable; so all that FromWords says holds of it.
-use mathlib.Core.Path.{_≡_, sym, ap, subst, _∙_}
+use mathlib.Core.Path.{_≡_, refl, sym, ap, subst, _∙_}
 use mathlib.Core.Bool.{true, false, _&&_}
-use mathlib.Core.Logic.{_↔_}
 use mathlib.Core.List.{List, _++_}
-use Prim.Native.Nat.{ℕ, _+_, _≤_, _<_}
+use Prim.Native.Nat.{ℕ, _+_, _<_}
 use native.Mathlib.Nat.{add-zero, zero-add}
 use borrow.Author.Tests.{le-leb, lt-leb}
 use lib.Dec.{T, leb}
 use lib.ListN.{length, drop}
+use lib.Seq.{drop-at}
 use Rattle.words.specs.Put.{put-front}
-use Rattle.lists.specs.Lists.{_∈_}
 use Rattle.lists.specs.Tests.{and-false}
-use Rattle.replies.specs.Replies.{numberOf, replyOf, reply-number, wordsAfter}
+use Rattle.replies.specs.Replies.{numberOf, replyOf, wordsAfter}
 use Rattle.timetable.specs.Timetable.{Timetable, valid}
 use Rattle.timetable.specs.Words.{words, timetableOf, isTimetable}
 use Rattle.reading.specs.Reading.{Accepted, reading, readReply, readWords}
 use Rattle.reading.specs.Reading.{numberOf as readNumber}
 use Rattle.accepted.specs.Sound.{accepted-valid}
 use Rattle.accepted.specs.Question9.{number-zero, read-spells, read-has-yes}
-use Rattle.connections.specs.Connections.{net}
-use Rattle.connections.specs.Planner.{plannerList, row-says}
-use Rattle.stores.specs.Stored.{Sequence}
-use Rattle.stores.specs.Words.{readable, wellMade, keptList}
-use Rattle.lines.specs.DirectRides.{directs}
-use Rattle.lines_tables.specs.Building.{slicesLeast, lineCount, buildReply, tablesOf}
+use Rattle.connections.specs.Planner.{row-says}
+use Rattle.lines_tables.specs.Building.{slicesLeast, lineCount, buildReply}
+use Rattle.lines_tables.specs.Tables.{tableWords}
 use Rattle.lines_check.specs.Question10.{areTables}
 use Rattle.lines_check.specs.Yes.{Long, long}
 use Rattle.lines_check.specs.Built.{built-number, built-words, built-yes-9, built-has-yes}
-use Rattle.demands.specs.Demands.{Query, DemandTwo, DemandThree}
+use Rattle.demands.specs.Demands.{DemandTwo, DemandThree}
 use Rattle.demands.specs.Proofs.{demand-two, demand-three}
 use Rattle.promises.specs.Packed.{packedReply, packedCount, succeeds-reply, succeeds-count}
 use Rattle.promises.specs.Query.{askNumber, askReply, askWords}
 use Rattle.promises.specs.DirectQuery.{directNumber, directReply, directWords}
-use Rattle.promises.specs.StoreCall.{storeOf, storeNumber, storeReply, storeAfter}
+use Rattle.promises.specs.StoreCall.{storeNumber, storeReply, storeAfter}
 use Rattle.promises.specs.Promises.{
   ReadCall,
   DirectCall,
@@ -42,21 +38,24 @@ use Rattle.promises.specs.Promises.{
   Succeeds,
   Refuses,
   Loaded,
-  Made,
-  Shows,
-  Stores,
+  Afresh,
   Promises,
 }
-use Rattle.promises.specs.FromWords.{
-  built-slices,
-  direct-shown,
-  kept-shown,
-  ill-made-refused,
-  store-stored,
-  made-holds,
-  made-well-made,
-  made-shown,
+use Rattle.promises.specs.FromWords.{built-slices}
+use Rattle.promises.specs.FromAfresh.{
+  direct-shows,
+  query-shows,
+  kept-shows,
+  ill-made,
+  store-stores,
+  store-holds,
+  store-well-made,
 }
+
+-- ---- what words begin with stands before the others
+pub begins-again : (first whole rest : List ℕ) → whole ≡ first ++ rest → whole ≡ first ++ drop (length first) whole
+begins-again first whole rest e =
+    e ∙ ap (λ r. first ++ r) (sym (drop-at first rest (length first) refl) ∙ ap (drop (length first)) (sym e))
 
 -- ---- reading, with number 0
 module _ (text before after : List ℕ) (reply : ℕ) (call : ReadCall text before after reply) (done : Succeeds reply)
@@ -108,12 +107,12 @@ module _ (text : List ℕ) (plan : Timetable) (timetable lines : List ℕ) (l : 
       ∙ rw (built-number timetable (length (l .lines-before)) (l .work) built-zero)
       (zero-add (lineCount (timetableOf timetable)) ∙ ap lineCount loaded-plan)
 
-  lines-built : lines ≡ tablesOf plan ++ drop (length (tablesOf plan)) (l .lines-before)
+  lines-built : lines ≡ tableWords plan ++ drop (length (tableWords plan)) (l .lines-before)
   lines-built =
       l .built .writes
       ∙ built-words timetable (l .lines-before) (l .work) built-zero
-      ∙ put-front (tablesOf (timetableOf timetable)) (l .lines-before)
-      ∙ ap (λ p. tablesOf p ++ drop (length (tablesOf p)) (l .lines-before)) loaded-plan
+      ∙ put-front (tableWords (timetableOf timetable)) (l .lines-before)
+      ∙ ap (λ p. tableWords p ++ drop (length (tableWords p)) (l .lines-before)) loaded-plan
 
   loaded-9 : isTimetable timetable ≡ true
   loaded-9 = built-yes-9 timetable (l .lines-before) (l .work) built-zero
@@ -127,75 +126,21 @@ module _ (text : List ℕ) (plan : Timetable) (timetable lines : List ℕ) (l : 
       subst (λ v. Long timetable v (l .work)) (sym (l .built .writes))
       (built-slices timetable (l .lines-before) (l .work) built-zero)
 
-  -- a store call with number 0 had no refusal
-  made-number : (source : ℕ) (store : List ℕ) (made : Made timetable lines source store)
-      → storeNumber timetable lines (made .work) source (length (made .store-before)) ≡ 0
-  unfolding storeReply
-  made-number source store made =
-      let room = length (made .store-before) in
-      sym
-      (reply-number (storeNumber timetable lines (made .work) source room) (length (storeOf timetable source)))
-      ∙ succeeds-count (storeReply timetable lines (made .work) source room)
-      (subst Succeeds (made .made .replies) (made .succeeds))
-
-  -- a query to the plan is one to what the words spell
-  module _ (from to minute : ℕ) (q : Query (net plan) from minute to) where
-    asked : Query (net (timetableOf timetable)) from minute to
-    asked = subst (λ p. Query (net p) from minute to) (sym loaded-plan) q
-
-    module _ (work : ℕ) (enough : slicesLeast ≤ work) (before after : List ℕ) (reply : ℕ) where
-      direct-shows : DirectCall timetable lines work from to minute before after reply
-          → Shows minute (directs (net plan) from minute to) before after reply
-      direct-shows call =
-          subst (λ p. Shows minute (directs (net p) from minute to) before after reply) loaded-plan
-          (direct-shown timetable lines (loaded-long .words) (loaded-long .tables) loaded-9 loaded-10
-          work from to minute enough asked before after reply call)
-
-      module _ (store : List ℕ) (call : QueryCall timetable lines store work from to minute before after reply) where
-        query-shows : Made timetable lines from store
-            → Shows minute (plannerList (net plan) from minute to) before after reply
-        query-shows made =
-            subst (λ p. Shows minute (plannerList (net p) from minute to) before after reply) loaded-plan
-            (made-shown timetable lines (loaded-long .words) (loaded-long .tables) loaded-9 loaded-10
-            from (made .work) (made .store-before) store (made .made .writes) (made-number from store made)
-            work to minute enough asked before after reply call)
-
-        kept-shows : wellMade (length (plan .stations)) store ≡ true
-            → Shows minute (keptList (net plan) store from minute to) before after reply
-        kept-shows well =
-            subst (λ p. Shows minute (keptList (net p) store from minute to) before after reply) loaded-plan
-            (kept-shown timetable lines (loaded-long .words) (loaded-long .tables) loaded-9 loaded-10
-            work from to minute enough asked store before after reply
-            (ap (λ p. wellMade (length (p .stations)) store) loaded-plan ∙ well) call)
-
-        ill-made : wellMade (length (plan .stations)) store ≡ false → Refuses 13 before after reply
-        ill-made ill =
-            ill-made-refused timetable lines (loaded-long .words) (loaded-long .tables) loaded-9 loaded-10
-            work from to minute enough asked store before after reply
-            (ap (λ p. wellMade (length (p .stations)) store) loaded-plan ∙ ill) call
-
-  store-stores : (work source : ℕ) → slicesLeast ≤ work → 1 ≤ source → source ≤ length (plan .stations)
-      → (before after : List ℕ) (reply : ℕ) → StoreCall timetable lines work source before after reply
-      → Stores plan source before after reply
-  store-stores work source enough first last before after reply call =
-      subst (λ p. Stores p source before after reply) loaded-plan
-      (store-stored timetable lines (loaded-long .words) (loaded-long .tables) loaded-9 loaded-10
-      source work enough first (subst (λ p. source ≤ length (p .stations)) (sym loaded-plan) last)
-      before after reply call)
-
-  store-holds : (source : ℕ) (store : List ℕ) → Made timetable lines source store
-      → (sequence : List ℕ) → sequence ∈ readable store ↔ Sequence (net plan) source sequence
-  store-holds source store made sequence =
-      subst (λ p. sequence ∈ readable store ↔ Sequence (net p) source sequence) loaded-plan
-      (made-holds timetable lines (loaded-long .words) (loaded-long .tables) loaded-9 loaded-10
-      source (made .work) (made .store-before) store (made .made .writes) (made-number source store made) sequence)
-
-  store-well-made : (source : ℕ) (store : List ℕ) → Made timetable lines source store
-      → wellMade (length (plan .stations)) store ≡ true
-  store-well-made source store made =
-      subst (λ p. wellMade (length (p .stations)) store ≡ true) loaded-plan
-      (made-well-made timetable lines (loaded-long .words) (loaded-long .tables) loaded-9 loaded-10
-      source (made .work) (made .store-before) store (made .made .writes) (made-number source store made))
+  -- what reading and building wrote are the words and line tables of the plan
+  pub loaded-afresh : Afresh plan timetable lines
+  loaded-afresh =
+      record {
+        words-are =
+            begins-again (words plan) timetable _
+            (read-writes text (l .timetable-before) timetable (l .read-reply) (l .read) (l .read-succeeds)
+            plan (l .text-lines) (l .accepted));
+        tables-are = begins-again (tableWords plan) lines _ lines-built;
+        spells = loaded-plan;
+        timetable-long = loaded-long .words;
+        lines-long = loaded-long .tables;
+        yes-9 = loaded-9;
+        yes-10 = loaded-10;
+      }
 
 -- ---- too little working space: question 8 has its no
 module _ (timetable lines : List ℕ) (work : ℕ) (little : work < slicesLeast) where
@@ -264,24 +209,31 @@ promises =
           );
       direct-shows =
           λ text plan timetable lines l work from to minute enough q.
-          direct-shows text plan timetable lines l from to minute q work enough;
+          direct-shows plan timetable lines (loaded-afresh text plan timetable lines l) from to minute q work enough;
       direct-lines = λ text plan text-lines accepted. two text plan text-lines accepted .by-lines;
       direct-list = λ text plan text-lines accepted. two text plan text-lines accepted .directs-are;
-      store-stores = store-stores;
-      store-holds = store-holds;
-      store-well-made = store-well-made;
+      store-stores =
+          λ text plan timetable lines l. store-stores plan timetable lines (loaded-afresh text plan timetable lines l);
+      store-holds =
+          λ text plan timetable lines l. store-holds plan timetable lines (loaded-afresh text plan timetable lines l);
+      store-well-made =
+          λ text plan timetable lines l.
+          store-well-made plan timetable lines (loaded-afresh text plan timetable lines l);
       query-shows =
           λ text plan timetable lines l work from to minute enough q store made before after reply call.
-          query-shows text plan timetable lines l from to minute q work enough before after reply store call made;
+          query-shows plan timetable lines (loaded-afresh text plan timetable lines l) from to minute q work enough
+          before after reply store call made;
       planner-list = λ text plan text-lines accepted. three text plan text-lines accepted .listed;
       kept-shows =
           λ text plan timetable lines l work from to minute enough q store well before after reply call.
-          kept-shows text plan timetable lines l from to minute q work enough before after reply store call well;
+          kept-shows plan timetable lines (loaded-afresh text plan timetable lines l) from to minute q work enough
+          before after reply store call well;
       kept-list = λ text plan text-lines accepted. three text plan text-lines accepted .kept;
       row-says = row-says;
       ill-made =
           λ text plan timetable lines l work from to minute enough q store ill before after reply call.
-          ill-made text plan timetable lines l from to minute q work enough before after reply store call ill;
+          ill-made plan timetable lines (loaded-afresh text plan timetable lines l) from to minute q work enough
+          before after reply store call ill;
       direct-work =
           λ timetable lines work from to minute little before after reply.
           direct-work timetable lines work little before after reply from to minute;

@@ -10,10 +10,10 @@ use native.Mathlib.Decide.{decLe}
 use borrow.Author.Tests.{le-leb, lt-leb}
 use lib.Dec.{T, ltb, ltb→lt, lt→ltb}
 use lib.ListN.{length, getD}
-use Rattle.timetable.specs.Timetable.{Trip}
+use Rattle.timetable.specs.Timetable.{Trip, Timetable}
 use Rattle.lists.specs.Lists.{_∈_, range}
 use Rattle.lists.specs.Members.{none, cons-cases, concatMap-in, concatMap-out, range-in, range-out}
-use Rattle.connections.specs.Rides.{Ride, rideAt}
+use Rattle.connections.specs.Rides.{Ride, rideIn}
 use Rattle.lines.specs.Lines.{lines, course, stationOn}
 use Rattle.lines.specs.DirectRides.{inTime}
 use Rattle.lines.specs.DirectLaws.{Pair}
@@ -65,17 +65,17 @@ abbrev pub lineOf : List Trip → (i : ℕ) → List ℕ
 lineOf t i = getD (lines t) i []
 
 -- the ride on its trip at place j
-abbrev pub rideBy : List Trip → (i x y j : ℕ) → Ride
-rideBy t i x y j = rideAt (getD t (getD (lineOf t i) j 0) []) (getD (lineOf t i) j 0) x y
+abbrev pub rideBy : Timetable → (i x y j : ℕ) → Ride
+rideBy t i x y j = rideIn t (getD (lineOf (t .trips) i) j 0) x y
 
 -- there is such a ride from a to b
-pub record By (t : List Trip) (a b i x y j : ℕ) : Type 0 where
-  pub listed : i < length (lines t)
-  pub pair : Pair t a b (lineOf t i) x y
-  pub runs : j < length (lineOf t i)
+pub record By (t : Timetable) (a b i x y j : ℕ) : Type 0 where
+  pub listed : i < length (lines (t .trips))
+  pub pair : Pair t a b (lineOf (t .trips) i) x y
+  pub runs : j < length (lineOf (t .trips) i)
 
 -- and it is r
-pub record Read (t : List Trip) (a b : ℕ) (r : Ride) : Type 0 where
+pub record Read (t : Timetable) (a b : ℕ) (r : Ride) : Type 0 where
   pub i : ℕ
   pub x : ℕ
   pub y : ℕ
@@ -90,10 +90,17 @@ module _ (t : List Trip) (i : ℕ) (listed : i < length (lines t)) where
   pub line-good : GoodLine t (lineOf t i)
   line-good = lines-good t (lineOf t i) line-listed
 
-pub from-inside : (t : List Trip) (a b i x y j : ℕ) → By t a b i x y j → x < length (course t (lineOf t i))
+pub from-inside : (t : Timetable) (a b i x y j : ℕ) → By t a b i x y j
+    → x < length (course (t .trips) (lineOf (t .trips) i))
 from-inside t a b i x y j k = omega (arith, k .pair .later, k .pair .inside)
 
-module _ (v : List ℕ) (n : ℕ) (t : List Trip) (told : Told v n t) where
+module _ (v : List ℕ) (timetable : Timetable) (told : Told v timetable) where
+  abbrev n : ℕ
+  n = length (timetable .stations)
+
+  abbrev t : List Trip
+  t = timetable .trips
+
   -- the line as the code knows it
   abbrev line : ℕ → Line
   line i = lineAt v i
@@ -172,18 +179,18 @@ module _ (v : List ℕ) (n : ℕ) (t : List Trip) (told : Told v n t) where
     -- what is left of those of b after a call: all of them rise, and stand where lines call at b
     left : (c : Call) → Left t (c .line) (lineOf t (c .line)) b (c .place) (after c ds)
     left c =
-        let rise = calls-rise v n t told b to-some to-inside in
+        let rise = calls-rise v timetable told b to-some to-inside in
         record {
           rise = after-rising c ds rise;
           behind = λ d m. after-out c ds rise d m .1;
           met = λ d m e.
-              let k = calls-out v n t told b to-some to-inside d (after-out c ds rise d m .0) in
+              let k = calls-out v timetable told b to-some to-inside d (after-out c ds rise d m .0) in
               let long = ap (λ i. length (course t (lineOf t i))) e in
               (omega (arith, k .inside, long), ap (λ i. stationOn t (lineOf t i) (d .place)) (sym e) ∙ k .station);
         }
 
     legs-here : legs v cs ds ≡ map (λ c. legOf v c (after c ds)) cs
-    legs-here = legs-are v cs ds (calls-rise v n t told a some inside)
+    legs-here = legs-are v cs ds (calls-rise v timetable told a some inside)
 
     -- ---- from the words to the timetable: a call, a place to ride to, and a trip
     module _ (c : Call) (k : Met t a c) where
@@ -194,10 +201,10 @@ module _ (v : List ℕ) (n : ℕ) (t : List Trip) (told : Told v n t) where
       x = c .place
 
       read : (r : Reach) → r ∈ reachOf v (line i) c (after c ds) → (j : ℕ) → j < (line i) .trips
-          → Read t a b (rideOn v (line i) x j r)
+          → Read timetable a b (rideOn v (line i) x j r)
       read r m j h =
           let words = told .line i (k .listed) in
-          let q = reach-out v t i (lineOf t i) words b x (after c ds) (left c) r m in
+          let q = reach-out v timetable i (lineOf t i) words b x (after c ds) (left c) r m in
           let runs : j < length (lineOf t i) = omega (arith, words .trips) in
           record {
             i = i;
@@ -210,16 +217,19 @@ module _ (v : List ℕ) (n : ℕ) (t : List Trip) (told : Told v n t) where
                   pair = record { later = q .later; inside = q .inside; board = k .station; alight = q .station };
                   runs = runs;
                 };
-            is = sym (ride-same v t i (lineOf t i) words (line-good t i (k .listed)) x b j (k .inside) runs r q);
+            is =
+                sym
+                (ride-same v timetable i (lineOf t i) words (line-good t i (k .listed)) x b j (k .inside) runs r q);
           }
 
     -- a leg is that of a call
     leg-out : (g : Leg) → g ∈ legs v cs ds → (c : Call) × (Met t a c) × (legOf v c (after c ds) ≡ g)
     leg-out g m =
         let q = Memᴰ·of-map (λ c. legOf v c (after c ds)) cs (rw legs-here at m) in
-        (q .0, calls-out v n t told a some inside (q .0) (q .1), q .2)
+        (q .0, calls-out v timetable told a some inside (q .0) (q .1), q .2)
 
-    pub first-read-out : (r : Ride) → r ∈ firstRead v a u b → (k : Read t a b r) × (first (k .i) (k .x) u ≡ k .j)
+    pub first-read-out : (r : Ride) → r ∈ firstRead v a u b
+        → (k : Read timetable a b r) × (first (k .i) (k .x) u ≡ k .j)
     unfolding firstRead read
     first-read-out r m =
         let g = concatMap-out (firstLeg v u) (legs v cs ds) m in
@@ -232,7 +242,7 @@ module _ (v : List ℕ) (n : ℕ) (t : List Trip) (told : Told v n t) where
         let w = under-out (ltb f (l .trips)) (map (rideOn v l x f) (nearest rs)) on in
         let q = Memᴰ·of-map (rideOn v l x f) (nearest rs) (w .1) in
         subst
-        (λ r. (k : Read t a b r) × (first (k .i) (k .x) u ≡ k .j))
+        (λ r. (k : Read timetable a b r) × (first (k .i) (k .x) u ≡ k .j))
         (q .2)
         (read (c .0) (c .1) (q .0) (nearest-in rs (q .0) (q .1)) f (ltb→lt f (l .trips) (w .0)), refl)
 
@@ -247,7 +257,7 @@ module _ (v : List ℕ) (n : ℕ) (t : List Trip) (told : Told v n t) where
         let all = concatMap-in (tripsTo v u l x) (nearest-in (g .0 .reach) (q .0) (q .1)) (q .2) in
         concatMap-in (allLeg v u) (g .1) all
 
-    pub all-read-out : (r : Ride) → r ∈ allRead v a u b → (k : Read t a b r) × (first (k .i) (k .x) u ≤ k .j)
+    pub all-read-out : (r : Ride) → r ∈ allRead v a u b → (k : Read timetable a b r) × (first (k .i) (k .x) u ≤ k .j)
     unfolding allRead read
     all-read-out r m =
         let g = concatMap-out (allLeg v u) (legs v cs ds) m in
@@ -261,23 +271,23 @@ module _ (v : List ℕ) (n : ℕ) (t : List Trip) (told : Told v n t) where
         let w = Memᴰ·of-map (λ j. rideOn v l x j (q .0)) (range f (l .trips - f)) (q .2) in
         let h = range-out f (l .trips - f) (w .0) (w .1) in
         subst
-        (λ r. (k : Read t a b r) × (first (k .i) (k .x) u ≤ k .j))
+        (λ r. (k : Read timetable a b r) × (first (k .i) (k .x) u ≤ k .j))
         (w .2)
         (read (c .0) (c .1) (q .0) (q .1) (w .0) (omega arith), h .0)
 
     -- ---- and back
-    module _ (i x y j : ℕ) (k : By t a b i x y j) where
+    module _ (i x y j : ℕ) (k : By timetable a b i x y j) where
       abbrev l : Line
       l = line i
 
       abbrev f : ℕ
       f = first i x u
 
-      words : LineTold v t i (lineOf t i)
+      words : LineTold v timetable i (lineOf t i)
       words = told .line i (k .listed)
 
       x-inside : x < length (course t (lineOf t i))
-      x-inside = from-inside t a b i x y j k
+      x-inside = from-inside timetable a b i x y j k
 
       abbrev call : Call
       call = record { line = i; place = x }
@@ -286,7 +296,7 @@ module _ (v : List ℕ) (n : ℕ) (t : List Trip) (told : Told v n t) where
       leg-listed =
           let met : Met t a call = record { listed = k .listed; inside = x-inside; station = k .pair .board } in
           rw legs-here
-          (Memᴰ·map (λ c. legOf v c (after c ds)) (calls-in v n t told a some inside call met))
+          (Memᴰ·map (λ c. legOf v c (after c ds)) (calls-in v timetable told a some inside call met))
 
       -- the place to ride to
       abbrev there : Reach
@@ -300,19 +310,20 @@ module _ (v : List ℕ) (n : ℕ) (t : List Trip) (told : Told v n t) where
           let p = k .pair in
           let stop : Call = record { line = i; place = y } in
           let met : Met t b stop = record { listed = k .listed; inside = p .inside; station = p .alight } in
-          let listed = calls-in v n t told b to-some to-inside stop met in
+          let listed = calls-in v timetable told b to-some to-inside stop met in
           let later : Later call stop = record { line = omega arith; place = λ s. p .later } in
-          reach-in v t i (lineOf t i) words b x (after call ds) (left call) y (after-in call ds stop listed later)
+          reach-in v timetable i (lineOf t i) words b x (after call ds) (left call) y
+          (after-in call ds stop listed later)
 
-      ride-is : rideOn v l x j there ≡ rideBy t i x y j
+      ride-is : rideOn v l x j there ≡ rideBy timetable i x y j
       ride-is =
           let p = k .pair in
-          ride-same v t i (lineOf t i) words (line-good t i (k .listed)) x b j x-inside (k .runs) there
+          ride-same v timetable i (lineOf t i) words (line-good t i (k .listed)) x b j x-inside (k .runs) there
           (record {
             later = p .later;
             inside = p .inside;
             station = p .alight;
-            costs = ride-difference v t i (lineOf t i) words x y (omega (arith, p .later)) (p .inside);
+            costs = ride-difference v timetable i (lineOf t i) words x y (omega (arith, p .later)) (p .inside);
           })
 
       -- the nearest of those places, no later than this one
@@ -321,23 +332,25 @@ module _ (v : List ℕ) (n : ℕ) (t : List Trip) (told : Told v n t) where
         listed : reach ∈ nearest rs
         nearer : reach .place ≤ y
         later : x < reach .place
-        same : rideOn v l x j reach ≡ rideBy t i x (reach .place) j
+        same : rideOn v l x j reach ≡ rideBy timetable i x (reach .place) j
 
       near : Near
       near =
-          let e = reach-nearest v t i (lineOf t i) words b x (after call ds) (left call) there there-reached in
+          let e = reach-nearest v timetable i (lineOf t i) words b x (after call ds) (left call) there there-reached in
           let q =
-          reach-out v t i (lineOf t i) words b x (after call ds) (left call) (e .0) (nearest-in rs (e .0) (e .1)) in
+          reach-out v timetable i (lineOf t i) words b x (after call ds) (left call) (e .0)
+          (nearest-in rs (e .0) (e .1)) in
           record {
             reach = e .0;
             listed = e .1;
             nearer = e .2;
             later = q .later;
             same =
-                ride-same v t i (lineOf t i) words (line-good t i (k .listed)) x b j x-inside (k .runs) (e .0) q;
+                ride-same v timetable i (lineOf t i) words (line-good t i (k .listed)) x b j x-inside (k .runs) (e .0)
+                q;
           }
 
-      pub first-read-in : f ≡ j → (z : ℕ) × (x < z) × (z ≤ y) × (rideBy t i x z j ∈ firstRead v a u b)
+      pub first-read-in : f ≡ j → (z : ℕ) × (x < z) × (z ≤ y) × (rideBy timetable i x z j ∈ firstRead v a u b)
       unfolding firstRead
       first-read-in e =
           let q = near in
@@ -348,7 +361,7 @@ module _ (v : List ℕ) (n : ℕ) (t : List Trip) (told : Told v n t) where
           under-in (ltb f (l .trips)) (map (rideOn v l x f) (nearest rs)) (lt→ltb f (l .trips) runs) mapped in
           (q .reach .place, q .later, q .nearer, Memᴰ·cast (sym same) (concatMap-in (firstLeg v u) leg-listed one))
 
-      pub near-read-in : f ≤ j → (z : ℕ) × (x < z) × (z ≤ y) × (rideBy t i x z j ∈ nearRead v a u b)
+      pub near-read-in : f ≤ j → (z : ℕ) × (x < z) × (z ≤ y) × (rideBy timetable i x z j ∈ nearRead v a u b)
       unfolding nearRead
       near-read-in h =
           let q = near in
@@ -358,7 +371,7 @@ module _ (v : List ℕ) (n : ℕ) (t : List Trip) (told : Told v n t) where
           concatMap-in (tripsTo v u l x) (q .listed) (Memᴰ·map (λ j. rideOn v l x j (q .reach)) trip) in
           (q .reach .place, q .later, q .nearer, Memᴰ·cast (sym (q .same)) (concatMap-in (nearLeg v u) leg-listed one))
 
-      pub all-read-in : f ≤ j → rideBy t i x y j ∈ allRead v a u b
+      pub all-read-in : f ≤ j → rideBy timetable i x y j ∈ allRead v a u b
       unfolding allRead
       all-read-in h =
           let runs : j < f + (l .trips - f) = omega (arith, h, k .runs, words .trips) in
@@ -368,7 +381,7 @@ module _ (v : List ℕ) (n : ℕ) (t : List Trip) (told : Told v n t) where
 
       -- the trip leaves in time if it is the first that does, or behind it
       pub timely-by : f ≤ j → T (inTime t u x (getD (lineOf t i) j 0))
-      timely-by = timely-out v t i (lineOf t i) words x u x-inside (line-good t i (k .listed)) j (k .runs)
+      timely-by = timely-out v timetable i (lineOf t i) words x u x-inside (line-good t i (k .listed)) j (k .runs)
 
       pub by-timely : T (inTime t u x (getD (lineOf t i) j 0)) → f ≤ j
-      by-timely = timely-in v t i (lineOf t i) words x u x-inside j (k .runs)
+      by-timely = timely-in v timetable i (lineOf t i) words x u x-inside j (k .runs)

@@ -9,14 +9,15 @@ use Prim.Native.Nat.{ℕ, _≤_, _<_}
 use native.Mathlib.Omega.{arith}
 use lib.Dec.{T, leb}
 use lib.ListN.{length, getD}
-use Rattle.timetable.specs.Timetable.{Trip, Timetable, counted, valid}
+use Rattle.timetable.specs.Timetable.{Trip, Timetable, valid}
+use Rattle.timetable.specs.Numbers.{number-most}
 use Rattle.lists.specs.Lists.{_∈_, firstOf}
 use Rattle.lists.specs.Tests.{reads, writes}
 use Rattle.lists.specs.Members.{none}
 use Rattle.results.specs.Results.{costs, Picked}
 use Rattle.results.specs.Domination.{NoWorse, Better, dominates-in}
 use Rattle.results.specs.Kept.{costs-covered, result-kept, empty-kept}
-use Rattle.connections.specs.Rides.{Ride, rideAt}
+use Rattle.connections.specs.Rides.{Ride, rideIn}
 use Rattle.connections.specs.Connections.{net, Connection, direct, cost}
 use Rattle.connections.specs.Planner.{measure, rowsOf}
 use Rattle.connections.specs.RideLaws.{Taken, rides-in, rides-out}
@@ -60,7 +61,7 @@ use Rattle.query_direct.specs.ByLine.{
 module _
     (v : List ℕ)
     (timetable : Timetable)
-    (told : Told v (length (timetable .stations)) (timetable .trips))
+    (told : Told v timetable)
     (a u b : ℕ)
     (some : 1 ≤ a)
     (inside : a ≤ length (timetable .stations))
@@ -79,16 +80,16 @@ module _
     abbrev first : (i x : ℕ) → ℕ
     first i x = firstTrip v (lineAt v i) x u
 
-    module _ (i x y j : ℕ) (k : By t a b i x y j) where
-      by-first : first i x ≡ j → direct (rideBy t i x y j) ∈ firstRides t a u b
+    module _ (i x y j : ℕ) (k : By timetable a b i x y j) where
+      by-first : first i x ≡ j → direct (rideBy timetable i x y j) ∈ firstRides timetable a u b
       by-first e =
           let runs : first i x < length (lineOf t i) = omega (arith, e, k .runs) in
-          let x-inside = from-inside t a b i x y j k in
-          let trip = first-trip-in v t i (lineOf t i) (told .line i (k .listed)) x u x-inside runs in
+          let x-inside = from-inside timetable a b i x y j k in
+          let trip = first-trip-in v timetable i (lineOf t i) (told .line i (k .listed)) x u x-inside runs in
           let this = subst (λ j. getD (lineOf t i) j 0 ∈ firstOf (inTime t u x) (lineOf t i)) e trip in
-          first-in t a u b (lineOf t i) x y (getD (lineOf t i) j 0) (line-listed t i (k .listed)) (k .pair) this
+          first-in timetable a u b (lineOf t i) x y (getD (lineOf t i) j 0) (line-listed t i (k .listed)) (k .pair) this
 
-      by-direct : (1 ≤ b) × (b ≤ n) → first i x ≤ j → direct (rideBy t i x y j) ∈ directs (net timetable) a u b
+      by-direct : (1 ≤ b) × (b ≤ n) → first i x ≤ j → direct (rideBy timetable i x y j) ∈ directs (net timetable) a u b
       by-direct to-listed h =
           let z = getD (lineOf t i) j 0 in
           let good = line-good t i (k .listed) in
@@ -99,9 +100,9 @@ module _
           let end = k .pair .inside in
           let from = sym (line-stop t (lineOf t i) z x good member .station) ∙ k .pair .board in
           let to = sym (line-stop t (lineOf t i) z y good member .station) ∙ k .pair .alight in
-          let timely = timely-by v n t told a u b some inside (to-listed .0) (to-listed .1) i x y j k h in
-          let listed = rides-in t z x y (trip-listed t z on-line) (k .pair .later) (omega arith) in
-          direct-in timetable a u b (rideBy t i x y j) listed (search writes)
+          let timely = timely-by v timetable told a u b some inside (to-listed .0) (to-listed .1) i x y j k h in
+          let listed = rides-in timetable z x y (trip-listed t z on-line) (k .pair .later) (omega arith) in
+          direct-in timetable a u b (rideBy timetable i x y j) listed (search writes)
 
     -- a nearer ride is no worse
     nearer-cost : (e r : Ride) → Nearer e r → NoWorse (cost u (direct e)) (cost u (direct r))
@@ -116,16 +117,17 @@ module _
         subst (λ b. (1 ≤ b) × (b ≤ n)) to (sound timetable is-valid .arrives (r .0) (r .1))
 
     -- ---- the first rides read are those of the lines, to the nearest places
-    first-to : (c : Connection) → c ∈ map direct (firstRead v a u b) → c ∈ firstRides t a u b
+    first-to : (c : Connection) → c ∈ map direct (firstRead v a u b) → c ∈ firstRides timetable a u b
     first-to c m =
         let r = Memᴰ·of-map direct (firstRead v a u b) m in
-        let listed = first-listed v n t told a u b (r .0) (r .1) in
-        let q = first-read-out v n t told a u b some inside (listed .0) (listed .1) (r .0) (r .1) in
+        let listed = first-listed v timetable told a u b (r .0) (r .1) in
+        let q = first-read-out v timetable told a u b some inside (listed .0) (listed .1) (r .0) (r .1) in
         let k = q .0 in
         Memᴰ·cast (sym (ap direct (k .is) ∙ r .2)) (by-first (k .i) (k .x) (k .y) (k .j) (k .by) (q .1))
 
     -- a ride to a nearer place of its line
-    nearer-by : (i x z y j : ℕ) → By t a b i x y j → x < z → z ≤ y → Nearer (rideBy t i x z j) (rideBy t i x y j)
+    nearer-by : (i x z y j : ℕ) → By timetable a b i x y j → x < z → z ≤ y
+        → Nearer (rideBy timetable i x z j) (rideBy timetable i x y j)
     nearer-by i x z y j k later nearer =
         let g = getD (lineOf t i) j 0 in
         let member = within (lineOf t i) j 0 (k .runs) in
@@ -135,44 +137,44 @@ module _
         nearer-ride timetable is-valid g (trip-listed t g on-line) x z y later nearer (omega (arith, k .pair .inside))
 
     -- each first ride of a line has one of these that is no worse
-    first-back : (c : Connection) → c ∈ firstRides t a u b
+    first-back : (c : Connection) → c ∈ firstRides timetable a u b
         → (e : Connection) × (e ∈ map direct (firstRead v a u b)) × NoWorse (cost u e) (cost u c)
     first-back c m =
         let listed = direct-listed c (first-direct timetable a u b c m) in
-        let r = first-ride t a u b c m in
+        let r = first-ride timetable a u b c m in
         let x = r .x in
         let y = r .y in
         let p = placed (lines t) [] (r .line) (r .listed) in
         let i = p .place in
-        let pair = subst (λ l. Pair t a b l x y) (sym (p .is)) (r .pair) in
+        let pair = subst (λ l. Pair timetable a b l x y) (sym (p .is)) (r .pair) in
         let member = subst (λ l. r .z ∈ firstOf (inTime t u x) l) (sym (p .is)) (r .first) in
         let x-inside : x < length (course t (lineOf t i)) = omega (arith, pair .later, pair .inside) in
-        let q = first-trip-out v t i (lineOf t i) (told .line i (p .inside)) x u x-inside (r .z) member in
+        let q = first-trip-out v timetable i (lineOf t i) (told .line i (p .inside)) x u x-inside (r .z) member in
         let j = first i x in
-        let by : By t a b i x y j = record { listed = p .inside; pair = pair; runs = q .0 } in
-        let same = ap (λ z. direct (rideAt (getD t z []) z x y)) (q .1) ∙ r .is in
-        let near = first-read-in v n t told a u b some inside (listed .0) (listed .1) i x y j by refl in
-        let e = rideBy t i x (near .0) j in (
+        let by : By timetable a b i x y j = record { listed = p .inside; pair = pair; runs = q .0 } in
+        let same = ap (λ z. direct (rideIn timetable z x y)) (q .1) ∙ r .is in
+        let near = first-read-in v timetable told a u b some inside (listed .0) (listed .1) i x y j by refl in
+        let e = rideBy timetable i x (near .0) j in (
           direct e,
           Memᴰ·map direct (near .3),
           subst
               (λ c. NoWorse (cost u (direct e)) (cost u c))
               same
-              (nearer-cost e (rideBy t i x y j) (nearer-by i x (near .0) y j by (near .1) (near .2))),
+              (nearer-cost e (rideBy timetable i x y j) (nearer-by i x (near .0) y j by (near .1) (near .2))),
         )
 
     -- ---- all rides read are the direct rides
     all-to : (c : Connection) → c ∈ map direct (allRead v a u b) → c ∈ directs (net timetable) a u b
     all-to c m =
         let r = Memᴰ·of-map direct (allRead v a u b) m in
-        let listed = all-listed v n t told a u b (r .0) (r .1) in
-        let q = all-read-out v n t told a u b some inside (listed .0) (listed .1) (r .0) (r .1) in
+        let listed = all-listed v timetable told a u b (r .0) (r .1) in
+        let q = all-read-out v timetable told a u b some inside (listed .0) (listed .1) (r .0) (r .1) in
         let k = q .0 in
         Memᴰ·cast (sym (ap direct (k .is) ∙ r .2))
         (by-direct (k .i) (k .x) (k .y) (k .j) (k .by) listed (q .1))
 
     -- a direct ride by the line of its trip
-    on-its-line : (r : Ride) → r .from ≡ a → r .to ≡ b → Taken t r → Read t a b r
+    on-its-line : (r : Ride) → r .from ≡ a → r .to ≡ b → Taken timetable r → Read timetable a b r
     on-its-line r from to k =
         let z = k .z in
         let s = line-of t z (k .listed) in
@@ -196,7 +198,7 @@ module _
                 pair = record { later = k .later; inside = end; board = board; alight = alight };
                 runs = q .inside;
               };
-          is = ap (λ z. rideAt (getD t z []) z (k .x) (k .y)) (q .is) ∙ k .is;
+          is = ap (λ z. rideIn timetable z (k .x) (k .y)) (q .is) ∙ k .is;
         }
 
     all-back : (c : Connection) → c ∈ directs (net timetable) a u b → c ∈ map direct (allRead v a u b)
@@ -207,13 +209,15 @@ module _
         let from : r .0 .from ≡ a = search reads in
         let to : r .0 .to ≡ b = search reads in
         let timely : T (leb u (r .0 .depart)) = search reads in
-        let k = on-its-line (r .0) from to (rides-out t (r .0) (r .1)) in
+        let k = on-its-line (r .0) from to (rides-out timetable (r .0) (r .1)) in
         let leaves = subst (λ r. T (leb u (r .depart))) (sym (k .is)) timely in
         let behind =
-        by-timely v n t told a u b some inside (listed .0) (listed .1) (k .i) (k .x) (k .y) (k .j) (k .by) leaves in
+        by-timely v timetable told a u b some inside (listed .0) (listed .1) (k .i) (k .x) (k .y) (k .j) (k .by)
+        leaves in
         Memᴰ·cast (sym (ap direct (k .is) ∙ r .3))
         (Memᴰ·map direct
-        (all-read-in v n t told a u b some inside (listed .0) (listed .1) (k .i) (k .x) (k .y) (k .j) (k .by) behind))
+        (all-read-in v timetable told a u b some inside (listed .0) (listed .1) (k .i) (k .x) (k .y) (k .j) (k .by)
+        behind))
 
     pub all-read : (c : Connection) → c ∈ map direct (allRead v a u b) ↔ c ∈ directs (net timetable) a u b
     all-read c = (all-to c, all-back c)
@@ -221,17 +225,18 @@ module _
     -- ---- those to the nearest places are among them, and none is missed that is as good
     pub near-all : (r : Ride) → r ∈ nearRead v a u b → r ∈ allRead v a u b
     near-all r m =
-        let listed = near-listed v n t told a u b r m in
-        near-read-out v n t told a u b some inside (listed .0) (listed .1) r m
+        let listed = near-listed v timetable told a u b r m in
+        near-read-out v timetable told a u b some inside (listed .0) (listed .1) r m
 
     pub all-near : (r : Ride) → r ∈ allRead v a u b → (e : Ride) × (e ∈ nearRead v a u b) × Nearer e r
     all-near r m =
-        let listed = all-listed v n t told a u b r m in
-        let q = all-read-out v n t told a u b some inside (listed .0) (listed .1) r m in
+        let listed = all-listed v timetable told a u b r m in
+        let q = all-read-out v timetable told a u b some inside (listed .0) (listed .1) r m in
         let k = q .0 in
         let near =
-        near-read-in v n t told a u b some inside (listed .0) (listed .1) (k .i) (k .x) (k .y) (k .j) (k .by) (q .1) in
-        let e = rideBy t (k .i) (k .x) (near .0) (k .j) in (
+        near-read-in v timetable told a u b some inside (listed .0) (listed .1) (k .i) (k .x) (k .y) (k .j) (k .by)
+        (q .1) in
+        let e = rideBy timetable (k .i) (k .x) (near .0) (k .j) in (
           e,
           near .3,
           subst (Nearer e) (k .is)
@@ -239,10 +244,6 @@ module _
         )
 
     -- ---- how large their numbers get
-    trips-few : length t ≤ 256
-    unfolding valid counted
-    trips-few = let h = is-valid in search reads
-
     direct-bounds : (r : Ride) → direct r ∈ directs (net timetable) a u b → Bounds u r
     direct-bounds r m =
         let boards = directs-exactly timetable a u b (direct r) .0 m .0 .0 in
@@ -251,7 +252,7 @@ module _
         let forward = net-sound .forward r listed in
         let bounded = net-sound .bounded r listed in
         let cheap = ride-cheap timetable is-valid r listed in
-        let k = rides-out t r listed in
+        let k = rides-out timetable r listed in
         let number = ap (λ r. r .trip) (k .is) in
         record {
           leaves = boards .timely;
@@ -259,7 +260,7 @@ module _
           minute = omega arith;
           depart-minute = omega arith;
           few = omega arith;
-          trip-few = omega (arith, number, k .listed, trips-few);
+          trip-few = omega (arith, number, number-most timetable is-valid (k .z) (k .listed));
         }
 
     pub all-bounds : (r : Ride) → r ∈ allRead v a u b → Bounds u r
@@ -315,7 +316,7 @@ module _
     pub read-costs : costs (measure u) (map direct (firstRead v a u b))
         ≡ costs (measure u) (map direct (nearRead v a u b))
     read-costs =
-        costs-covered (measure u) (firstRides t a u b) (map direct (firstRead v a u b)) first-to first-back
+        costs-covered (measure u) (firstRides timetable a u b) (map direct (firstRead v a u b)) first-to first-back
         ∙ direct-costs timetable a u b
         ∙ sym (costs-covered (measure u) whole near near-whole covered)
       where

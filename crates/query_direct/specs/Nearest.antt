@@ -10,7 +10,7 @@ use lib.Dec.{T}
 use lib.ListN.{length, getD}
 use Rattle.lists.specs.Tests.{T-right, reads}
 use Rattle.timetable.specs.Timetable.{Stop, Trip, Timetable, runs, validTrip, valid}
-use Rattle.connections.specs.Rides.{Ride, noStop, rideAt}
+use Rattle.connections.specs.Rides.{Ride, noStop, rideIn}
 use Rattle.connections.specs.RideLaws.{rides-in, points-split}
 use Rattle.connections.specs.Sound.{sound, trips-valid, valid-trip}
 
@@ -51,11 +51,11 @@ module _ (timetable : Timetable) (okay : T (valid timetable)) (k : ℕ) (listed 
     sooner h =
         let n = length (timetable .stations) in
         let is-valid = valid-trip n (timetable .trips) (trips-valid timetable okay) k listed in
-        let listed-ride = rides-in (timetable .trips) k z y listed h inside in
-        let on = sound timetable okay .forward (rideAt trip k z y) listed-ride in
+        let listed-ride = rides-in timetable k z y listed h inside in
+        let on = sound timetable okay .forward (rideIn timetable k z y) listed-ride in
         omega (arith, on, trip-waits n trip is-valid x z later (omega arith))
 
-    pub nearer-ride : Nearer (rideAt trip k x z) (rideAt trip k x y)
+    pub nearer-ride : Nearer (rideIn timetable k x z) (rideIn timetable k x y)
     nearer-ride =
         record {
           trip = refl;
@@ -65,7 +65,7 @@ module _ (timetable : Timetable) (okay : T (valid timetable)) (k : ℕ) (listed 
           points = omega (arith, points-split trip x z y (omega arith) nearer);
           arrive =
               elim (ℕ-discrete z y) [
-                | yes e ↦ inl (ap (rideAt trip k x) e)
+                | yes e ↦ inl (ap (rideIn timetable k x) e)
                 | no e ↦ inr (sooner (omega arith))
               ];
         }

@@ -10,10 +10,10 @@ use native.Mathlib.Decide.{ℕ-discrete}
 use borrow.Author.Tests.{eqb-true, eqb-false}
 use lib.Dec.{T, leb, eqb, leb→le, le→leb}
 use lib.ListN.{length, getD}
-use Rattle.timetable.specs.Timetable.{Trip}
+use Rattle.timetable.specs.Timetable.{Trip, Timetable}
 use Rattle.lists.specs.Lists.{_∈_, firstOf}
 use Rattle.lists.specs.Members.{none, cons-cases}
-use Rattle.connections.specs.Rides.{ridePoints, rideAt}
+use Rattle.connections.specs.Rides.{ridePoints, rideIn}
 use Rattle.lines.specs.Lines.{course, stationOn}
 use Rattle.lines.specs.DirectRides.{inTime}
 use Rattle.lines.specs.Behind.{behind-points}
@@ -47,7 +47,10 @@ pub record Left (t : List Trip) (i : ℕ) (l : List ℕ) (b x : ℕ) (ds : List 
   pub behind : (d : Call) → d ∈ ds → Later (record { line = i; place = x }) d
   pub met : (d : Call) → d ∈ ds → d .line ≡ i → (d .place < length (course t l)) × (stationOn t l (d .place) ≡ b)
 
-module _ (v : List ℕ) (t : List Trip) (i : ℕ) (l : List ℕ) (told : LineTold v t i l) where
+module _ (v : List ℕ) (timetable : Timetable) (i : ℕ) (l : List ℕ) (told : LineTold v timetable i l) where
+  abbrev t : List Trip
+  t = timetable .trips
+
   abbrev line : Line
   line = lineAt v i
 
@@ -73,7 +76,7 @@ module _ (v : List ℕ) (t : List Trip) (i : ℕ) (l : List ℕ) (told : LineTol
           later = x-before;
           inside = k .0;
           station = k .1;
-          costs = ride-difference v t i l told x (d .place) (omega arith) (k .0);
+          costs = ride-difference v timetable i l told x (d .place) (omega arith) (k .0);
         }
 
     pub reach-out : (ds : List Call) → Left t i l b x ds → (r : Reach) → r ∈ reachOf v line call ds → Reached t l x b r
@@ -224,7 +227,7 @@ module _ (v : List ℕ) (t : List Trip) (i : ℕ) (l : List ℕ) (told : LineTol
   module _ (good : GoodLine t l) where
     -- the ride that the code reads is that of the trip
     pub ride-same : (x b j : ℕ) → x < length (course t l) → j < length l → (r : Reach) → Reached t l x b r
-        → rideOn v line x j r ≡ rideAt (getD t (getD l j 0) []) (getD l j 0) x (r .place)
+        → rideOn v line x j r ≡ rideIn timetable (getD l j 0) x (r .place)
     ride-same x b j h g r k =
         let y = r .place in
         let z = getD l j 0 in

@@ -52,8 +52,8 @@ module _
     abbrev t : Timetable
     t = timetableOf w
 
-    told : Told v (length (t .stations)) (t .trips)
-    told = holding v (length (t .stations)) (t .trips) (begins-holds v t .0 own)
+    told : Told v t
+    told = holding v t (begins-holds v t .0 own)
 
     abbrev firsts : List Ride
     firsts = firstRead v a u b

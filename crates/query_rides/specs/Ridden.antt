@@ -34,7 +34,7 @@ firstRide (onward r w c) = r
 module _
     (v : List ℕ)
     (t : Timetable)
-    (told : Told v (length (t .stations)) (t .trips))
+    (told : Told v t)
     (sound : valid t ≡ true)
     (a b u : ℕ)
     (some : 1 ≤ a)
@@ -63,10 +63,10 @@ module _
     (some : 1 ≤ a)
     (inside : a ≤ length ((timetableOf w) .stations))
   where
-    told : Told v (length ((timetableOf w) .stations)) ((timetableOf w) .trips)
+    told : Told v (timetableOf w)
     told =
         let t = timetableOf w in
-        holding v (length (t .stations)) (t .trips) (begins-holds v t .0 own)
+        holding v t (begins-holds v t .0 own)
 
     pub read-rides : (r : Ride) → r ∈ allRead v a u b ↔ (Boards (net (timetableOf w)) a u r × (r .to ≡ b))
     read-rides = told-rides v (timetableOf w) told (spelled-valid w accepted) a b u some inside

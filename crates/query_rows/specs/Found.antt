@@ -9,7 +9,6 @@ use lib.Seq.{length-take-le}
 use Rattle.timetable.specs.Words.{timetableOf, stationCount}
 use Rattle.connections.specs.Connections.{net, Connection}
 use Rattle.connections.specs.Sound.{Sound}
-use Rattle.connections.specs.Named.{named}
 use Rattle.connections.specs.Feasibility.{departs-in-time}
 use Rattle.query_store.specs.Entries.{arcCount, arcTarget}
 use Rattle.query_store.specs.Paths.{arcPath}
@@ -97,7 +96,7 @@ module _
             none : f .found ≡ false → (ok : Sound (net (timetableOf w))) (e : Connection)
                 → ¬ By (net (timetableOf w)) ok s a u b (costOf m p) (arcPath s k) e
             none e ok =
-                found-none (net (timetableOf w)) ok s a u b (costOf m p) (named (timetableOf w)) (l .best) (l .least)
+                found-none (net (timetableOf w)) ok s a u b (costOf m p) (l .best) (l .least)
                 (l .leads)
                 (arcPath s k)
                 (subst Here e here)
@@ -116,7 +115,7 @@ module _
                       };
                   own =
                       λ ok.
-                      found-own (net (timetableOf w)) ok s a u b (costOf m p) (named (timetableOf w)) (l .best)
+                      found-own (net (timetableOf w)) ok s a u b (costOf m p) (l .best)
                       (l .least)
                       (l .leads)
                       (arcPath s k)

@@ -16,7 +16,6 @@ use Rattle.connections.specs.Connections.{Net, Connection, Feasible, arrival, p
 use Rattle.connections.specs.Planner.{tieKey}
 use Rattle.connections.specs.Sound.{Sound}
 use Rattle.optimality.specs.Greedy.{Fits}
-use Rattle.connections.specs.Named.{Named}
 use Rattle.stores.specs.Words.{readable, keptList}
 use Rattle.stores.specs.KeptLaws.{kept-exactly}
 use Rattle.query_minutes.specs.Minutes.{noPoints, leads}
@@ -168,10 +167,10 @@ module _ (n : Net) (ok : Sound n) (s : List ℕ) (a u b : ℕ) (c : Cost) where
         gone (x .one) (kept-of (x .one) (x .listed) at (x .pays ∙ l .is))
 
   -- ---- who fits a cost that leads has that cost
-  module _ (known : Named n) (w : List ℕ) (least : LeastKept u (keptList n s a u b) w) (i : c ∈ leads noPoints 0 w)
+  module _ (w : List ℕ) (least : LeastKept u (keptList n s a u b) w) (i : c ∈ leads noPoints 0 w)
     where
       pub fits-by : (q : List ℕ) (e : Connection) → q ∈ readable s
-          → Fits n known b (c .minutes) q a u (c .points) e → By q e
+          → Fits n b (c .minutes) q a u (c .points) e → By q e
       fits-by q e m f =
           record {
             feasible = f .feasible;
@@ -202,7 +201,7 @@ module _ (n : Net) (ok : Sound n) (s : List ℕ) (a u b : ℕ) (c : Cost) where
               early : arrival e < c .minutes → ⊥
               early h = omega (arith, l .first (arrival e) (omega (arith, l .at)), low, f .cheap)
 
-      by-fits : (q : List ℕ) (e : Connection) → By q e → Fits n known b (c .minutes) q a u (c .points) e
+      by-fits : (q : List ℕ) (e : Connection) → By q e → Fits n b (c .minutes) q a u (c .points) e
       by-fits q e o =
           record {
             feasible = o .feasible;
@@ -213,11 +212,11 @@ module _ (n : Net) (ok : Sound n) (s : List ℕ) (a u b : ℕ) (c : Cost) where
 
       -- what is found along one sequence, by the cost
       pub found-own : (q : List ℕ) (one : Connection) → q ∈ readable s
-          → Fits n known b (c .minutes) q a u (c .points) one
-          → ((e : Connection) → Fits n known b (c .minutes) q a u (c .points) e → ¬ T (before (tieKey e) (tieKey one)))
+          → Fits n b (c .minutes) q a u (c .points) one
+          → ((e : Connection) → Fits n b (c .minutes) q a u (c .points) e → ¬ T (before (tieKey e) (tieKey one)))
           → Own q one
       found-own q one m f first = record { by = fits-by q one m f; first = λ e o. first e (by-fits q e o) }
 
-      pub found-none : (q : List ℕ) → ((e : Connection) → Fits n known b (c .minutes) q a u (c .points) e → ⊥)
+      pub found-none : (q : List ℕ) → ((e : Connection) → Fits n b (c .minutes) q a u (c .points) e → ⊥)
           → (e : Connection) → By q e → ⊥
       found-none q gone e o = gone e (by-fits q e o)

@@ -16,6 +16,7 @@ use Rattle.connections.specs.Connections.{Change, Net, net, Connection, direct,
 use Rattle.connections.specs.Connections.{ready}
 use Rattle.connections.specs.Planner.{numbers}
 use Rattle.connections.specs.Named.{named}
+use Rattle.connections.specs.RideLaws.{change-unique}
 use Rattle.connections.specs.Sound.{sound}
 use Rattle.connections.specs.Feasibility.{has-stations}
 use Rattle.optimality.specs.Ways.{firstRide}
@@ -32,7 +33,7 @@ module _ (timetable : Timetable) (b v : ℕ) (whole : List ℕ) (a t p₀ : ℕ)
     pub fits : Fitting timetable b v q x u p some
     pub later : t ≤ u
     pub complete : (c : Connection) → Fitting timetable b v q x u p c
-        → First (net timetable) (named timetable) b v q x u p c
+        → First (net timetable) b v q x u p c
         → Shown timetable b v whole a t p₀ (done ++ numbers c) d
 
   abbrev pub Going : (done : List ℕ) (d : ℕ) (q : List ℕ) (x u p : ℕ) → Type 0
@@ -67,7 +68,8 @@ module _ (timetable : Timetable) (okay : T (valid timetable)) (b v : ℕ) where
     is-onward : (z : ℕ) (q : List ℕ) (c : Connection) → Fit (y ∷ z ∷ q) x u p c → firstRide c ≡ r → Onwards (z ∷ q)
     is-onward z q (direct s) f e = absurd (omega (arith, ap length (f .is)))
     is-onward z q (onward s g c) f e =
-        let same : g ≡ w = named timetable .change g w (f .feasible .1 .listed) listed (ap lead (f .is) ∙ sym at) in
+        let same : g ≡ w =
+        change-unique (timetable .stations) g w (f .feasible .1 .listed) listed (ap lead (f .is) ∙ sym at) in
         let from-r = subst (λ r. Fit (y ∷ z ∷ q) x u p (onward r g c)) e f in
         go (subst (λ w. Fit (y ∷ z ∷ q) x u p (onward r w c)) same from-r)
       where
@@ -103,7 +105,7 @@ module _ (timetable : Timetable) (okay : T (valid timetable)) (b v : ℕ) where
       goes [] done d l c =
           let f = is-direct y x u p r w listed at (c .starts .connection) (c .starts .fits) (c .starts .begins) in
           l .complete (direct r) f
-          (first-direct n (named timetable) b v y x u p r
+          (first-direct n (named timetable okay) b v y x u p r
           (λ e h s. c .leads e h (before-tail 0 0 (rideNumbers (firstRide e)) (rideNumbers r) refl s)))
       goes (z ∷ q) done d l c =
           record {
@@ -117,10 +119,10 @@ module _ (timetable : Timetable) (okay : T (valid timetable)) (b v : ℕ) where
           o = is-onward y x u p r w listed at z q (c .starts .connection) (c .starts .fits) (c .starts .begins)
 
           complete : (e : Connection) → Fit (z ∷ q) (w .to) (ready r w) (p - (r .points + w .points)) e
-              → First n (named timetable) b v (z ∷ q) (w .to) (ready r w) (p - (r .points + w .points)) e
+              → First n b v (z ∷ q) (w .to) (ready r w) (p - (r .points + w .points)) e
               → Shown timetable b v whole a t p₀ (done ++ rideNumbers r ++ numbers e) d
           complete e f g =
-              let one = first-onward n (named timetable) b v y (z ∷ q) x u p r w e (o .join e f) g
+              let one = first-onward n (named timetable okay) b v y (z ∷ q) x u p r w e (o .join e f) g
               (λ e h s. c .leads e h (before-tail 0 0 (rideNumbers (firstRide e)) (rideNumbers r) refl s)) in
               subst (λ l. Shown timetable b v whole a t p₀ l d) (sym (append-assoc done (rideNumbers r) (numbers e)))
               (l .complete (onward r w e) (o .join e f) one)
@@ -137,7 +139,7 @@ module _ (timetable : Timetable) (okay : T (valid timetable)) (b v : ℕ) where
           fits = f;
           tells = refl;
           departs = refl;
-          first = tie-direct n (named timetable) b v y x u p r f (c .leads);
+          first = tie-direct n (named timetable okay) b v y x u p r f (c .leads);
         }
     begins (z ∷ q) c = record { some = o .some; fits = o .fits; later = o .on; complete = complete }
       where
@@ -145,7 +147,7 @@ module _ (timetable : Timetable) (okay : T (valid timetable)) (b v : ℕ) where
         o = is-onward y x u p r w listed at z q (c .starts .connection) (c .starts .fits) (c .starts .begins)
 
         complete : (e : Connection) → Fit (z ∷ q) (w .to) (ready r w) (p - (r .points + w .points)) e
-            → First n (named timetable) b v (z ∷ q) (w .to) (ready r w) (p - (r .points + w .points)) e
+            → First n b v (z ∷ q) (w .to) (ready r w) (p - (r .points + w .points)) e
             → Shown timetable b v (y ∷ z ∷ q) x u p (rideNumbers r ++ numbers e) (r .depart)
         complete e f g =
             record {
@@ -153,5 +155,5 @@ module _ (timetable : Timetable) (okay : T (valid timetable)) (b v : ℕ) where
               fits = o .join e f;
               tells = refl;
               departs = refl;
-              first = tie-onward n (named timetable) b v y (z ∷ q) x u p r w e (o .join e f) g (c .leads);
+              first = tie-onward n (named timetable okay) b v y (z ∷ q) x u p r w e (o .join e f) g (c .leads);
             }

@@ -8,7 +8,8 @@ use Prim.Native.Nat.{ℕ, _+_, _-_, _≤_, _<_}
 use native.Mathlib.Omega.{arith}
 use lib.Dec.{T, leb, ltb, ltb→lt, nltb→le}
 use lib.ListN.{length, getD}
-use Rattle.timetable.specs.Timetable.{Timetable, lastMinute, counted, valid}
+use Rattle.timetable.specs.Timetable.{Timetable, lastMinute, valid}
+use Rattle.timetable.specs.Numbers.{number-most}
 use Rattle.lists.specs.Lists.{_∈_, before, filter}
 use Rattle.lists.specs.Tests.{either, reads, writes}
 use Rattle.lists.specs.Members.{filter-in, filter-out}
@@ -90,14 +91,10 @@ module _ (timetable : Timetable) (okay : T (valid timetable)) (b v : ℕ) where
   ok : Sound n
   ok = sound timetable okay
 
-  trips-few : length (timetable .trips) ≤ 256
-  unfolding valid counted
-  trips-few = search reads
-
   trip-few : (r : Ride) → r ∈ n .rides → r .trip < 65536
   trip-few r m =
-      let k = rides-out (timetable .trips) r m in
-      omega (arith, ap (λ r. r .trip) (k .is), k .listed, trips-few)
+      let k = rides-out timetable r m in
+      omega (arith, ap (λ r. r .trip) (k .is), number-most timetable okay (k .z) (k .listed))
 
   ride-before : (first : Bool) (r : Ride) → r ∈ n .rides → T (before (headKey first r) (headKey first noRide))
   ride-before first r m = go first (trip-few r m)

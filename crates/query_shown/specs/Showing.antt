@@ -12,7 +12,6 @@ use Rattle.timetable.specs.Words.{stationCount, timetableOf, isTimetable}
 use Rattle.lists.specs.Lists.{before}
 use Rattle.connections.specs.Connections.{net, Connection, departure}
 use Rattle.connections.specs.Planner.{numbers, tieKey}
-use Rattle.connections.specs.Named.{named}
 use Rattle.lines_check.specs.Question10.{areTables}
 use Rattle.optimality.specs.Greedy.{Fits}
 use Rattle.query_shown.specs.declared.First.{First}
@@ -34,7 +33,7 @@ pub record Given (w lines path : List ℕ) (r v : ℕ) : Type 0 where
 module _ (timetable : Timetable) (b v : ℕ) where
   -- from station x at minute u by the stations q to b, there by minute v, for p points at the most
   abbrev pub Fitting : (q : List ℕ) (x u p : ℕ) → Connection → Type 0
-  Fitting = Fits (net timetable) (named timetable) b v
+  Fitting = Fits (net timetable) b v
 
   -- the numbers and the departure of the connection that is shown
   pub record Shown (q : List ℕ) (x u p : ℕ) (told : List ℕ) (depart : ℕ) : Type 0 where

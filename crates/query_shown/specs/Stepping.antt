@@ -15,7 +15,7 @@ use Rattle.lists.specs.Tests.{either, reads, writes}
 use Rattle.lists.specs.Members.{filter-in, filter-out}
 use Rattle.connections.specs.Rides.{Ride}
 use Rattle.connections.specs.Connections.{Change, Net, net, Boards}
-use Rattle.connections.specs.Named.{named}
+use Rattle.connections.specs.RideLaws.{change-unique}
 use Rattle.connections.specs.Sound.{Sound, sound}
 use Rattle.connections.specs.Feasibility.{penalty-most}
 use Rattle.optimality.specs.Ways.{firstRide}
@@ -230,7 +230,8 @@ module _ (timetable : Timetable) (okay : T (valid timetable)) (b v t : ℕ) wher
         least : (m s : ℕ) → t ≤ m → m < 2880 → Rest n b v (y ∷ q) x m s
             → getD (settledFrom noPoints t after) m noPoints ≤ s
         least m s h g o =
-            let same : o .change ≡ w = named timetable .change (o .change) w (o .listed) listed (o .at ∙ sym at) in
+            let same : o .change ≡ w =
+            change-unique (timetable .stations) (o .change) w (o .listed) listed (o .at ∙ sym at) in
             let x′ = o .change .to in
             let u = m + o .change .minutes in
             let e = o .connection in

@@ -2,7 +2,7 @@
 use mathlib.Core.Path.{_≡_, refl, sym, _∙_}
 use mathlib.Core.Bool.{Bool, true, false, cond}
 use mathlib.Core.List.{List, [], _∷_, _++_, append-assoc, append-nil}
-use Prim.Native.Nat.{ℕ, _+_, _*_, _<_}
+use Prim.Native.Nat.{ℕ, _+_, _*_, _≤_, _<_}
 use native.Mathlib.Omega.{arith}
 use lib.ListN.{length, set, length-append}
 use Rattle.words.specs.Put.{put, put-next}
@@ -21,9 +21,9 @@ use Rattle.timetable.specs.WordLaws.{
   stopsOf-append,
   startWords-append,
 }
-use Rattle.reading.specs.Draft.{Draft, final, stationOfLine, stopOfLine, withStop, withLine, stopsIn}
+use Rattle.reading.specs.Draft.{Draft, Rules, final, stationOfLine, stopOfLine, withStop, withLine, stopsIn}
 use Rattle.reading.specs.Progress.{progress, lineNumberAt}
-use Rattle.reading.specs.Model.{Within, advance, lineWords, startsWith}
+use Rattle.reading.specs.Model.{Within, endTrip, goOn, advance, lineWords, startsWith}
 use Rattle.reading.specs.declared.Progress.{Progress}
 use Rattle.reading.proofs.YesLaws.{station-yes, StopYes, stop-yes}
 
@@ -67,11 +67,11 @@ stop-body d s true =
 stop-body d s false =
     rw (← append-assoc (stopsOf (d .trips)) (d .begun), stopWords-append (stopsIn d) (s ∷ []), append-assoc)
 
-pub body-grows : (d : Draft) (line : Line) → lineNumberAt (progress d) line ≡ 0
+pub body-grows : (r : Rules) (d : Draft) (line : Line) → lineNumberAt r (progress d) line ≡ 0
     → bodyOf (withLine d line) ≡ bodyOf d ++ lineWords line
 unfolding stationWords stopWords
-body-grows d (StationIn l) e =
-    let all = station-yes (progress d) l 0 (sym e) refl in
+body-grows r d (StationIn l) e =
+    let all = station-yes r (progress d) l 0 (sym e) refl in
     let none : stopsIn d ≡ [] = no-length (stopsIn d) (all .before-stops) in
     rw (
       none,
@@ -79,8 +79,8 @@ body-grows d (StationIn l) e =
       append-nil (stationWords (d .stations)),
       stationWords-append (d .stations) (stationOfLine l ∷ []),
     )
-body-grows d (StopIn l) e = stop-body d (stopOfLine l) (l .last)
-body-grows d Shapeless e = absurd (omega arith)
+body-grows r d (StopIn l) e = stop-body d (stopOfLine l) (l .last)
+body-grows r d Shapeless e = absurd (omega arith)
 
 -- ---- where trips begin
 module _ (d : Draft) (starts old : List ℕ) (is : starts ≡ put 0 (startWords 0 (d .trips)) old) where
@@ -95,41 +95,36 @@ module _ (d : Draft) (starts old : List ℕ) (is : starts ≡ put 0 (startWords 
       (length-startWords 0 (d .trips)) room)
   stop-starts l false room = is
 
-  pub starts-grow : (line : Line) → lineNumberAt (progress d) line ≡ 0 → length old ≡ 257
+  pub starts-grow : (r : Rules) (line : Line) → lineNumberAt r (progress d) line ≡ 0 → length old ≡ 257
       → startsWith (progress d) line starts ≡ put 0 (startWords 0 ((withLine d line) .trips)) old
-  starts-grow (StationIn l) e h = is
-  starts-grow (StopIn l) e h =
-      let all = stop-yes (progress d) l 0 (sym e) refl in
+  starts-grow r (StationIn l) e h = is
+  starts-grow r (StopIn l) e h =
+      let all = stop-yes r (progress d) l 0 (sym e) refl in
       stop-starts l (l .last) (omega arith)
-  starts-grow Shapeless e h = is
+  starts-grow r Shapeless e h = is
 
 -- ---- the limits
-pub within-grows : (p : Progress) (line : Line) → Within p → lineNumberAt p line ≡ 0 → Within (advance p line)
-within-grows p (StationIn l) w e =
-    let all = station-yes p l 0 (sym e) refl in
+pub within-grows : (r : Rules) (p : Progress) (line : Line) → Within p → lineNumberAt r p line ≡ 0
+    → Within (advance p line)
+within-grows r p (StationIn l) w e =
+    let all = station-yes r p l 0 (sym e) refl in
     record { stations = omega arith; trips = w .trips; stops = w .stops; begun = w .begun }
-within-grows p (StopIn l) w e = by-last (l .last) (stop-yes p l 0 (sym e) refl)
+within-grows r p (StopIn l) w e = by-last (l .last) (stop-yes r p l 0 (sym e) refl)
   where
-    by-last : (t : Bool) → StopYes p l
-        → Within
-        (cond t
-        (record {
-          stations = p .stations;
-          trips = p .trips + 1;
-          stops = p .stops + 1;
-          begun = 0;
-          station = 0;
-          depart = 0;
-        })
-        (record {
-          stations = p .stations;
-          trips = p .trips;
-          stops = p .stops + 1;
-          begun = p .begun + 1;
-          station = l .station;
-          depart = l .depart;
-        }))
+    by-last : (t : Bool) → StopYes p l → Within (cond t (endTrip p) (goOn p l))
     by-last true all = record { stations = w .stations; trips = omega arith; stops = omega arith; begun = omega arith }
     by-last false all =
         record { stations = w .stations; trips = w .trips; stops = omega arith; begun = omega (arith, w .begun) }
-within-grows p Shapeless w e = w
+within-grows r p Shapeless w e = w
+
+-- ---- the lines so far, each of which was a station or a stop
+pub lines-grow : (r : Rules) (p : Progress) (line : Line) (k : ℕ) → lineNumberAt r p line ≡ 0
+    → k ≤ p .stations + p .stops + 1 → k + 1 ≤ (advance p line) .stations + (advance p line) .stops + 1
+lines-grow r p (StationIn l) k e h = omega arith
+lines-grow r p (StopIn l) k e h = by-last (l .last)
+  where
+    by-last : (t : Bool)
+        → k + 1 ≤ (cond t (endTrip p) (goOn p l)) .stations + (cond t (endTrip p) (goOn p l)) .stops + 1
+    by-last true = omega arith
+    by-last false = omega arith
+lines-grow r p Shapeless k e h = absurd (omega arith)

@@ -1,6 +1,8 @@
 pub mod NumberLaws
+pub mod ExtraLaws
 pub mod YesLaws
 pub mod TakeLaws
 pub mod DraftLaws
 pub mod LoopLaws
+pub mod CountLaws
 pub mod ReadLaws

@@ -1,27 +1,34 @@
 -- The loop over the lines of a text: what it keeps, and its ways on and out.
 use mathlib.Core.Path.{_≡_, refl, sym, ap, subst, _∙_}
 use mathlib.Core.Bool.{Bool, true, false, cond, _&&_}
-use mathlib.Core.List.{List, [], _∷_, append-nil}
-use Prim.Native.Nat.{ℕ, _+_, _-_, _*_, _≤_}
+use mathlib.Core.List.{List, [], _∷_, _++_, map, append-nil}
+use Prim.Native.Nat.{ℕ, zero, suc, _+_, _-_, _*_, _≤_}
+use native.Mathlib.Numerals.{add-one}
 use native.Mathlib.Decide.{ℕ-discrete}
 use native.Mathlib.Omega.{arith}
 use borrow.Author.Tests.{eq-eqb, ne-eqb, eqb-true}
-use lib.Dec.{leb, eqb}
-use lib.ListN.{length, take, drop, set, length-take, length-drop, length-set}
-use Rattle.words.specs.Put.{put, put-none, put-one, put-append, put-over, length-put}
+use lib.Dec.{eqb}
+use lib.ListN.{length, getD, take, drop, set, length-take, length-drop, length-set, length-map, take-append-drop}
+use lib.Seq.{length-take-le, drop-cons}
+use Rattle.words.specs.Put.{put, put-one, put-append, put-over, put-front, length-put}
+use Rattle.lists.specs.Lists.{range}
+use Rattle.lists.specs.Ranges.{length-range}
 use Rattle.lists.specs.Places.{no-length}
 use Rattle.lists.specs.Tests.{and-right}
 use Rattle.text.specs.Piece.{pieces, pieceLength, last-from, first-from, pieces-some}
+use Rattle.text.specs.Time.{timeValue}
 use Rattle.text.specs.Shape.{shapeOf}
 use Rattle.text.specs.declared.Line.{Line}
 use Rattle.timetable.specs.Timetable.{Trip, Timetable}
 use Rattle.timetable.specs.Words.{stationWords, stopWords, startWords}
 use Rattle.timetable.specs.WordLaws.{length-startWords, start-first}
-use Rattle.reading.specs.Draft.{Draft, blank, withLine, lineNumber}
-use Rattle.reading.specs.Progress.{progress, lineNumberAt, same-number}
-use Rattle.reading.specs.Reading.{Accepted, Refused, ended, readBy, readFrom, readLines}
+use Rattle.reading.specs.Draft.{Draft, Rules, opening, withLine, numberUnder}
+use Rattle.reading.specs.Progress.{progress, lineNumberAt, isThere, same-number}
+use Rattle.reading.specs.Reading.{Outcome, Accepted, Refused, complete, numbersUnder, ended, readUnder}
 use Rattle.reading.specs.Model.{
   Within,
+  stationsIn,
+  readAfter,
   advance,
   nextOf,
   lineWords,
@@ -44,66 +51,115 @@ use Rattle.reading.proofs.DraftLaws.{
   body-grows,
   starts-grow,
   within-grows,
+  lines-grow,
 }
 
 -- ---- reading, line by line
-module _ (d : Draft) (line : ℕ) where
+module _ (r : Rules) (d : Draft) (line : ℕ) where
+  abbrev readOn : Draft → (line : ℕ) → List (List ℕ) → Outcome
+  readOn = readUnder r timeValue
+
   pub read-line : (s text : List ℕ)
-      → readFrom d line (s ∷ pieces 10 text)
-      ≡ cond (eqb (lineNumberAt (progress d) (shapeOf s)) 0)
-      (readFrom (withLine d (shapeOf s)) (line + 1) (pieces 10 text))
-      (Refused (lineNumberAt (progress d) (shapeOf s)) line)
-  unfolding readBy
+      → readOn d line (s ∷ pieces 10 text)
+      ≡ cond (eqb (lineNumberAt r (progress d) (shapeOf s)) 0)
+      (readOn (withLine d (shapeOf s)) (line + 1) (pieces 10 text))
+      (Refused (lineNumberAt r (progress d) (shapeOf s)) line)
+  unfolding readUnder
   read-line s text =
       let more = pieces-some 10 text in
-      let asked : readFrom d line (s ∷ pieces 10 text)
-      ≡ cond (eqb (lineNumber d (shapeOf s)) 0)
-      (readFrom (withLine d (shapeOf s)) (line + 1) (pieces 10 text))
-      (Refused (lineNumber d (shapeOf s)) line) =
+      let asked : readOn d line (s ∷ pieces 10 text)
+      ≡ cond (eqb (numberUnder r d (shapeOf s)) 0)
+      (readOn (withLine d (shapeOf s)) (line + 1) (pieces 10 text))
+      (Refused (numberUnder r d (shapeOf s)) line) =
       rw (more .2) in
       asked
       ∙ ap
-      (λ n. cond (eqb n 0) (readFrom (withLine d (shapeOf s)) (line + 1) (pieces 10 text)) (Refused n line))
-      (same-number d (shapeOf s))
+      (λ n. cond (eqb n 0) (readOn (withLine d (shapeOf s)) (line + 1) (pieces 10 text)) (Refused n line))
+      (same-number r d (shapeOf s))
 
-  pub read-rest : (s : List ℕ) → (length s ≡ 0 → ⊥) → readFrom d line (s ∷ []) ≡ Refused 2 line
-  unfolding readBy
+  pub read-rest : (s : List ℕ) → (length s ≡ 0 → ⊥) → readOn d line (s ∷ []) ≡ Refused 2 line
+  unfolding readUnder
   read-rest s h = simp (ne-eqb (length s) 0 h)
 
-  pub read-end : (s : List ℕ) → length s ≡ 0 → readFrom d line (s ∷ []) ≡ ended d line
-  unfolding readBy
+  pub read-end : (s : List ℕ) → length s ≡ 0 → readOn d line (s ∷ []) ≡ ended r d line
+  unfolding readUnder
   read-end s h = simp (eq-eqb (length s) 0 h)
 
+-- ---- the stations that stand in the array already
+stations-from : (body : List ℕ) (k n : ℕ) → 2 * (k + n) ≤ length body
+    → stationWords (map (λ i. record { minutes = getD body (2 * i) 0; points = getD body (2 * i + 1) 0 }) (range k n))
+    ≡ take (2 * n) (drop (2 * k) body)
+unfolding stationWords
+stations-from body k zero h = refl
+stations-from body k (suc n) h =
+    let two : 2 * suc n ≡ suc (suc (2 * n)) = omega arith in
+    let next : suc (suc (2 * k)) ≡ 2 * suc k = omega arith in
+    let one : suc (2 * k) ≡ 2 * k + 1 = sym (add-one (2 * k)) in
+    let first = drop-cons body (2 * k) 0 (omega arith) in
+    let second = drop-cons body (suc (2 * k)) 0 (omega arith) in
+    let rest = stations-from body (suc k) n (omega arith) in
+    let a = getD body (2 * k) 0 in
+    sym
+    (ap (λ m. take m (drop (2 * k) body)) two
+    ∙ ap (take (suc (suc (2 * n)))) (first ∙ ap (λ l. a ∷ l) second)
+    ∙ (λ i. a ∷ getD body (one i) 0 ∷ take (2 * n) (drop (next i) body))
+    ∙ ap (λ l. a ∷ getD body (2 * k + 1) 0 ∷ l) (sym rest))
+
+stations-held : (body : List ℕ) (n : ℕ) → 2 * n ≤ length body → body ≡ put 0 (stationWords (stationsIn body n)) body
+unfolding stationsIn
+stations-held body n h =
+    let front = stations-from body 0 n (omega arith) in
+    let long = length-take-le (2 * n) body h in
+    sym (ap (λ l. put 0 l body) front
+    ∙ put-front (take (2 * n) body) body
+    ∙ ap (λ k. take (2 * n) body ++ drop k body) long
+    ∙ take-append-drop (2 * n) body)
+
+length-stationsIn : (body : List ℕ) (n : ℕ) → length (stationsIn body n) ≡ n
+unfolding stationsIn
+length-stationsIn body n = length-map (range 0 n) _ ∙ length-range 0 n
+
 -- ---- what the loop keeps
-pub record Kept (text body₀ starts₀ body starts : List ℕ) (p : Progress) (line from : ℕ) : Type 0 where
-  pub draft : Draft
-  pub is-progress : p ≡ progress draft
-  pub is-body : body ≡ put 0 (bodyOf draft) body₀
-  pub is-starts : starts ≡ put 0 (startWords 0 (draft .trips)) starts₀
-  pub is-read : readLines text ≡ readFrom draft line (pieces 10 (drop from text))
-  pub within : Within p
-  pub long-body : length body ≡ 8320
-  pub long-starts : length starts ≡ 257
-  pub body-room : length body₀ ≡ 8320
-  pub starts-room : length starts₀ ≡ 257
-  pub in-text : from ≤ length text
-  pub some-line : 1 ≤ line
-  pub few-lines : line ≤ from + 1
+pub record Kept (r : Rules) (n : ℕ) (text body₀ starts₀ body starts : List ℕ) (p : Progress) (line from : ℕ) : Type 0
+  where
+    pub draft : Draft
+    pub is-progress : p ≡ progress draft
+    pub is-body : body ≡ put 0 (bodyOf draft) body₀
+    pub is-starts : starts ≡ put 0 (startWords 0 (draft .trips)) starts₀
+    pub is-read : readAfter r body₀ n text ≡ readUnder r timeValue draft line (pieces 10 (drop from text))
+    pub within : Within p
+    pub long-body : length body ≡ 8320
+    pub long-starts : length starts ≡ 257
+    pub body-room : length body₀ ≡ 8320
+    pub starts-room : length starts₀ ≡ 257
+    pub in-text : from ≤ length text
+    pub some-line : 1 ≤ line
+    pub few-lines : line ≤ p .stations + p .stops + 1
 
-abbrev pub beginning : Progress
-beginning = record { stations = 0; trips = 0; stops = 0; begun = 0; station = 0; depart = 0 }
+abbrev pub beginning : (stations : ℕ) → Progress
+beginning n = record { stations = n; trips = 0; stops = 0; begun = 0; station = 0; depart = 0 }
 
-pub kept-at-first : (text body starts : List ℕ) → length body ≡ 8320 → length starts ≡ 257
-    → Kept text body (set starts 0 0) body (set starts 0 0) beginning 1 0
-unfolding readLines startWords stationWords stopWords
-kept-at-first text body starts h g =
+pub kept-at-first : (r : Rules) (n : ℕ) (text body starts : List ℕ) → n ≤ 64 → length body ≡ 8320
+    → length starts ≡ 257 → Kept r n text body (set starts 0 0) body (set starts 0 0) (beginning n) 1 0
+unfolding startWords stopWords
+kept-at-first r n text body starts few h g =
     record {
-      draft = blank;
-      is-progress = refl;
-      is-body = sym (put-none 0 body);
+      draft = opening (stationsIn body n);
+      is-progress = λ i.
+          record {
+            stations = sym (length-stationsIn body n) i;
+            trips = 0;
+            stops = 0;
+            begun = 0;
+            station = 0;
+            depart = 0;
+          };
+      is-body =
+          stations-held body n (omega arith)
+          ∙ ap (λ l. put 0 l body) (sym (append-nil (stationWords (stationsIn body n))));
       is-starts = put-one 0 starts 0 (omega arith) ∙ sym (put-over 0 0 [] starts);
       is-read = refl;
-      within = record { stations = omega arith; trips = omega arith; stops = omega arith; begun = omega arith };
+      within = record { stations = few; trips = omega arith; stops = omega arith; begun = omega arith };
       long-body = h;
       long-starts = simp length-set g;
       body-room = h;
@@ -118,53 +174,60 @@ abbrev pub lineAt : List ℕ → ℕ → ℕ → Line
 lineAt text from end = shapeOf (take (end - from) (drop from text))
 
 module _
+    (r : Rules)
+    (stations : ℕ)
     (text body₀ starts₀ body starts : List ℕ)
     (p : Progress)
     (line from : ℕ)
-    (k : Kept text body₀ starts₀ body starts p line from)
+    (k : Kept r stations text body₀ starts₀ body starts p line from)
     (end : ℕ)
     (ends : end ≡ from + pieceLength 10 (drop from text))
     (in-text : end ≤ length text)
   where
     -- ---- behind the last line end
     pub rest-refused : end ≡ length text → (from ≡ length text → ⊥) → (b s b₀ s₀ : List ℕ)
-        → LinesRead (readLines text) (LinesRefused 2 line) b s b₀ s₀
+        → LinesRead r (readAfter r body₀ stations text) (LinesRefused 2 line) b s b₀ s₀
     rest-refused e n b s b₀ s₀ =
         let some : length (take (end - from) (drop from text)) ≡ 0 → ⊥ =
         (λ z. n (omega (arith, length-take (end - from) (drop from text), length-drop from text, k .in-text))) in
-        let is : readLines text ≡ Refused 2 line =
+        let is : readAfter r body₀ stations text ≡ Refused 2 line =
         k .is-read
-        ∙ ap (readFrom (k .draft) line) (last-from 10 text from end ends (k .in-text) e)
-        ∙ read-rest (k .draft) line (take (end - from) (drop from text)) some in
-        subst (λ o. LinesRead o (LinesRefused 2 line) b s b₀ s₀) (sym is) refl
+        ∙ ap (readUnder r timeValue (k .draft) line) (last-from 10 text from end ends (k .in-text) e)
+        ∙ read-rest r (k .draft) line (take (end - from) (drop from text)) some in
+        subst (λ o. LinesRead r o (LinesRefused 2 line) b s b₀ s₀) (sym is) refl
 
-    ends-here : end ≡ length text → from ≡ length text → readLines text ≡ ended (k .draft) line
+    ends-here : end ≡ length text → from ≡ length text → readAfter r body₀ stations text ≡ ended r (k .draft) line
     ends-here e n =
         let none : length (take (end - from) (drop from text)) ≡ 0 =
         omega (arith, length-take (end - from) (drop from text), length-drop from text) in
         k .is-read
-        ∙ ap (readFrom (k .draft) line) (last-from 10 text from end ends (k .in-text) e)
-        ∙ read-end (k .draft) line (take (end - from) (drop from text)) none
+        ∙ ap (readUnder r timeValue (k .draft) line) (last-from 10 text from end ends (k .in-text) e)
+        ∙ read-end r (k .draft) line (take (end - from) (drop from text)) none
 
     -- ---- the end of the text, where the array of starts began as `set old 0 0`
-    module _ (old : List ℕ) (began : starts₀ ≡ set old 0 0) (r : Lines) (answers : r ≡ endOf p line)
+    module _ (old : List ℕ) (began : starts₀ ≡ set old 0 0) (a : Lines) (answers : a ≡ endOf r p line)
         (e : end ≡ length text) (n : from ≡ length text) where
       some : Bool
-      some = leb 1 (length ((k .draft) .stations)) && eqb (length ((k .draft) .begun)) 0
+      some = complete r (k .draft)
 
-      as-lines : r ≡ cond some (LinesAccepted p (line - 1)) (LinesRefused 7 line)
-      unfolding endOf some
+      as-lines : a ≡ cond some (LinesAccepted p (line - 1)) (LinesRefused 7 line)
+      unfolding endOf isThere some
       as-lines =
           answers
           ∙ ap
           (λ (x : Progress).
-          cond (leb 1 (x .stations) && eqb (x .begun) 0) (LinesAccepted p (line - 1)) (LinesRefused 7 line))
+          cond (isThere r x && eqb (x .begun) 0) (LinesAccepted p (line - 1)) (LinesRefused 7 line))
           (k .is-progress)
 
       whole : Timetable
-      whole = record { stations = (k .draft) .stations; trips = (k .draft) .trips }
+      whole =
+          record {
+            stations = (k .draft) .stations;
+            numbers = numbersUnder r ((k .draft) .trips);
+            trips = (k .draft) .trips;
+          }
 
-      as-read : readLines text ≡ cond some (Accepted whole (line - 1)) (Refused 7 line)
+      as-read : readAfter r body₀ stations text ≡ cond some (Accepted whole (line - 1)) (Refused 7 line)
       unfolding ended some whole
       as-read = ends-here e n
 
@@ -177,13 +240,13 @@ module _
           k .is-starts ∙ ap (put 0 marks) began ∙ over
 
       ended-well : some ≡ true
-          → LinesRead (Accepted whole (line - 1)) (LinesAccepted p (line - 1)) body starts body₀ old
+          → LinesRead r (Accepted whole (line - 1)) (LinesAccepted p (line - 1)) body starts body₀ old
       unfolding some whole
       ended-well t =
           let none : (k .draft) .begun ≡ [] =
           no-length ((k .draft) .begun)
           (eqb-true (length ((k .draft) .begun)) 0
-          (and-right (leb 1 (length ((k .draft) .stations))) (eqb (length ((k .draft) .begun)) 0) t)) in
+          (and-right (cond (r .extra) _ _) (eqb (length ((k .draft) .begun)) 0) t)) in
           let closed : k .draft ≡ record {
             stations = (k .draft) .stations;
             trips = (k .draft) .trips;
@@ -197,89 +260,92 @@ module _
             subst Within is (k .within),
             k .is-body ∙ ap (λ (d : Draft). put 0 (bodyOf d) body₀) closed ∙ rw append-nil,
             ended-starts,
+            refl,
           )
 
-      pub lines-end : LinesRead (readLines text) r body starts body₀ old
+      pub lines-end : LinesRead r (readAfter r body₀ stations text) a body starts body₀ old
       lines-end =
           rw (as-lines)
-          (subst (λ o. LinesRead o (cond some (LinesAccepted p (line - 1)) (LinesRefused 7 line)) body starts body₀ old)
+          (subst (λ o. LinesRead r o (cond some (LinesAccepted p (line - 1)) (LinesRefused 7 line))
+          body starts body₀ old)
           (sym as-read)
           (by-test some ended-well))
         where
           by-test : (t : Bool)
-              → (t ≡ true → LinesRead (Accepted whole (line - 1)) (LinesAccepted p (line - 1)) body starts body₀ old)
-              → LinesRead (cond t (Accepted whole (line - 1)) (Refused 7 line))
+              → (t ≡ true → LinesRead r (Accepted whole (line - 1)) (LinesAccepted p (line - 1)) body starts body₀ old)
+              → LinesRead r (cond t (Accepted whole (line - 1)) (Refused 7 line))
               (cond t (LinesAccepted p (line - 1)) (LinesRefused 7 line)) body starts body₀ old
           by-test true well = well refl
           by-test false well = refl
 
     -- ---- a line
     module _
-        (r : Next)
+        (a : Next)
         (body′ starts′ : List ℕ)
-        (answers : r ≡ nextOf p (lineAt text from end))
-        (body-after : body′ ≡ bodyAfter p (lineAt text from end) body)
-        (starts-after : starts′ ≡ startsAfter p (lineAt text from end) starts)
+        (answers : a ≡ nextOf r p (lineAt text from end))
+        (body-after : body′ ≡ bodyAfter r p (lineAt text from end) body)
+        (starts-after : starts′ ≡ startsAfter r p (lineAt text from end) starts)
         (more : end ≡ length text → ⊥)
       where
         number : ℕ
-        number = lineNumberAt (progress (k .draft)) (lineAt text from end)
+        number = lineNumberAt r (progress (k .draft)) (lineAt text from end)
 
-        read-on : readLines text
+        read-on : readAfter r body₀ stations text
             ≡ cond (eqb number 0)
-            (readFrom (withLine (k .draft) (lineAt text from end)) (line + 1)
+            (readUnder r timeValue (withLine (k .draft) (lineAt text from end)) (line + 1)
             (pieces 10 (drop (end + 1) text)))
             (Refused number line)
         unfolding number
         read-on =
             k .is-read
-            ∙ ap (readFrom (k .draft) line) (first-from 10 text from end ends (k .in-text) in-text more)
-            ∙ read-line (k .draft) line (take (end - from) (drop from text)) (drop (end + 1) text)
+            ∙ ap (readUnder r timeValue (k .draft) line) (first-from 10 text from end ends (k .in-text) in-text more)
+            ∙ read-line r (k .draft) line (take (end - from) (drop from text)) (drop (end + 1) text)
 
-        answer : r ≡ cond (eqb number 0) (On (advance p (lineAt text from end))) (NextRefused number)
+        answer : a ≡ cond (eqb number 0) (On (advance p (lineAt text from end))) (NextRefused number)
         unfolding nextOf number
         answer = answers ∙ rw (k .is-progress)
 
         -- the line has its yes where the answer is to go on
-        has-yes : (q : Progress) → r ≡ On q → number ≡ 0
+        has-yes : (q : Progress) → a ≡ On q → number ≡ 0
         has-yes q e = elim (ℕ-discrete number 0) [ yes z ↦ z | no n ↦ absurd (apart n) ]
           where
             apart : (number ≡ 0 → ⊥) → ⊥
             apart n =
-                let refused : r ≡ NextRefused number = answer ∙ simp (ne-eqb number 0 n) in
+                let refused : a ≡ NextRefused number = answer ∙ simp (ne-eqb number 0 n) in
                 let z : _≡_ {A = ℕ} 0 1 = cc in
                 omega arith
 
-        advances : (q : Progress) → r ≡ On q → q ≡ advance p (lineAt text from end)
+        advances : (q : Progress) → a ≡ On q → q ≡ advance p (lineAt text from end)
         advances q e =
-            let on : r ≡ On (advance p (lineAt text from end)) = answer ∙ simp (eq-eqb number 0 (has-yes q e)) in
+            let on : a ≡ On (advance p (lineAt text from end)) = answer ∙ simp (eq-eqb number 0 (has-yes q e)) in
             cc
 
         -- the line is refused with the answer's number
-        has-no : (m : ℕ) → r ≡ NextRefused m → (number ≡ 0 → ⊥)
+        has-no : (m : ℕ) → a ≡ NextRefused m → (number ≡ 0 → ⊥)
         has-no m e z =
-            let on : r ≡ On (advance p (lineAt text from end)) = answer ∙ simp (eq-eqb number 0 z) in
+            let on : a ≡ On (advance p (lineAt text from end)) = answer ∙ simp (eq-eqb number 0 z) in
             let z : _≡_ {A = ℕ} 0 1 = cc in
             omega arith
 
-        is-number : (m : ℕ) → r ≡ NextRefused m → m ≡ number
+        is-number : (m : ℕ) → a ≡ NextRefused m → m ≡ number
         is-number m e =
-            let refused : r ≡ NextRefused number = answer ∙ simp (ne-eqb number 0 (has-no m e)) in
+            let refused : a ≡ NextRefused number = answer ∙ simp (ne-eqb number 0 (has-no m e)) in
             cc
 
-        pub line-refused : (m : ℕ) → r ≡ NextRefused m → (b s b₀ s₀ : List ℕ)
-            → LinesRead (readLines text) (LinesRefused m line) b s b₀ s₀
+        pub line-refused : (m : ℕ) → a ≡ NextRefused m → (b s b₀ s₀ : List ℕ)
+            → LinesRead r (readAfter r body₀ stations text) (LinesRefused m line) b s b₀ s₀
         line-refused m e b s b₀ s₀ =
-            let is : readLines text ≡ Refused number line = read-on ∙ simp (ne-eqb number 0 (has-no m e)) in
-            rw (is-number m e) (subst (λ o. LinesRead o (LinesRefused number line) b s b₀ s₀) (sym is) refl)
+            let is : readAfter r body₀ stations text ≡ Refused number line =
+            read-on ∙ simp (ne-eqb number 0 (has-no m e)) in
+            rw (is-number m e) (subst (λ o. LinesRead r o (LinesRefused number line) b s b₀ s₀) (sym is) refl)
 
-        module _ (q : Progress) (on : r ≡ On q) where
-          accepted : lineNumberAt (progress (k .draft)) (lineAt text from end) ≡ 0
+        module _ (q : Progress) (on : a ≡ On q) where
+          accepted : lineNumberAt r (progress (k .draft)) (lineAt text from end) ≡ 0
           unfolding number
           accepted = has-yes q on
 
-          accepted-here : lineNumberAt p (lineAt text from end) ≡ 0
-          accepted-here = ap (λ x. lineNumberAt x (lineAt text from end)) (k .is-progress) ∙ accepted
+          accepted-here : lineNumberAt r p (lineAt text from end) ≡ 0
+          accepted-here = ap (λ x. lineNumberAt r x (lineAt text from end)) (k .is-progress) ∙ accepted
 
           next : Draft
           next = withLine (k .draft) (lineAt text from end)
@@ -293,7 +359,7 @@ module _
 
           next-within : Within q
           next-within =
-              subst Within (sym (advances q on)) (within-grows p (lineAt text from end) (k .within) accepted-here)
+              subst Within (sym (advances q on)) (within-grows r p (lineAt text from end) (k .within) accepted-here)
 
           within-next : Within (progress next)
           within-next = subst Within next-progress next-within
@@ -311,8 +377,8 @@ module _
               let place : 2 * p .stations + 4 * p .stops ≡ 0 + length (bodyOf (k .draft)) =
               ap (λ (x : Progress). 2 * x .stations + 4 * x .stops) (k .is-progress) ∙ omega arith in
               body-after
-              ∙ simp (eq-eqb (lineNumberAt p (lineAt text from end)) 0 accepted-here)
-              (rw (k .is-body, place, body-grows (k .draft) (lineAt text from end) accepted)
+              ∙ simp (eq-eqb (lineNumberAt r p (lineAt text from end)) 0 accepted-here)
+              (rw (k .is-body, place, body-grows r (k .draft) (lineAt text from end) accepted)
               (put-append 0 (length (bodyOf (k .draft))) (bodyOf (k .draft)) (lineWords (lineAt text from end)) body₀
               refl (omega (arith, k .within, k .body-room))))
 
@@ -320,11 +386,16 @@ module _
           unfolding startsAfter next
           next-starts =
               starts-after
-              ∙ simp (eq-eqb (lineNumberAt p (lineAt text from end)) 0 accepted-here)
+              ∙ simp (eq-eqb (lineNumberAt r p (lineAt text from end)) 0 accepted-here)
               (ap (λ x. startsWith x (lineAt text from end) starts) (k .is-progress)
-              ∙ starts-grow (k .draft) starts starts₀ (k .is-starts) (lineAt text from end) accepted (k .starts-room))
+              ∙ starts-grow (k .draft) starts starts₀ (k .is-starts) r (lineAt text from end) accepted (k .starts-room))
 
-          pub line-kept : Kept text body₀ starts₀ body′ starts′ q (line + 1) (end + 1)
+          few-after : line + 1 ≤ q .stations + q .stops + 1
+          few-after =
+              subst (λ (x : Progress). line + 1 ≤ x .stations + x .stops + 1) (sym (advances q on))
+              (lines-grow r p (lineAt text from end) line accepted-here (k .few-lines))
+
+          pub line-kept : Kept r stations text body₀ starts₀ body′ starts′ q (line + 1) (end + 1)
           unfolding number next
           line-kept =
               record {
@@ -343,5 +414,5 @@ module _
                 starts-room = k .starts-room;
                 in-text = omega arith;
                 some-line = omega arith;
-                few-lines = omega (arith, ends, k .few-lines);
+                few-lines = few-after;
               }

@@ -7,6 +7,8 @@ use native.Mathlib.Omega.{arith}
 use borrow.Author.Tests.{le-leb, lt-leb}
 use lib.Dec.{leb}
 use lib.ListN.{length}
+use Rattle.lists.specs.Lists.{range}
+use Rattle.lists.specs.Ranges.{length-range}
 use Rattle.words.specs.Put.{put}
 use Rattle.timetable.specs.Timetable.{Timetable, stopsOf}
 use Rattle.timetable.specs.Words.{startWords, words, joined}
@@ -24,7 +26,9 @@ use Rattle.reading.specs.Reading.{
   outcomeValues,
   readValues,
 }
-use Rattle.reading.specs.Model.{Within, bodyWords, progressOf, LinesRead}
+use Rattle.reading.specs.Draft.{textRules}
+use Rattle.reading.specs.Model.{Within, stationsIn, readAfter, bodyWords, progressOf, LinesRead}
+use Rattle.reading.proofs.CountLaws.{range-front}
 use Rattle.reading.specs.declared.Progress.{Progress}
 use Rattle.reading.specs.declared.Lines.{Lines}
 use Rattle.reading.specs.declared.Lines.the-variants.{Accepted as LinesAccepted, Refused as LinesRefused}
@@ -80,18 +84,18 @@ module _ (text old : List ℕ) where
       long-words = simp (le-leb 16384 (length old) room, refused-long)
 
     module _ (fits : length text ≤ 65536) (r : Lines) (body starts body₀ starts₀ : List ℕ)
-        (lines : LinesRead (readLines text) r body starts body₀ starts₀) where
-      reads-lines : reading text ≡ readLines text
-      unfolding reading
+        (lines : LinesRead textRules (readAfter textRules body₀ 0 text) r body starts body₀ starts₀) where
+      reads-lines : reading text ≡ readAfter textRules body₀ 0 text
+      unfolding reading readLines stationsIn
       reads-lines = simp (le-leb (length text) 65536 fits)
 
       module _ (number line : ℕ) (no : r ≡ LinesRefused number line) where
-        is-refused : (o : Outcome) → LinesRead o r body starts body₀ starts₀ → o ≡ Refused number line
+        is-refused : (o : Outcome) → LinesRead textRules o r body starts body₀ starts₀ → o ≡ Refused number line
         is-refused (Accepted t n) l = let e = l .0 in let z : _≡_ {A = ℕ} 0 1 = cc in absurd (omega arith)
         is-refused (Refused k m) l = cc
 
         refused-lines : reading text ≡ Refused number line
-        refused-lines = reads-lines ∙ is-refused (readLines text) lines
+        refused-lines = reads-lines ∙ is-refused (readAfter textRules body₀ 0 text) lines
 
         pub refused-reply : ReplyRefused number line ≡ readReply text (length old)
         unfolding readReply
@@ -108,13 +112,15 @@ module _ (text old : List ℕ) where
         -- the timetable that was read, and what is kept of it
         record Held : Type 0 where
           timetable : Timetable
-          accepted : readLines text ≡ Accepted timetable n
+          accepted : readAfter textRules body₀ 0 text ≡ Accepted timetable n
           is-progress : p ≡ progressOf timetable
           within : Within (progressOf timetable)
           is-body : body ≡ put 0 (bodyWords timetable) body₀
           is-starts : starts ≡ put 0 (startWords 0 (timetable .trips)) starts₀
+          is-numbered : timetable .numbers ≡ range 1 (length (timetable .trips))
 
-        is-held : (o : Outcome) → readLines text ≡ o → LinesRead o r body starts body₀ starts₀ → Held
+        is-held : (o : Outcome) → readAfter textRules body₀ 0 text ≡ o
+            → LinesRead textRules o r body starts body₀ starts₀ → Held
         is-held (Accepted t m) e l =
             let f = l .0 in
             let same : m ≡ n = cc in
@@ -125,11 +131,12 @@ module _ (text old : List ℕ) where
               within = l .1;
               is-body = l .2;
               is-starts = l .3;
+              is-numbered = l .4;
             }
         is-held (Refused k m) e l = let z : _≡_ {A = ℕ} 0 1 = cc in absurd (omega arith)
 
         held : Held
-        held = is-held (readLines text) refl lines
+        held = is-held (readAfter textRules body₀ 0 text) refl lines
 
         is-within : Within p
         is-within = subst Within (sym (held .is-progress)) (held .within)
@@ -147,21 +154,33 @@ module _ (text old : List ℕ) where
         unfolding readReply
         done-reply = simp (le-leb 16384 (length old) room, reads-lines, held .accepted)
 
-        table-is : joined (p .stations) (p .trips) (p .stops) body starts ≡ words (held .timetable)
-        table-is =
-            let t = held .timetable in
-            let e = held .is-progress in
-            let stops : (progressOf t) .stops ≡ length (stopsOf (t .trips)) = simp append-nil in
-            joined-words t (p .stations) (p .trips) (p .stops) (ap (λ (x : Progress). x .stations) e)
-            (ap (λ (x : Progress). x .trips) e) (ap (λ (x : Progress). x .stops) e ∙ stops) body starts body₀ starts₀
-            (held .is-body) (held .is-starts)
+        module _ (numbers : List ℕ) (counted : numbers ≡ range 1 256) where
+          -- the numbers are the first of 1, 2, 3..
+          numbers-are : numbers ≡ put 0 (held .timetable .numbers) numbers
+          numbers-are =
+              let t = held .timetable in
+              let few : length (t .trips) ≤ 256 = omega (arith, held .within .trips) in
+              counted
+              ∙ sym (range-front 1 (length (t .trips)) 256 few)
+              ∙ (λ i. put 0 (sym (held .is-numbered) i) (sym counted i))
+
+          table-is : joined (p .stations) (p .trips) (p .stops) body starts numbers ≡ words (held .timetable)
+          table-is =
+              let t = held .timetable in
+              let e = held .is-progress in
+              let stops : (progressOf t) .stops ≡ length (stopsOf (t .trips)) = simp append-nil in
+              joined-words t (p .stations) (p .trips) (p .stops) (ap (λ (x : Progress). x .stations) e)
+              (ap (λ (x : Progress). x .trips) e) (ap (λ (x : Progress). x .stops) e ∙ stops) body starts numbers body₀
+              starts₀ numbers (held .is-body) (held .is-starts) numbers-are
+              (ap length (held .is-numbered) ∙ length-range 1 (length (t .trips)))
+
+          pub done-words : (table : List ℕ)
+              → table ≡ put 0 (joined (p .stations) (p .trips) (p .stops) body starts numbers) old
+              → table ≡ readWords text old
+          unfolding readWords
+          done-words table e =
+              simp (le-leb 16384 (length old) room, reads-lines, held .accepted)
+              (e ∙ ap (λ w. put 0 w old) table-is)
 
         pub done-values : valuesOf (ReplyDone n) ≡ readValues text (length old)
         done-values = values-told (ReplyDone n) done-reply
-
-        pub done-words : (table : List ℕ)
-            → table ≡ put 0 (joined (p .stations) (p .trips) (p .stops) body starts) old → table ≡ readWords text old
-        unfolding readWords
-        done-words table e =
-            simp (le-leb 16384 (length old) room, reads-lines, held .accepted)
-            (e ∙ ap (λ w. put 0 w old) table-is)

@@ -1,108 +1,117 @@
 -- What taking a line answers and leaves in the arrays, where its questions came to the number n.
 use mathlib.Core.Path.{_≡_, refl, sym, ap, _∙_}
-use mathlib.Core.Bool.{Bool, true, false, cond}
+use mathlib.Core.Bool.{Bool, true, false, cond, not}
 use mathlib.Core.List.{List}
 use Prim.Native.Nat.{ℕ, _+_, _-_, _*_}
-use native.Mathlib.Omega.{arith}
-use borrow.Author.Tests.{eq-eqb, ne-eqb, le-leb}
+use borrow.Author.Tests.{eq-eqb, ne-eqb, not-true, not-false}
 use lib.Dec.{leb, eqb}
 use Rattle.words.specs.Put.{put}
 use Rattle.text.specs.Shape.{shapeOf}
 use Rattle.text.specs.declared.Line.{Line}
 use Rattle.text.specs.declared.Line.the-variants.{Station, Shapeless}
 use Rattle.text.specs.declared.StationLine.{StationLine}
-use Rattle.reading.specs.Progress.{lineNumberAt}
+use Rattle.reading.specs.Draft.{Rules}
+use Rattle.reading.specs.Progress.{lineNumberAt, isThere}
 use Rattle.reading.specs.Model.{advance, nextOf, lineWords, bodyAfter, startsWith, startsAfter, endOf}
 use Rattle.reading.specs.declared.Progress.{Progress}
 use Rattle.reading.specs.declared.Lines.the-variants.{Accepted as LinesAccepted, Refused as LinesRefused}
 use Rattle.reading.specs.declared.Next.{Next}
 use Rattle.reading.specs.declared.Next.the-variants.{On, Refused}
 
-module _ (p : Progress) (line : Line) (n : ℕ) (is : n ≡ lineNumberAt p line) where
+module _ (r : Rules) (p : Progress) (line : Line) (n : ℕ) (is : n ≡ lineNumberAt r p line) where
   module _ (some : n ≡ 0 → ⊥) where
-    pub refused-next : Refused n ≡ nextOf p line
+    pub refused-next : Refused n ≡ nextOf r p line
     unfolding nextOf
     refused-next = simp (← is, ne-eqb n 0 some)
 
-    pub refused-body : (old : List ℕ) → old ≡ bodyAfter p line old
+    pub refused-body : (old : List ℕ) → old ≡ bodyAfter r p line old
     unfolding bodyAfter
     refused-body old = simp (← is, ne-eqb n 0 some)
 
-    pub refused-starts : (old : List ℕ) → old ≡ startsAfter p line old
+    pub refused-starts : (old : List ℕ) → old ≡ startsAfter r p line old
     unfolding startsAfter
     refused-starts old = simp (← is, ne-eqb n 0 some)
 
   module _ (none : n ≡ 0) where
-    pub taken-next : (q : Progress) → q ≡ advance p line → On q ≡ nextOf p line
+    pub taken-next : (q : Progress) → q ≡ advance p line → On q ≡ nextOf r p line
     unfolding nextOf
     taken-next q e = simp (← is, eq-eqb n 0 none, e)
 
     pub taken-body : (body old : List ℕ) → body ≡ put (2 * p .stations + 4 * p .stops) (lineWords line) old
-        → body ≡ bodyAfter p line old
+        → body ≡ bodyAfter r p line old
     unfolding bodyAfter
     taken-body body old e = simp (← is, eq-eqb n 0 none) e
 
-    pub taken-starts : (starts old : List ℕ) → starts ≡ startsWith p line old → starts ≡ startsAfter p line old
+    pub taken-starts : (starts old : List ℕ) → starts ≡ startsWith p line old → starts ≡ startsAfter r p line old
     unfolding startsAfter
     taken-starts starts old e = simp (← is, eq-eqb n 0 none) e
 
 -- ---- a line of the text, by its shape
-module _ (p : Progress) (text : List ℕ) (found shape : Line) (is : found ≡ shapeOf text) (matched : found ≡ shape) where
+module _ (r : Rules) (p : Progress) (text : List ℕ) (found shape : Line) (is : found ≡ shapeOf text)
+    (matched : found ≡ shape) where
   shaped : shape ≡ shapeOf text
   shaped = sym matched ∙ is
 
-  pub shape-next : (r : Next) → r ≡ nextOf p shape → r ≡ nextOf p (shapeOf text)
-  shape-next r e = e ∙ ap (nextOf p) shaped
+  pub shape-next : (a : Next) → a ≡ nextOf r p shape → a ≡ nextOf r p (shapeOf text)
+  shape-next a e = e ∙ ap (nextOf r p) shaped
 
-  pub shape-body : (body old : List ℕ) → body ≡ bodyAfter p shape old → body ≡ bodyAfter p (shapeOf text) old
-  shape-body body old e = e ∙ ap (λ s. bodyAfter p s old) shaped
+  pub shape-body : (body old : List ℕ) → body ≡ bodyAfter r p shape old → body ≡ bodyAfter r p (shapeOf text) old
+  shape-body body old e = e ∙ ap (λ s. bodyAfter r p s old) shaped
 
-  pub shape-starts : (starts old : List ℕ) → starts ≡ startsAfter p shape old
-      → starts ≡ startsAfter p (shapeOf text) old
-  shape-starts starts old e = e ∙ ap (λ s. startsAfter p s old) shaped
+  pub shape-starts : (starts old : List ℕ) → starts ≡ startsAfter r p shape old
+      → starts ≡ startsAfter r p (shapeOf text) old
+  shape-starts starts old e = e ∙ ap (λ s. startsAfter r p s old) shaped
 
 -- a station line leaves the starts as they are
-station-starts : (p : Progress) (l : StationLine) (old : List ℕ) → old ≡ startsAfter p (Station l) old
+station-starts : (r : Rules) (p : Progress) (l : StationLine) (old : List ℕ) → old ≡ startsAfter r p (Station l) old
 unfolding startsAfter
-station-starts p l old = by-test (eqb (lineNumberAt p (Station l)) 0)
+station-starts r p l old = by-test (eqb (lineNumberAt r p (Station l)) 0)
   where
     by-test : (t : Bool) → old ≡ cond t old old
     by-test true = refl
     by-test false = refl
 
-pub line-station-starts : (p : Progress) (text : List ℕ) (found : Line) (l : StationLine) → found ≡ shapeOf text
-    → found ≡ Station l → (old : List ℕ) → old ≡ startsAfter p (shapeOf text) old
-line-station-starts p text found l is matched old =
-    shape-starts p text found (Station l) is matched old old (station-starts p l old)
+pub line-station-starts : (r : Rules) (p : Progress) (text : List ℕ) (found : Line) (l : StationLine)
+    → found ≡ shapeOf text
+    → found ≡ Station l → (old : List ℕ) → old ≡ startsAfter r p (shapeOf text) old
+line-station-starts r p text found l is matched old =
+    shape-starts r p text found (Station l) is matched old old (station-starts r p l old)
 
 -- a line of no shape
-module _ (p : Progress) (text : List ℕ) (found : Line) (is : found ≡ shapeOf text) (none : found ≡ Shapeless) where
-  pub shapeless-next : Refused 2 ≡ nextOf p (shapeOf text)
+module _ (r : Rules) (p : Progress) (text : List ℕ) (found : Line) (is : found ≡ shapeOf text)
+    (none : found ≡ Shapeless) where
+  pub shapeless-next : Refused 2 ≡ nextOf r p (shapeOf text)
   unfolding nextOf
   shapeless-next = rw (← is, none)
 
-  pub shapeless-body : (old : List ℕ) → old ≡ bodyAfter p (shapeOf text) old
+  pub shapeless-body : (old : List ℕ) → old ≡ bodyAfter r p (shapeOf text) old
   unfolding bodyAfter
   shapeless-body old = rw (← is, none)
 
-  pub shapeless-starts : (old : List ℕ) → old ≡ startsAfter p (shapeOf text) old
+  pub shapeless-starts : (old : List ℕ) → old ≡ startsAfter r p (shapeOf text) old
   unfolding startsAfter
   shapeless-starts old = rw (← is, none)
 
 -- ---- question 7
-module _ (p : Progress) (line : ℕ) where
-  pub no-stations : p .stations ≡ 0 → LinesRefused 7 line ≡ endOf p line
-  unfolding endOf
-  no-stations e = simp e
+module _ (r : Rules) (p : Progress) where
+  pub extra-there : r .extra ≡ true → eqb (p .trips) 1 ≡ isThere r p
+  unfolding isThere
+  extra-there e = rw e
 
-  module _ (some : p .stations ≡ 0 → ⊥) where
-    listed : leb 1 (p .stations) ≡ true
-    listed = omega (arith, le-leb)
+  pub station-there : r .extra ≡ false → leb 1 (p .stations) ≡ isThere r p
+  unfolding isThere
+  station-there e = rw e
 
-    pub not-ended : (p .begun ≡ 0 → ⊥) → LinesRefused 7 line ≡ endOf p line
+  module _ (line : ℕ) (t : Bool) (is : t ≡ isThere r p) where
+    pub not-there : not t ≡ true → LinesRefused 7 line ≡ endOf r p line
     unfolding endOf
-    not-ended e = simp (listed, ne-eqb (p .begun) 0 e)
+    not-there e = simp (← is, not-true t e)
 
-    pub all-ended : p .begun ≡ 0 → LinesAccepted p (line - 1) ≡ endOf p line
-    unfolding endOf
-    all-ended e = simp (listed, eq-eqb (p .begun) 0 e)
+    module _ (there : not t ≡ false) where
+      pub not-ended : (p .begun ≡ 0 → ⊥) → LinesRefused 7 line ≡ endOf r p line
+      unfolding endOf
+      not-ended e = simp (← is, not-false t there, ne-eqb (p .begun) 0 e)
+
+      pub all-ended : p .begun ≡ 0 → LinesAccepted p (line - 1) ≡ endOf r p line
+      unfolding endOf
+      all-ended e = simp (← is, not-false t there, eq-eqb (p .begun) 0 e)

@@ -1,6 +1,6 @@
 -- What a line is that has its yes to all questions.
 use mathlib.Core.Path.{_≡_, sym, _∙_}
-use mathlib.Core.Bool.{Bool, true, _&&_, _||_}
+use mathlib.Core.Bool.{Bool, true, false, cond, _&&_, _||_}
 use mathlib.Core.List.{List, [], _∷_}
 use Prim.Native.Nat.{ℕ, _+_, _*_, _≤_, _<_}
 use native.Mathlib.Omega.{arith}
@@ -10,10 +10,11 @@ use lib.Dec.{leb, ltb, eqb}
 use Rattle.questions.specs.Question.{ask, firstNo, yes-here, yes-later}
 use Rattle.lists.specs.Tests.{and-left, and-right}
 use Rattle.text.specs.Range.{inRange, minutes-bound, points-bound, time-bound, ride-bound}
+use Rattle.text.specs.declared.Line.the-variants.{Station as StationIn, Stop as StopIn}
 use Rattle.text.specs.declared.StationLine.{StationLine}
 use Rattle.text.specs.declared.StopLine.{StopLine}
 use Rattle.timetable.specs.Timetable.{lastMinute}
-use Rattle.reading.specs.Draft.{stationInRange, stopInRange}
+use Rattle.reading.specs.Draft.{Rules, stationInRange, stopInRange, extraStation, extraInRange}
 use Rattle.reading.specs.Progress.{
   stationNumberAt,
   placeOfStation,
@@ -22,6 +23,10 @@ use Rattle.reading.specs.Progress.{
   placeOfStop,
   roomForStop,
   stopFitsAt,
+  placeOfExtra,
+  roomForExtra,
+  extraStopAt,
+  lineNumberAt,
 }
 use Rattle.reading.specs.Model.{Within}
 use Rattle.reading.specs.declared.Progress.{Progress}
@@ -53,10 +58,10 @@ pub record StationYes (p : Progress) (l : StationLine) : Type 0 where
   pub turn : l .number ≡ p .stations + 1
   pub room : p .stations < 64
 
-pub station-yes : (p : Progress) (l : StationLine) (n : ℕ) → n ≡ stationNumberAt p l → n ≡ 0 → StationYes p l
+text-station-yes : (p : Progress) (l : StationLine) → stationNumberAt p l ≡ 0 → StationYes p l
 unfolding stationNumberAt
-station-yes p l n is e =
-    let all = three-yes (stationInRange l) (placeOfStation p l) (roomForStation p) (sym is ∙ e) in
+text-station-yes p l e =
+    let all = three-yes (stationInRange l) (placeOfStation p l) (roomForStation p) e in
     let points = points-bound (l .points) (and-right (inRange 1 (l .minutes)) (inRange 2 (l .points)) (all .0)) in
     record {
       minutes = minutes-bound (l .minutes) (and-left (inRange 1 (l .minutes)) (inRange 2 (l .points)) (all .0));
@@ -70,23 +75,36 @@ station-yes p l n is e =
       room = ltb-true (p .stations) 64 (all .2);
     }
 
+-- no station line of an extra trip has it
+never-astray : (a : Bool) → firstNo (ask 3 a ∷ ask 4 false ∷ []) ≡ 0 → ⊥
+never-astray true e = omega arith
+never-astray false e = omega arith
+
+pub station-yes : (r : Rules) (p : Progress) (l : StationLine) (n : ℕ) → n ≡ lineNumberAt r p (StationIn l) → n ≡ 0
+    → StationYes p l
+unfolding extraStation
+station-yes r p l n is e = by-kind (r .extra) (sym is ∙ e)
+  where
+    by-kind : (b : Bool) → cond b (extraStation l) (stationNumberAt p l) ≡ 0 → StationYes p l
+    by-kind true f = absurd (never-astray (stationInRange l) f)
+    by-kind false f = text-station-yes p l f
+
 -- its words have room, and fit
-module _ (p : Progress) (l : StationLine) (n : ℕ) (is : n ≡ stationNumberAt p l) (e : n ≡ 0) where
-  pub station-room : (body : List ℕ) → length body ≡ 8320 → 2 * p .stations + 4 * p .stops + 2 ≤ length body
-  station-room body h = omega (arith, station-yes p l n is e)
+module _ (r : Rules) (p : Progress) (l : StationLine) (n : ℕ) (is : n ≡ lineNumberAt r p (StationIn l)) (e : n ≡ 0)
+  where
+    pub station-room : (body : List ℕ) → length body ≡ 8320 → 2 * p .stations + 4 * p .stops + 2 ≤ length body
+    station-room body h = omega (arith, station-yes r p l n is e)
 
-  pub minutes-word : l .minutes < 65536
-  minutes-word = omega (arith, station-yes p l n is e)
+    pub minutes-word : l .minutes < 65536
+    minutes-word = omega (arith, station-yes r p l n is e)
 
-  pub points-word : l .points < 65536
-  points-word = omega (arith, station-yes p l n is e)
+    pub points-word : l .points < 65536
+    points-word = omega (arith, station-yes r p l n is e)
 
 pub record StopYes (p : Progress) (l : StopLine) : Type 0 where
   pub arrive : l .arrive ≤ lastMinute
   pub depart : l .depart ≤ lastMinute
   pub points : l .points ≤ 100
-  pub trip : l .trip ≡ p .trips + 1
-  pub stop : l .stop ≡ p .begun + 1
   pub trips : p .trips < 256
   pub stops : p .stops < 2048
   pub station : l .station ≤ p .stations
@@ -98,49 +116,85 @@ stop-station p l e =
     leb-true (l .station) (p .stations)
     (and-right (leb 1 (l .station)) (leb (l .station) (p .stations)) (and-left _ (eqb (p .begun) 0 || _) e))
 
-pub stop-yes : (p : Progress) (l : StopLine) (n : ℕ) → n ≡ stopNumberAt p l → n ≡ 0 → StopYes p l
-unfolding stopNumberAt
-stop-yes p l n is e =
-    let all = four-yes (stopInRange l) (placeOfStop p l) (roomForStop p) (stopFitsAt p l) (sym is ∙ e) in
-    let times = and-left (inRange 3 (l .arrive) && inRange 3 (l .depart)) (inRange 4 (l .points)) (all .0) in
+-- the ranges of a stop line
+record Ranges (l : StopLine) : Type 0 where
+  arrive : l .arrive ≤ lastMinute
+  depart : l .depart ≤ lastMinute
+  points : l .points ≤ 100
+
+ranges : (l : StopLine) → stopInRange l ≡ true → Ranges l
+ranges l e =
+    let times = and-left (inRange 3 (l .arrive) && inRange 3 (l .depart)) (inRange 4 (l .points)) e in
     record {
       arrive = time-bound (l .arrive) (and-left (inRange 3 (l .arrive)) (inRange 3 (l .depart)) times);
       depart = time-bound (l .depart) (and-right (inRange 3 (l .arrive)) (inRange 3 (l .depart)) times);
       points =
           ride-bound (l .points)
-          (and-right (inRange 3 (l .arrive) && inRange 3 (l .depart)) (inRange 4 (l .points)) (all .0));
-      trip =
-          eqb-true (l .trip) (p .trips + 1)
-          (and-left (eqb (l .trip) (p .trips + 1)) (eqb (l .stop) (p .begun + 1)) (all .1));
-      stop =
-          eqb-true (l .stop) (p .begun + 1)
-          (and-right (eqb (l .trip) (p .trips + 1)) (eqb (l .stop) (p .begun + 1)) (all .1));
+          (and-right (inRange 3 (l .arrive) && inRange 3 (l .depart)) (inRange 4 (l .points)) e);
+    }
+
+text-stop-yes : (p : Progress) (l : StopLine) → stopNumberAt p l ≡ 0 → StopYes p l
+unfolding stopNumberAt
+text-stop-yes p l e =
+    let all = four-yes (stopInRange l) (placeOfStop p l) (roomForStop p) (stopFitsAt p l) e in
+    let in-range = ranges l (all .0) in
+    record {
+      arrive = in-range .arrive;
+      depart = in-range .depart;
+      points = in-range .points;
       trips = ltb-true (p .trips) 256 (and-left (ltb (p .trips) 256) (ltb (p .stops) 2048) (all .2));
       stops = ltb-true (p .stops) 2048 (and-right (ltb (p .trips) 256) (ltb (p .stops) 2048) (all .2));
       station = stop-station p l (all .3);
       fits = all .3;
     }
 
+extra-stop-yes : (r : Rules) (p : Progress) (l : StopLine) → extraStopAt r p l ≡ 0 → StopYes p l
+unfolding extraStopAt
+extra-stop-yes r p l e =
+    let all = four-yes (extraInRange l) (placeOfExtra r p l) (roomForExtra r p) (stopFitsAt p l) e in
+    let in-range = ranges l (and-right (leb 1 (l .trip)) (stopInRange l) (all .0)) in
+    let trips = ltb (r .trips + p .trips) 256 in
+    let stops = ltb (r .stops + p .stops) 2048 in
+    let few-trips = ltb-true (r .trips + p .trips) 256 (and-left trips stops (all .2)) in
+    let few-stops = ltb-true (r .stops + p .stops) 2048 (and-right trips stops (all .2)) in
+    record {
+      arrive = in-range .arrive;
+      depart = in-range .depart;
+      points = in-range .points;
+      trips = omega (arith, few-trips);
+      stops = omega (arith, few-stops);
+      station = stop-station p l (all .3);
+      fits = all .3;
+    }
+
+pub stop-yes : (r : Rules) (p : Progress) (l : StopLine) (n : ℕ) → n ≡ lineNumberAt r p (StopIn l) → n ≡ 0
+    → StopYes p l
+stop-yes r p l n is e = by-kind (r .extra) (sym is ∙ e)
+  where
+    by-kind : (b : Bool) → cond b (extraStopAt r p l) (stopNumberAt p l) ≡ 0 → StopYes p l
+    by-kind true f = extra-stop-yes r p l f
+    by-kind false f = text-stop-yes p l f
+
 -- its words have room, and fit
-module _ (p : Progress) (l : StopLine) (n : ℕ) (is : n ≡ stopNumberAt p l) (e : n ≡ 0) where
+module _ (r : Rules) (p : Progress) (l : StopLine) (n : ℕ) (is : n ≡ lineNumberAt r p (StopIn l)) (e : n ≡ 0) where
   pub arrive-word : l .arrive < 65536
-  arrive-word = omega (arith, stop-yes p l n is e)
+  arrive-word = omega (arith, stop-yes r p l n is e)
 
   pub depart-word : l .depart < 65536
-  depart-word = omega (arith, stop-yes p l n is e)
+  depart-word = omega (arith, stop-yes r p l n is e)
 
   pub ride-word : l .points < 65536
-  ride-word = omega (arith, stop-yes p l n is e)
+  ride-word = omega (arith, stop-yes r p l n is e)
 
   pub trips-below : p .trips < 256
-  trips-below = (stop-yes p l n is e) .trips
+  trips-below = (stop-yes r p l n is e) .trips
 
   pub stops-below : p .stops < 2048
-  stops-below = (stop-yes p l n is e) .stops
+  stops-below = (stop-yes r p l n is e) .stops
 
   module _ (within : Within p) where
     pub station-word : l .station < 65536
-    station-word = omega (arith, stop-yes p l n is e, within)
+    station-word = omega (arith, stop-yes r p l n is e, within)
 
     pub stop-room : (body : List ℕ) → length body ≡ 8320 → 2 * p .stations + 4 * p .stops + 4 ≤ length body
-    stop-room body h = omega (arith, stop-yes p l n is e, within)
+    stop-room body h = omega (arith, stop-yes r p l n is e, within)

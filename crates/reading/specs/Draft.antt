@@ -1,5 +1,5 @@
 -- A timetable as far as the lines of a text have come, and the questions that document 01 puts to the next line.
-use mathlib.Core.Bool.{Bool, true, false, not, _&&_, _||_}
+use mathlib.Core.Bool.{Bool, true, false, cond, not, _&&_, _||_}
 use mathlib.Core.List.{List, [], _∷_, _++_}
 use Prim.Native.Nat.{ℕ, _+_}
 use lib.Dec.{leb, ltb, eqb}
@@ -11,6 +11,7 @@ use Rattle.text.specs.declared.Line.the-variants.{Station as StationIn, Stop as
 use Rattle.text.specs.declared.StationLine.{StationLine}
 use Rattle.text.specs.declared.StopLine.{StopLine}
 use Rattle.timetable.specs.Timetable.{Station, Stop, Trip, stopsOf, stationsMost, tripsMost, stopsMost}
+use Rattle.reading.specs.declared.Rules.{Rules as RulesStruct}
 
 -- stations and ended trips, and the stops of a trip that has begun and not ended
 pub record Draft : Type 0 where
@@ -18,8 +19,12 @@ pub record Draft : Type 0 where
   pub trips : List Trip
   pub begun : Trip
 
+-- stations alone
+abbrev pub opening : List Station → Draft
+opening l = record { stations = l; trips = []; begun = [] }
+
 abbrev pub blank : Draft
-blank = record { stations = []; trips = []; begun = [] }
+blank = opening []
 
 -- the last stop of a trip
 abbrev pub final : Trip → Stop
@@ -82,12 +87,61 @@ stopNumber d l =
     firstNo
     (ask 3 (stopInRange l) ∷ ask 4 (stopInPlace d l) ∷ ask 5 (stopCounted d) ∷ ask 6 (stopFits d l) ∷ [])
 
+-- ---- the questions to a line of an extra trip, which is read into a draft that has the stations and no trip yet
+-- What lines are read: the struct of src/. Document 02, Eleven: "An extra trip comes as its number and its T lines".
+abbrev pub Rules : Type 0
+Rules = RulesStruct
+
+abbrev pub textRules : Rules
+textRules = record { extra = false; number = 0; trips = 0; stops = 0 }
+
+-- the extra trip of number n, where so many trips and stops run
+abbrev pub extraRules : (n trips stops : ℕ) → Rules
+extraRules n trips stops = record { extra = true; number = n; trips = trips; stops = stops }
+
+-- a station line has its ranges, and is out of place
+unfoldable pub extraStation : StationLine → ℕ
+extraStation l = firstNo (ask 3 (stationInRange l) ∷ ask 4 false ∷ [])
+
+-- "(0 in a line gives 3)"
+abbrev pub extraInRange : StopLine → Bool
+extraInRange l = leb 1 (l .trip) && stopInRange l
+
+-- "A line of another number gives 4": one trip, with stops 1, 2, 3.., and nothing after its end
+abbrev pub extraInPlace : Rules → Draft → StopLine → Bool
+extraInPlace r d l =
+    eqb (l .trip) (r .number) && eqb (length (d .trips)) 0 && eqb (l .stop) (length (d .begun) + 1)
+
+-- "the limits count running trips and stops"
+abbrev pub extraCounted : Rules → Draft → Bool
+extraCounted r d =
+    ltb (r .trips + length (d .trips)) tripsMost && ltb (r .stops + length (stopsIn d)) stopsMost
+
+-- "read .. under 2 to 7"
+unfoldable pub extraStop : Rules → Draft → StopLine → ℕ
+extraStop r d l =
+    firstNo
+    (ask 3 (extraInRange l)
+    ∷ ask 4 (extraInPlace r d l)
+    ∷ ask 5 (extraCounted r d)
+    ∷ ask 6 (stopFits d l)
+    ∷ [])
+
+abbrev pub extraNumber : Rules → Draft → Line → ℕ
+extraNumber r d (StationIn l) = extraStation l
+extraNumber r d (StopIn l) = extraStop r d l
+extraNumber r d Shapeless = 2
+
 -- ---- the questions to a line
 -- "Then for each line: is it of a shape above? 2", and the questions to its shape; 0 where all have a yes
 abbrev pub lineNumber : Draft → Line → ℕ
 lineNumber d (StationIn l) = stationNumber d l
 lineNumber d (StopIn l) = stopNumber d l
 lineNumber d Shapeless = 2
+
+-- those of a text, or of an extra trip
+abbrev pub numberUnder : Rules → Draft → Line → ℕ
+numberUnder r d line = cond (r .extra) (extraNumber r d line) (lineNumber d line)
 
 abbrev pub stationOfLine : StationLine → Station
 stationOfLine l = record { minutes = l .minutes; points = l .points }

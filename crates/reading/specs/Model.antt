@@ -2,17 +2,22 @@
 -- another. No reader of the promise needs this file; proofs/ shows that it comes to the same as Reading.
 use mathlib.Core.Path.{_≡_}
 use mathlib.Core.Bool.{cond, _&&_}
-use mathlib.Core.List.{List, [], _∷_, _++_}
+use mathlib.Core.List.{List, [], _∷_, _++_, map}
 use Prim.Native.Nat.{ℕ, _+_, _-_, _*_, _≤_}
-use lib.Dec.{leb, eqb}
-use lib.ListN.{set}
+use lib.Dec.{eqb}
+use lib.ListN.{getD, set}
+use Rattle.lists.specs.Lists.{range}
 use Rattle.words.specs.Put.{put}
+use Rattle.text.specs.Piece.{pieces}
+use Rattle.text.specs.Time.{timeValue}
 use Rattle.text.specs.declared.Line.{Line}
 use Rattle.text.specs.declared.Line.the-variants.{Station as StationIn, Stop as StopIn, Shapeless}
-use Rattle.timetable.specs.Timetable.{Timetable, stopsOf}
+use Rattle.text.specs.declared.StopLine.{StopLine}
+use Rattle.timetable.specs.Timetable.{Station, Timetable, stopsOf}
 use Rattle.timetable.specs.Words.{stationWords, stopWords, startWords}
-use Rattle.reading.specs.Progress.{progress, lineNumberAt}
-use Rattle.reading.specs.Reading.{Outcome, Accepted, Refused}
+use Rattle.reading.specs.Draft.{Rules, opening}
+use Rattle.reading.specs.Progress.{progress, lineNumberAt, isThere}
+use Rattle.reading.specs.Reading.{Outcome, Accepted, Refused, numbersUnder, readUnder}
 use Rattle.reading.specs.declared.Progress.{Progress}
 use Rattle.reading.specs.declared.Next.{Next}
 use Rattle.reading.specs.declared.Next.the-variants.{On, Refused as NextRefused}
@@ -26,6 +31,42 @@ pub record Within (p : Progress) : Type 0 where
   pub stops : p .stops ≤ 2048
   pub begun : p .begun ≤ p .stops
 
+-- an extra trip comes to a timetable within the limits
+pub record Running (r : Rules) : Type 0 where
+  pub trips : r .trips ≤ 256
+  pub stops : r .stops ≤ 2048
+
+-- stations whose words an array begins with
+unfoldable pub stationsIn : List ℕ → (n : ℕ) → List Station
+stationsIn body n = map (λ i. record { minutes = getD body (2 * i) 0; points = getD body (2 * i + 1) 0 }) (range 0 n)
+
+-- lines that are read where so many stations stand there already
+abbrev pub readAfter : Rules → (body : List ℕ) (n : ℕ) (text : List ℕ) → Outcome
+readAfter r body n text = readUnder r timeValue (opening (stationsIn body n)) 1 (pieces 10 text)
+
+-- the progress after a stop that ends its trip, and after one where it goes on
+abbrev pub endTrip : Progress → Progress
+endTrip p =
+    record {
+      stations = p .stations;
+      trips = p .trips + 1;
+      stops = p .stops + 1;
+      begun = 0;
+      station = 0;
+      depart = 0;
+    }
+
+abbrev pub goOn : Progress → StopLine → Progress
+goOn p l =
+    record {
+      stations = p .stations;
+      trips = p .trips;
+      stops = p .stops + 1;
+      begun = p .begun + 1;
+      station = l .station;
+      depart = l .depart;
+    }
+
 -- the progress after a line that has its yes
 abbrev pub advance : Progress → Line → Progress
 advance p (StationIn l) =
@@ -37,28 +78,11 @@ advance p (StationIn l) =
       station = p .station;
       depart = p .depart;
     }
-advance p (StopIn l) =
-    cond (l .last)
-    (record {
-      stations = p .stations;
-      trips = p .trips + 1;
-      stops = p .stops + 1;
-      begun = 0;
-      station = 0;
-      depart = 0;
-    })
-    (record {
-      stations = p .stations;
-      trips = p .trips;
-      stops = p .stops + 1;
-      begun = p .begun + 1;
-      station = l .station;
-      depart = l .depart;
-    })
+advance p (StopIn l) = cond (l .last) (endTrip p) (goOn p l)
 advance p Shapeless = p
 
-unfoldable pub nextOf : Progress → Line → Next
-nextOf p line = cond (eqb (lineNumberAt p line) 0) (On (advance p line)) (NextRefused (lineNumberAt p line))
+unfoldable pub nextOf : Rules → Progress → Line → Next
+nextOf r p line = cond (eqb (lineNumberAt r p line) 0) (On (advance p line)) (NextRefused (lineNumberAt r p line))
 
 -- the words that a line adds to those of stations and stops
 abbrev pub lineWords : Line → List ℕ
@@ -67,9 +91,9 @@ lineWords (StopIn l) = l .station ∷ l .arrive ∷ l .depart ∷ l .points ∷ 
 lineWords Shapeless = []
 
 -- the array of stations' and stops' words after a line
-unfoldable pub bodyAfter : Progress → Line → List ℕ → List ℕ
-bodyAfter p line old =
-    cond (eqb (lineNumberAt p line) 0) (put (2 * p .stations + 4 * p .stops) (lineWords line) old) old
+unfoldable pub bodyAfter : Rules → Progress → Line → List ℕ → List ℕ
+bodyAfter r p line old =
+    cond (eqb (lineNumberAt r p line) 0) (put (2 * p .stations + 4 * p .stops) (lineWords line) old) old
 
 -- the array of starts after an accepted line: a trip's last stop says where the next trip begins
 abbrev pub startsWith : Progress → Line → List ℕ → List ℕ
@@ -77,8 +101,8 @@ startsWith p (StationIn l) old = old
 startsWith p (StopIn l) old = cond (l .last) (set old (p .trips + 1) (p .stops + 1)) old
 startsWith p Shapeless old = old
 
-unfoldable pub startsAfter : Progress → Line → List ℕ → List ℕ
-startsAfter p line old = cond (eqb (lineNumberAt p line) 0) (startsWith p line old) old
+unfoldable pub startsAfter : Rules → Progress → Line → List ℕ → List ℕ
+startsAfter r p line old = cond (eqb (lineNumberAt r p line) 0) (startsWith p line old) old
 
 -- the words of stations and stops of a timetable
 abbrev pub bodyWords : Timetable → List ℕ
@@ -88,15 +112,15 @@ abbrev pub progressOf : Timetable → Progress
 progressOf t = progress (record { stations = t .stations; trips = t .trips; begun = [] })
 
 -- question 7
-unfoldable pub endOf : Progress → ℕ → Lines
-endOf p line =
-    cond (leb 1 (p .stations) && eqb (p .begun) 0) (LinesAccepted p (line - 1)) (LinesRefused 7 line)
+unfoldable pub endOf : Rules → Progress → ℕ → Lines
+endOf r p line = cond (isThere r p && eqb (p .begun) 0) (LinesAccepted p (line - 1)) (LinesRefused 7 line)
 
 -- what reading all lines has to answer and to leave in the two arrays
-abbrev pub LinesRead : Outcome → Lines → (body starts body₀ starts₀ : List ℕ) → Type 0
-LinesRead (Accepted t n) r body starts body₀ starts₀ =
-    (r ≡ LinesAccepted (progressOf t) n)
+abbrev pub LinesRead : Rules → Outcome → Lines → (body starts body₀ starts₀ : List ℕ) → Type 0
+LinesRead r (Accepted t n) a body starts body₀ starts₀ =
+    (a ≡ LinesAccepted (progressOf t) n)
     × Within (progressOf t)
     × (body ≡ put 0 (bodyWords t) body₀)
     × (starts ≡ put 0 (startWords 0 (t .trips)) starts₀)
-LinesRead (Refused k l) r body starts body₀ starts₀ = r ≡ LinesRefused k l
+    × (t .numbers ≡ numbersUnder r (t .trips))
+LinesRead r (Refused k l) a body starts body₀ starts₀ = a ≡ LinesRefused k l

@@ -1,7 +1,7 @@
 -- What the code knows of a draft: counts, and the station and departure of the stop before. The questions of Draft can
 -- be answered from that alone, as `same-number` shows; no reader of the promise needs this file.
 use mathlib.Core.Path.{_≡_, refl, ap}
-use mathlib.Core.Bool.{Bool, not, _&&_, _||_}
+use mathlib.Core.Bool.{Bool, true, false, cond, not, _&&_, _||_}
 use mathlib.Core.List.{[], _∷_}
 use Prim.Native.Nat.{ℕ, _+_}
 use lib.Dec.{leb, ltb, eqb, eqb·suc-zero}
@@ -24,6 +24,12 @@ use Rattle.reading.specs.Draft.{
   stopFits,
   stopNumber,
   lineNumber,
+  Rules,
+  textRules,
+  extraStation,
+  extraInRange,
+  extraStop,
+  numberUnder,
 }
 use Rattle.reading.specs.declared.Progress.{Progress}
 
@@ -68,10 +74,31 @@ stopNumberAt p l =
     firstNo
     (ask 3 (stopInRange l) ∷ ask 4 (placeOfStop p l) ∷ ask 5 (roomForStop p) ∷ ask 6 (stopFitsAt p l) ∷ [])
 
-abbrev pub lineNumberAt : Progress → Line → ℕ
-lineNumberAt p (StationIn l) = stationNumberAt p l
-lineNumberAt p (StopIn l) = stopNumberAt p l
-lineNumberAt p Shapeless = 2
+-- ---- an extra trip
+abbrev pub placeOfExtra : Rules → Progress → StopLine → Bool
+placeOfExtra r p l = eqb (l .trip) (r .number) && eqb (p .trips) 0 && eqb (l .stop) (p .begun + 1)
+
+abbrev pub roomForExtra : Rules → Progress → Bool
+roomForExtra r p = ltb (r .trips + p .trips) tripsMost && ltb (r .stops + p .stops) stopsMost
+
+unfoldable pub extraStopAt : Rules → Progress → StopLine → ℕ
+extraStopAt r p l =
+    firstNo
+    (ask 3 (extraInRange l)
+    ∷ ask 4 (placeOfExtra r p l)
+    ∷ ask 5 (roomForExtra r p)
+    ∷ ask 6 (stopFitsAt p l)
+    ∷ [])
+
+-- ---- any line
+abbrev pub lineNumberAt : Rules → Progress → Line → ℕ
+lineNumberAt r p (StationIn l) = cond (r .extra) (extraStation l) (stationNumberAt p l)
+lineNumberAt r p (StopIn l) = cond (r .extra) (extraStopAt r p l) (stopNumberAt p l)
+lineNumberAt r p Shapeless = 2
+
+-- what question 7 wants to be there
+unfoldable pub isThere : Rules → Progress → Bool
+isThere r p = cond (r .extra) (eqb (p .trips) 1) (leb 1 (p .stations))
 
 -- ---- the answers are the same
 same-fits : (d : Draft) (l : StopLine) → stopFits d l ≡ stopFitsAt (progress d) l
@@ -87,8 +114,21 @@ same-fits d l = ap (λ t. leb 1 (l .station) && leb (l .station) (length (d .sta
     by-begun [] = refl
     by-begun (s ∷ r) = rw (eqb·suc-zero (length r))
 
-pub same-number : (d : Draft) (line : Line) → lineNumber d line ≡ lineNumberAt (progress d) line
+text-number : (d : Draft) (line : Line) → lineNumber d line ≡ lineNumberAt textRules (progress d) line
 unfolding stationNumber stationNumberAt stopNumber stopNumberAt
-same-number d (StationIn l) = refl
-same-number d (StopIn l) = rw (same-fits d l)
-same-number d Shapeless = refl
+text-number d (StationIn l) = refl
+text-number d (StopIn l) = rw (same-fits d l)
+text-number d Shapeless = refl
+
+extra-number : (r : Rules) (d : Draft) (l : StopLine) → extraStop r d l ≡ extraStopAt r (progress d) l
+unfolding extraStop extraStopAt
+extra-number r d l = rw (same-fits d l)
+
+pub same-number : (r : Rules) (d : Draft) (line : Line) → numberUnder r d line ≡ lineNumberAt r (progress d) line
+same-number r d (StationIn l) = ap (cond (r .extra) (extraStation l)) (text-number d (StationIn l))
+same-number r d (StopIn l) = λ i. cond (r .extra) (extra-number r d l i) (text-number d (StopIn l) i)
+same-number r d Shapeless = by-kind (r .extra)
+  where
+    by-kind : (b : Bool) → _≡_ {A = ℕ} (cond b 2 2) 2
+    by-kind true = refl
+    by-kind false = refl

@@ -1,16 +1,17 @@
 -- What a timetable text means: a timetable and its count of lines, or the refusal's number and line.
-use mathlib.Core.Bool.{cond, _&&_}
+use mathlib.Core.Bool.{Bool, cond, _&&_}
 use mathlib.Core.List.{List, [], _∷_}
 use Prim.Native.Nat.{ℕ, _+_, _-_}
 use lib.Dec.{leb, eqb}
 use lib.ListN.{length}
+use Rattle.lists.specs.Lists.{range}
 use Rattle.words.specs.Put.{put}
 use Rattle.text.specs.Piece.{pieces}
 use Rattle.text.specs.Time.{timeValue}
 use Rattle.text.specs.Shape.{shapeBy}
-use Rattle.timetable.specs.Timetable.{Timetable}
+use Rattle.timetable.specs.Timetable.{Trip, Timetable, stopsOf}
 use Rattle.timetable.specs.Words.{words}
-use Rattle.reading.specs.Draft.{Draft, blank, lineNumber, withLine}
+use Rattle.reading.specs.Draft.{Draft, Rules, textRules, extraRules, opening, blank, numberUnder, withLine}
 use Rattle.reading.specs.declared.Reply.{Reply}
 use Rattle.reading.specs.declared.Reply.the-variants.{Done as ReplyDone, Refused as ReplyRefused}
 
@@ -18,21 +19,34 @@ pub data Outcome : Type 0 where
   Accepted : Timetable → (lines : ℕ) → Outcome
   Refused : (number line : ℕ) → Outcome
 
--- "After all: a station listed, and the last trip, if there is one, ended? 7", at lines plus one
-unfoldable pub ended : Draft → (line : ℕ) → Outcome
-ended d line =
-    cond (leb 1 (length (d .stations)) && eqb (length (d .begun)) 0)
-    (Accepted (record { stations = d .stations; trips = d .trips }) (line - 1))
+-- "After all: a station listed, and the last trip, if there is one, ended? 7"; of an extra trip: "no line at all 7"
+abbrev pub complete : Rules → Draft → Bool
+complete r d =
+    cond (r .extra) (eqb (length (d .trips)) 1) (leb 1 (length (d .stations))) && eqb (length (d .begun)) 0
+
+-- "trips 1, 2, 3.."; an extra trip has its own number
+abbrev pub numbersUnder : Rules → List Trip → List ℕ
+numbersUnder r trips = cond (r .extra) (r .number ∷ []) (range 1 (length trips))
+
+-- question 7, at lines plus one
+unfoldable pub ended : Rules → Draft → (line : ℕ) → Outcome
+ended r d line =
+    cond (complete r d)
+    (Accepted (record { stations = d .stations; numbers = numbersUnder r (d .trips); trips = d .trips }) (line - 1))
     (Refused 7 line)
 
 -- the lines given, the first of which has this number; what stands last ends with no byte 10: "bytes after the last 10
 -- are a line of no shape". Arrive and depart are read by `time`.
-unfoldable pub readBy : (time : List ℕ → ℕ) → Draft → (line : ℕ) → List (List ℕ) → Outcome
-readBy time d line [] = ended d line
-readBy time d line (s ∷ []) = cond (eqb (length s) 0) (ended d line) (Refused 2 line)
-readBy time d line (s ∷ u ∷ l) =
-    let rest = readBy time (withLine d (shapeBy time s)) (line + 1) (u ∷ l) in
-    cond (eqb (lineNumber d (shapeBy time s)) 0) rest (Refused (lineNumber d (shapeBy time s)) line)
+unfoldable pub readUnder : Rules → (time : List ℕ → ℕ) → Draft → (line : ℕ) → List (List ℕ) → Outcome
+readUnder r time d line [] = ended r d line
+readUnder r time d line (s ∷ []) = cond (eqb (length s) 0) (ended r d line) (Refused 2 line)
+readUnder r time d line (s ∷ u ∷ l) =
+    let rest = readUnder r time (withLine d (shapeBy time s)) (line + 1) (u ∷ l) in
+    cond (eqb (numberUnder r d (shapeBy time s)) 0) rest (Refused (numberUnder r d (shapeBy time s)) line)
+
+-- the lines of a text
+abbrev pub readBy : (time : List ℕ → ℕ) → Draft → (line : ℕ) → List (List ℕ) → Outcome
+readBy time d line lines = readUnder textRules time d line lines
 
 -- times are written `hh:mm`
 abbrev pub readFrom : Draft → (line : ℕ) → List (List ℕ) → Outcome
@@ -48,6 +62,13 @@ readLines text = readFrom blank 1 (pieces 10 text)
 -- "Reading: at most 65,536 bytes? 1. Then for each line: .."; "for 1 to 7 also the line (0 for 1, ..)"
 unfoldable pub reading : List ℕ → Outcome
 reading text = cond (leb (length text) textMost) (readLines text) (Refused 1 0)
+
+-- Document 02, Eleven: "An extra trip comes as its number and its T lines, read after 10 and 19 under 2 to 7": where
+-- it is accepted, the timetable of that trip alone
+unfoldable pub readExtra : Timetable → (number : ℕ) → List ℕ → Outcome
+readExtra t n text =
+    readUnder (extraRules n (length (t .trips)) (length (stopsOf (t .trips)))) timeValue (opening (t .stations)) 1
+    (pieces 10 text)
 
 -- ---- the public call
 -- "timetable and line tables 16,384 16-bit words each"

@@ -1,14 +1,28 @@
-// Reading a timetable text into the lent words of a timetable: questions 8 and 1 to 7.
+// Reading a timetable text into the lent words of a timetable: questions 8 and 1 to 7; and reading the lines of an
+// extra trip, for which questions 2 to 7 are put to the lines after those that run already.
 ghost use mathlib.Core.Path.{_≡_};
 ghost use Prim.Native.Nat.{_+_, _*_, _≤_, _<_};
 ghost use mathlib.Core.Bool.{cond};
 ghost use lib.ListN.{length, set};
 ghost use Rattle.text.specs.Shape.{shapeOf};
 ghost use Rattle.text.specs.declared.Line.the-variants.{Station, Stop};
-ghost use Rattle.reading.specs.Progress.{stationNumberAt, stopNumberAt, stopFitsAt};
-ghost use Rattle.reading.specs.Reading.{readLines, readReply, valuesOf, readValues, readWords};
+ghost use Rattle.lists.specs.Lists.{range};
+ghost use Rattle.reading.specs.Draft.{extraStation, extraInRange};
+ghost use Rattle.reading.specs.Progress.{
+  stationNumberAt,
+  stopNumberAt,
+  stopFitsAt,
+  placeOfExtra,
+  roomForExtra,
+  extraStopAt,
+  lineNumberAt,
+  isThere,
+};
+ghost use Rattle.reading.specs.Reading.{readReply, valuesOf, readValues, readWords};
 ghost use Rattle.reading.specs.Model.{
   Within,
+  Running,
+  readAfter,
   advance,
   nextOf,
   bodyAfter,
@@ -39,6 +53,15 @@ pub struct Progress {
     pub begun: usize,
     pub station: u32,
     pub depart: u32,
+}
+
+// What lines are read: those of a text, or those of one extra trip, which has its number and comes to so many trips and
+// stops that run.
+pub struct Rules {
+    pub extra: bool,
+    pub number: u32,
+    pub trips: usize,
+    pub stops: usize,
 }
 
 pub enum Next {
@@ -143,12 +166,109 @@ fn stop_number(p: Progress, l: StopLine) -> u32
     6
 }
 
-// Puts the questions to a station line, and where all have a yes takes its words.
-fn take_station(p: Progress, l: StationLine, body: &mut [u16]) -> Next
-    requires { ⌜ Within p × (length (now body) ≡ 8320) ⌝ }
-    ensures { λ r. ⌜ (r ≡ nextOf p (Station l)) × (now (body .exit) ≡ bodyAfter p (Station l) (now (body .entry))) ⌝ }
+// Questions 3 and 4 to a station line of an extra trip: none is in place there.
+fn extra_station(l: StationLine) -> u32
+    ensures { λ r. ⌜ r ≡ extraStation l ⌝ }
 {
-    let number = station_number(p, l);
+    let minutes = text::range_number(text::CHANGE_MINUTES, l.minutes);
+    if minutes != 0 {
+        return minutes;
+    }
+    let points = text::range_number(text::CHANGE_PENALTY, l.points);
+    if points != 0 {
+        return points;
+    }
+    4
+}
+
+// Question 3 to a stop line of an extra trip.
+fn extra_in_range(l: StopLine) -> bool
+    ensures { λ r. ⌜ r ≡ extraInRange l ⌝ }
+{
+    if l.trip < 1 {
+        return false;
+    }
+    if text::range_number(text::TIME, l.arrive) != 0 {
+        return false;
+    }
+    if text::range_number(text::TIME, l.depart) != 0 {
+        return false;
+    }
+    text::range_number(text::RIDE_PENALTY, l.points) == 0
+}
+
+// Question 4 to a stop line of an extra trip.
+fn extra_in_place(rules: Rules, p: Progress, l: StopLine) -> bool
+    requires { ⌜ Within p ⌝ }
+    ensures { λ r. ⌜ r ≡ placeOfExtra rules p l ⌝ }
+{
+    if l.trip != rules.number {
+        return false;
+    }
+    if p.trips != 0 {
+        return false;
+    }
+    l.stop as usize == p.begun + 1
+}
+
+// Question 5 to a stop line of an extra trip: the trips and stops that run count.
+fn extra_counted(rules: Rules, p: Progress) -> bool
+    requires { ⌜ Within p × Running rules ⌝ }
+    ensures { λ r. ⌜ r ≡ roomForExtra rules p ⌝ }
+{
+    if TRIPS_MOST <= rules.trips + p.trips {
+        return false;
+    }
+    rules.stops + p.stops < STOPS_MOST
+}
+
+// Questions 3 to 6 to a stop line of an extra trip: 0, or the number of the first no.
+fn extra_stop(rules: Rules, p: Progress, l: StopLine) -> u32
+    requires { ⌜ Within p × Running rules ⌝ }
+    ensures { λ r. ⌜ r ≡ extraStopAt rules p l ⌝ }
+{
+    if !extra_in_range(l) {
+        return 3;
+    }
+    if !extra_in_place(rules, p, l) {
+        return 4;
+    }
+    if !extra_counted(rules, p) {
+        return 5;
+    }
+    if stop_fits(p, l) {
+        return 0;
+    }
+    6
+}
+
+fn station_asked(rules: Rules, p: Progress, l: StationLine) -> u32
+    requires { ⌜ Within p ⌝ }
+    ensures { λ r. ⌜ r ≡ lineNumberAt rules p (Station l) ⌝ }
+{
+    if rules.extra {
+        return extra_station(l);
+    }
+    station_number(p, l)
+}
+
+fn stop_asked(rules: Rules, p: Progress, l: StopLine) -> u32
+    requires { ⌜ Within p × Running rules ⌝ }
+    ensures { λ r. ⌜ r ≡ lineNumberAt rules p (Stop l) ⌝ }
+{
+    if rules.extra {
+        return extra_stop(rules, p, l);
+    }
+    stop_number(p, l)
+}
+
+// Puts the questions to a station line, and where all have a yes takes its words.
+fn take_station(rules: Rules, p: Progress, l: StationLine, body: &mut [u16]) -> Next
+    requires { ⌜ Within p × (length (now body) ≡ 8320) ⌝ }
+    ensures { λ r. ⌜ (r ≡ nextOf rules p (Station l))
+        × (now (body .exit) ≡ bodyAfter rules p (Station l) (now (body .entry))) ⌝ }
+{
+    let number = station_asked(rules, p, l);
     if number != 0 {
         return Next::Refused(number);
     }
@@ -201,13 +321,13 @@ fn mark_start(p: Progress, last: bool, starts: &mut [u16])
 }
 
 // Puts the questions to a stop line, and where all have a yes takes its words.
-fn take_stop(p: Progress, l: StopLine, body: &mut [u16], starts: &mut [u16]) -> Next
-    requires { ⌜ Within p × (length (now body) ≡ 8320) × (length (now starts) ≡ 257) ⌝ }
-    ensures { λ r. ⌜ (r ≡ nextOf p (Stop l))
-        × (now (body .exit) ≡ bodyAfter p (Stop l) (now (body .entry)))
-        × (now (starts .exit) ≡ startsAfter p (Stop l) (now (starts .entry))) ⌝ }
+fn take_stop(rules: Rules, p: Progress, l: StopLine, body: &mut [u16], starts: &mut [u16]) -> Next
+    requires { ⌜ Within p × Running rules × (length (now body) ≡ 8320) × (length (now starts) ≡ 257) ⌝ }
+    ensures { λ r. ⌜ (r ≡ nextOf rules p (Stop l))
+        × (now (body .exit) ≡ bodyAfter rules p (Stop l) (now (body .entry)))
+        × (now (starts .exit) ≡ startsAfter rules p (Stop l) (now (starts .entry))) ⌝ }
 {
-    let number = stop_number(p, l);
+    let number = stop_asked(rules, p, l);
     if number != 0 {
         return Next::Refused(number);
     }
@@ -224,18 +344,18 @@ fn take_stop(p: Progress, l: StopLine, body: &mut [u16], starts: &mut [u16]) -> 
 }
 
 // Takes a line, without its line end: the progress after it, or the number of the first no.
-fn take_line(p: Progress, line: &[u8], body: &mut [u16], starts: &mut [u16]) -> Next
-    requires { ⌜ Within p × (length (now body) ≡ 8320) × (length (now starts) ≡ 257) ⌝ }
-    ensures { λ r. ⌜ (r ≡ nextOf p (shapeOf (now (line .entry))))
-        × (now (body .exit) ≡ bodyAfter p (shapeOf (now (line .entry))) (now (body .entry)))
-        × (now (starts .exit) ≡ startsAfter p (shapeOf (now (line .entry))) (now (starts .entry))) ⌝ }
+fn take_line(rules: Rules, p: Progress, line: &[u8], body: &mut [u16], starts: &mut [u16]) -> Next
+    requires { ⌜ Within p × Running rules × (length (now body) ≡ 8320) × (length (now starts) ≡ 257) ⌝ }
+    ensures { λ r. ⌜ (r ≡ nextOf rules p (shapeOf (now (line .entry))))
+        × (now (body .exit) ≡ bodyAfter rules p (shapeOf (now (line .entry))) (now (body .entry)))
+        × (now (starts .exit) ≡ startsAfter rules p (shapeOf (now (line .entry))) (now (starts .entry))) ⌝ }
 {
     match text::shape(line) {
         Line::Station(l) => {
-            return take_station(p, l, body);
+            return take_station(rules, p, l, body);
         }
         Line::Stop(l) => {
-            return take_stop(p, l, body, starts);
+            return take_stop(rules, p, l, body, starts);
         }
         Line::Shapeless => {
             return Next::Refused(2);
@@ -243,12 +363,22 @@ fn take_line(p: Progress, line: &[u8], body: &mut [u16], starts: &mut [u16]) -> 
     }
 }
 
-// Question 7, when all lines are read: line is their number plus one.
-fn end_lines(p: Progress, line: u32) -> Lines
-    requires { ⌜ 1 ≤ line ⌝ }
-    ensures { λ r. ⌜ r ≡ endOf p line ⌝ }
+// What question 7 wants to be there: a station, or the extra trip.
+fn is_there(rules: Rules, p: Progress) -> bool
+    ensures { λ r. ⌜ r ≡ isThere rules p ⌝ }
 {
-    if p.stations == 0 {
+    if rules.extra {
+        return p.trips == 1;
+    }
+    1 <= p.stations
+}
+
+// Question 7, when all lines are read: line is their number plus one.
+fn end_lines(rules: Rules, p: Progress, line: u32) -> Lines
+    requires { ⌜ 1 ≤ line ⌝ }
+    ensures { λ r. ⌜ r ≡ endOf rules p line ⌝ }
+{
+    if !is_there(rules, p) {
         return Lines::Refused { number: 7, line };
     }
     if p.begun != 0 {
@@ -257,16 +387,27 @@ fn end_lines(p: Progress, line: u32) -> Lines
     Lines::Accepted(p, line - 1)
 }
 
-// Reads all lines of a text, into the words of stations and stops and the places where trips begin.
-fn read_lines(text: &[u8], body: &mut [u16], starts: &mut [u16]) -> Lines
-    requires { ⌜ (length (now text) ≤ 65536) × (length (now body) ≡ 8320) × (length (now starts) ≡ 257) ⌝ }
-    ensures { λ r. ⌜ LinesRead (readLines (now (text .entry))) r (now (body .exit)) (now (starts .exit))
-        (now (body .entry)) (now (starts .entry)) ⌝ }
+// Reads all lines, into the words of stations and stops and the places where trips begin. So many stations stand in the
+// words already.
+pub fn read_lines(
+    rules: Rules,
+    stations: usize,
+    text: &[u8],
+    body: &mut [u16],
+    starts: &mut [u16],
+) -> Lines
+    requires { ⌜ Running rules
+        × (stations ≤ 64)
+        × (length (now body) ≡ 8320)
+        × (length (now starts) ≡ 257) ⌝ }
+    ensures { λ r. ⌜ LinesRead rules (readAfter rules (now (body .entry)) stations (now (text .entry)))
+        r (now (body .exit))
+        (now (starts .exit)) (now (body .entry)) (now (starts .entry)) ⌝ }
 {
     starts[0] = 0;
     let n = text.len();
     let mut p = Progress {
-        stations: 0,
+        stations,
         trips: 0,
         stops: 0,
         begun: 0,
@@ -279,11 +420,11 @@ fn read_lines(text: &[u8], body: &mut [u16], starts: &mut [u16]) -> Lines
         let end = text::piece_end(text, LINE_END, from);
         if end == n {
             if from == n {
-                return end_lines(p, line);
+                return end_lines(rules, p, line);
             }
             return Lines::Refused { number: 2, line };
         }
-        match take_line(p, &text[from..end], body, starts) {
+        match take_line(rules, p, &text[from..end], body, starts) {
             Next::On(q) => {
                 p = q;
             }
@@ -293,6 +434,18 @@ fn read_lines(text: &[u8], body: &mut [u16], starts: &mut [u16]) -> Lines
         }
         line += 1;
         from = end + 1;
+    }
+}
+
+// Writes the numbers 1, 2, 3..: the trips of a text have no others.
+fn count_trips(numbers: &mut [u16])
+    requires { ⌜ length (now numbers) ≡ 256 ⌝ }
+    ensures { λ _. ⌜ now (numbers .exit) ≡ range 1 256 ⌝ }
+{
+    let mut k = 0;
+    while k < TRIPS_MOST {
+        numbers[k] = (k + 1) as u16;
+        k += 1;
     }
 }
 
@@ -310,12 +463,28 @@ pub fn read(text: &[u8], timetable: &mut [u16]) -> Reply
     }
     let mut body = [0u16; timetable::BODY_WORDS];
     let mut starts = [0u16; timetable::STARTS_WORDS];
-    match read_lines(text, &mut body, &mut starts) {
+    let mut numbers = [0u16; timetable::NUMBERS_WORDS];
+    count_trips(&mut numbers);
+    let rules = Rules {
+        extra: false,
+        number: 0,
+        trips: 0,
+        stops: 0,
+    };
+    match read_lines(rules, 0, text, &mut body, &mut starts) {
         Lines::Refused { number, line } => {
             return Reply::Refused { number, line };
         }
         Lines::Accepted(p, lines) => {
-            timetable::write_words(timetable, p.stations, p.trips, p.stops, &body, &starts);
+            timetable::write_words(
+                timetable,
+                p.stations,
+                p.trips,
+                p.stops,
+                &body,
+                &starts,
+                &numbers,
+            );
             return Reply::Done { lines };
         }
     }

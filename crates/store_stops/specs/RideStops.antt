@@ -14,7 +14,7 @@ use Rattle.timetable.specs.Check.{length-stations, length-trips}
 use Rattle.timetable.specs.Access.{station-is, trip-is, trip-long, stop-is, trip-stops, spelled-valid}
 use Rattle.lists.specs.Lists.{_∈_}
 use Rattle.lists.specs.Tests.{either}
-use Rattle.connections.specs.Rides.{Ride, noStop, ridePoints, rideAt}
+use Rattle.connections.specs.Rides.{Ride, noStop, ridePoints, rideIn}
 use Rattle.connections.specs.Connections.{Change, Net, net, Changes, ready, noStation, changeAt}
 use Rattle.connections.specs.RideLaws.{rides-in, rides-out, changes-in, changes-out, points-split, points-more}
 use Rattle.connections.specs.Sound.{Sound, sound}
@@ -177,11 +177,12 @@ module _ (w : List ℕ) (yes : isTimetable w ≡ true) where
         let q = ride-points x n (omega arith) in
         omega (arith, m, s, k, i, q, ap (ridePoints trip x) e)
 
-    ride-there : (x n : ℕ) → 1 ≤ n → x + n < length trip → SameRide w (rideAt trip z x (x + n)) (startAt w z + x) n
+    ride-there : (x n : ℕ) → 1 ≤ n → x + n < length trip
+        → SameRide w (rideIn (timetableOf w) z x (x + n)) (startAt w z + x) n
     ride-there x n o g =
         let e : startAt w z + (x + n) ≡ startAt w z + x + n = omega arith in
         record {
-          listed = rides-in ((timetableOf w) .trips) z x (x + n) (omega (arith, length-trips w)) (omega arith) g;
+          listed = rides-in (timetableOf w) z x (x + n) (omega (arith, length-trips w)) (omega arith) g;
           some = o;
           rides =
               λ k i.
@@ -208,10 +209,10 @@ module _ (w : List ℕ) (yes : isTimetable w ≡ true) where
       let e : startAt w z + x ≡ i = omega arith in
       let end = stays-inside n i z (g .listed) b (omega (arith, g .inside)) r in
       record {
-        ride = rideAt (trip z (g .listed)) z x (x + n);
+        ride = rideIn (timetableOf w) z x (x + n);
         same =
             subst
-            (λ j. SameRide w (rideAt (trip z (g .listed)) z x (x + n)) j n)
+            (λ j. SameRide w (rideIn (timetableOf w) z x (x + n)) j n)
             e
             (ride-there z (g .listed) x n o (omega (arith, end, trip-length z (g .listed))));
       }
@@ -219,7 +220,7 @@ module _ (w : List ℕ) (yes : isTimetable w ≡ true) where
   -- each ride is taken so
   pub stops-of : (r : Ride) → r ∈ (netOf w) .rides → StopsOf w r
   stops-of r h =
-      let k = rides-out ((timetableOf w) .trips) r h in
+      let k = rides-out (timetableOf w) r h in
       let z = k .z in
       let l = k .later in
       let there : z < tripCount w = omega (arith, length-trips w, k .listed) in
@@ -231,7 +232,7 @@ module _ (w : List ℕ) (yes : isTimetable w ≡ true) where
         same =
             subst
             (λ r. SameRide w r (startAt w z + k .x) (suc m))
-            (ap (rideAt (trip z there) z (k .x)) e ∙ k .is)
+            (ap (rideIn (timetableOf w) z (k .x)) e ∙ k .is)
             (ride-there z there (k .x) (suc m) (omega arith) (omega (arith, k .inside)));
       }
 

@@ -44,6 +44,7 @@ unfoldable pub forked : Timetable
 forked =
     record {
       stations = station 0 1 ∷ station 0 1 ∷ station 0 1 ∷ station 0 1 ∷ [];
+      numbers = 1 ∷ 2 ∷ 3 ∷ 4 ∷ [];
       trips =
           (stop 1 0 480 0 ∷ stop 2 490 0 0 ∷ [])
           ∷ (stop 1 0 480 0 ∷ stop 3 490 0 0 ∷ [])

@@ -4,8 +4,8 @@ use mathlib.Core.Bool.{Bool, true, false, not, _&&_}
 use mathlib.Core.List.{List, _∷_}
 use Prim.Native.Nat.{ℕ, _+_, _≤_, _<_}
 use native.Mathlib.Omega.{arith}
-use borrow.Author.Tests.{le-leb, lt-leb, eq-eqb, ne-eqb, not-true, not-false}
-use lib.Dec.{leb, eqb}
+use borrow.Author.Tests.{le-leb, lt-leb, lt-ltb, le-ltb, eq-eqb, ne-eqb, not-true, not-false}
+use lib.Dec.{leb, ltb, eqb}
 use Rattle.lists.specs.Tests.{and-true, and-false}
 use Rattle.timetable.specs.Timetable.{
   Station,
@@ -19,8 +19,9 @@ use Rattle.timetable.specs.Timetable.{
   validStation,
   validStations,
   validTrips,
+  climb,
 }
-use Rattle.timetable.specs.Words.{stationAt, stopAt, startAt, tripAt, rise}
+use Rattle.timetable.specs.Words.{stationAt, stopAt, startAt, numberAt, tripAt, rise}
 use Rattle.timetable.specs.Check.{
   begins,
   passes,
@@ -28,6 +29,7 @@ use Rattle.timetable.specs.Check.{
   stopsAt,
   tripsAt,
   startsAt,
+  numbersAt,
   tripsTest,
   between,
   between-more,
@@ -64,6 +66,27 @@ module _ (n : ℕ) (b s : Stop) (t : Bool) (is : t ≡ follows n b s) where
     pub passes-leaving : s .arrive ≤ s .depart → (u : Bool) → u ≡ leaves s → u ≡ passes n b s
     unfolding passes
     passes-leaving h u e = e ∙ simp (← is, not-false t after, le-leb (s .arrive) (s .depart) h)
+
+-- ---- numbers of trips, one by one
+module _ (w : List ℕ) (n k last : ℕ) (left : climb 0 (numbersAt w 0 n) ≡ climb last (numbersAt w k n)) where
+  pub numbers-done : n ≤ k → true ≡ climb 0 (numbersAt w 0 n)
+  unfolding climb
+  numbers-done h = sym (left ∙ ap (climb last) (between-none (numberAt w) k n h))
+
+  module _ (h : k < n) (m : ℕ) (is : m ≡ numberAt w k) where
+    one-more : climb 0 (numbersAt w 0 n) ≡ (ltb last m && leb m 9999 && climb m (numbersAt w (k + 1) n))
+    unfolding climb
+    one-more = left ∙ ap (climb last) (between-more (numberAt w) k n h) ∙ rw (← is)
+
+    pub number-low : m ≤ last → false ≡ climb 0 (numbersAt w 0 n)
+    number-low e = sym (one-more ∙ rw (le-ltb last m e))
+
+    module _ (above : last < m) where
+      pub number-high : 9999 < m → false ≡ climb 0 (numbersAt w 0 n)
+      number-high e = sym (one-more ∙ rw (lt-ltb last m above, lt-leb m 9999 e))
+
+      pub number-on : m ≤ 9999 → climb 0 (numbersAt w 0 n) ≡ climb m (numbersAt w (k + 1) n)
+      number-on e = one-more ∙ rw (lt-ltb last m above, le-leb m 9999 e)
 
 -- ---- stations, one by one
 module _ (w : List ℕ) (n i : ℕ) (left : validStations (stationsAt w 0 n) ≡ validStations (stationsAt w i n)) where

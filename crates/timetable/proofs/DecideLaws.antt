@@ -6,9 +6,9 @@ use Prim.Native.Nat.{ℕ, _≤_, _<_}
 use borrow.Author.Tests.{le-leb, lt-leb, eq-eqb, ne-eqb, not-true, not-false}
 use lib.Dec.{eqb}
 use lib.ListN.{getD}
-use Rattle.timetable.specs.Timetable.{validStations}
+use Rattle.timetable.specs.Timetable.{validStations, climb}
 use Rattle.timetable.specs.Words.{startAt, isTimetable}
-use Rattle.timetable.specs.Check.{stationsAt, tripsTest, decided}
+use Rattle.timetable.specs.Check.{stationsAt, numbersAt, tripsTest, decided}
 
 module _ (w : List ℕ) (s : ℕ) (is-s : s ≡ getD w 0 0) where
   pub no-stations : s < 1 → false ≡ isTimetable w
@@ -38,7 +38,10 @@ module _ (w : List ℕ) (s : ℕ) (is-s : s ≡ getD w 0 0) where
             ))
 
         module _ (few-stops : n ≤ 2048) (a : ℕ) (is-a : a ≡ startAt w 0) where
-          headed : isTimetable w ≡ (eqb a 0 && validStations (stationsAt w 0 s) && tripsTest w s n 0 0 t)
+          abbrev climbs : Bool
+          climbs = climb 0 (numbersAt w 0 t)
+
+          headed : isTimetable w ≡ (eqb a 0 && climbs && validStations (stationsAt w 0 s) && tripsTest w s n 0 0 t)
           headed =
               decided w
               ∙ simp (
@@ -55,9 +58,15 @@ module _ (w : List ℕ) (s : ℕ) (is-s : s ≡ getD w 0 0) where
           pub late-start : (a ≡ 0 → ⊥) → false ≡ isTimetable w
           late-start h = sym (headed ∙ simp (ne-eqb a 0 h))
 
-          module _ (start : a ≡ 0) (v : Bool) (is-v : v ≡ validStations (stationsAt w 0 s)) where
-            pub bad-stations : not v ≡ true → false ≡ isTimetable w
-            bad-stations h = sym (headed ∙ simp (eq-eqb a 0 start, ← is-v, not-true v h))
+          module _ (start : a ≡ 0) (c : Bool) (is-c : c ≡ climb 0 (numbersAt w 0 t)) where
+            pub bad-numbers : not c ≡ true → false ≡ isTimetable w
+            bad-numbers h = sym (headed ∙ simp (eq-eqb a 0 start, ← is-c, not-true c h))
 
-            pub trips-decide : not v ≡ false → (r : Bool) → r ≡ tripsTest w s n 0 0 t → r ≡ isTimetable w
-            trips-decide h r e = e ∙ sym (headed ∙ simp (eq-eqb a 0 start, ← is-v, not-false v h))
+            module _ (climbing : not c ≡ false) (v : Bool) (is-v : v ≡ validStations (stationsAt w 0 s)) where
+              pub bad-stations : not v ≡ true → false ≡ isTimetable w
+              bad-stations h =
+                  sym (headed ∙ simp (eq-eqb a 0 start, ← is-c, not-false c climbing, ← is-v, not-true v h))
+
+              pub trips-decide : not v ≡ false → (r : Bool) → r ≡ tripsTest w s n 0 0 t → r ≡ isTimetable w
+              trips-decide h r e =
+                  e ∙ sym (headed ∙ simp (eq-eqb a 0 start, ← is-c, not-false c climbing, ← is-v, not-false v h))

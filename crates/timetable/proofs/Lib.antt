@@ -3,3 +3,4 @@ pub mod WordAtLaws
 pub mod CheckLaws
 pub mod DecideLaws
 pub mod WriteLaws
+pub mod CopyLaws

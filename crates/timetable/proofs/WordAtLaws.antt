@@ -4,7 +4,7 @@ use mathlib.Core.List.{List}
 use Prim.Native.Nat.{ℕ, _+_, _*_}
 use lib.ListN.{getD}
 use Rattle.timetable.specs.Timetable.{Station, Stop}
-use Rattle.timetable.specs.Words.{stationAt, stopAt, startAt}
+use Rattle.timetable.specs.Words.{stationAt, stopAt, startAt, numberAt}
 
 module _ (w : List ℕ) (i : ℕ) where
   pub station-there : (a b : ℕ) → a ≡ getD w (3 + 2 * i) 0 → b ≡ getD w (3 + 2 * i + 1) 0
@@ -25,3 +25,8 @@ module _ (w : List ℕ) (i : ℕ) where
     pub start-there : (m r : ℕ) → m ≡ getD w 2 0 → r ≡ getD w (3 + 2 * n + 4 * m + i) 0 → r ≡ startAt w i
     unfolding startAt
     start-there m r e f = f ∙ rw (is, e)
+
+    pub number-there : (m t r : ℕ) → m ≡ getD w 2 0 → t ≡ getD w 1 0
+        → r ≡ getD w (3 + 2 * n + 4 * m + (t + 1) + i) 0 → r ≡ numberAt w i
+    unfolding numberAt
+    number-there m t r e g f = f ∙ rw (is, e, g)

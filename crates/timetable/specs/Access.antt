@@ -15,6 +15,7 @@ use Rattle.timetable.specs.Timetable.{
   Station,
   Stop,
   Trip,
+  numberOf,
   lastMinute,
   listed,
   leaves,
@@ -24,6 +25,7 @@ use Rattle.timetable.specs.Timetable.{
   validTrips,
   validStations,
   runs,
+  numbered,
   counted,
   valid,
 }
@@ -35,6 +37,7 @@ use Rattle.timetable.specs.Words.{
   stopAt,
   startAt,
   tripAt,
+  numberAt,
   timetableOf,
   rise,
   chained,
@@ -46,13 +49,14 @@ use Rattle.timetable.specs.Check.{
   zeroed,
   rising,
   headed,
+  numbersTest,
   stationsTest,
   allTripsTest,
   decided,
 }
 
 -- the numbers from k on, one by one
-map-numbers : {A : Type 0} (f : ℕ → A) (k n i : ℕ) (d : A) → i < n → getD (map f (range k n)) i d ≡ f (k + i)
+pub map-numbers : {A : Type 0} (f : ℕ → A) (k n i : ℕ) (d : A) → i < n → getD (map f (range k n)) i d ≡ f (k + i)
 map-numbers f k zero i d h = absurd (omega arith)
 map-numbers f k (suc n) zero d h = ap f (omega arith)
 map-numbers f k (suc n) (suc i) d h = map-numbers f (suc k) n i d (omega arith) ∙ ap f (omega arith)
@@ -66,6 +70,10 @@ module _ (w : List ℕ) where
   pub trip-is : (k : ℕ) (d : Trip) → k < tripCount w → getD ((timetableOf w) .trips) k d ≡ tripAt w k
   unfolding timetableOf
   trip-is k d h = map-numbers (tripAt w) 0 (tripCount w) k d h ∙ ap (tripAt w) (omega arith)
+
+  pub number-is : (k : ℕ) → k < tripCount w → numberOf (timetableOf w) k ≡ numberAt w k
+  unfolding timetableOf
+  number-is k h = map-numbers (numberAt w) 0 (tripCount w) k 0 h ∙ ap (numberAt w) (omega arith)
 
   pub trip-long : (k : ℕ) → length (tripAt w k) ≡ startAt w (k + 1) - startAt w k
   trip-long k = length-trip w k ∙ ap (λ j. startAt w j - startAt w k) (sym (add-one k))
@@ -207,8 +215,9 @@ module _ (w : List ℕ) (yes : isTimetable w ≡ true) where
   is-headed : headed w ≡ true
   is-headed =
       and-left (headed w) (zeroed w)
-      (and-left (headed w && zeroed w) (stationsTest w)
-      (and-left (headed w && zeroed w && stationsTest w) (allTripsTest w) (sym (decided w) ∙ yes)))
+      (and-left (headed w && zeroed w) (numbersTest w)
+      (and-left (headed w && zeroed w && numbersTest w) (stationsTest w)
+      (and-left (headed w && zeroed w && numbersTest w && stationsTest w) (allTripsTest w) (sym (decided w) ∙ yes))))
 
   pub record Counts : Type 0 where
     pub some-station : 1 ≤ stationCount w
@@ -236,7 +245,7 @@ module _ (w : List ℕ) (yes : isTimetable w ≡ true) where
   unfolding valid
   one-valid k h =
       let t = timetableOf w in
-      let all = and-right (counted t && validStations (t .stations)) _ spelled-valid in
+      let all = and-right (counted t && numbered t && validStations (t .stations)) _ spelled-valid in
       trip-valid (length (t .stations)) (t .trips) k [] all (omega (arith, length-trips w))
 
   pub trip-stops : (k : ℕ) → k < tripCount w → startAt w k + 2 ≤ startAt w (k + 1)

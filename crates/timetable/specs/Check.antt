@@ -7,7 +7,7 @@ use Prim.Native.Nat.{ℕ, zero, suc, _+_, _-_, _≤_, _<_}
 use native.Mathlib.Nat.{sub-zero}
 use native.Mathlib.Numerals.{add-one}
 use native.Mathlib.Omega.{arith}
-use borrow.Author.Tests.{leb-true, eqb-true}
+use borrow.Author.Tests.{leb-true, eqb-true, eq-eqb}
 use lib.Dec.{leb, eqb}
 use lib.ListN.{length, length-append, length-map}
 use Rattle.lists.specs.Lists.{range}
@@ -23,7 +23,9 @@ use Rattle.timetable.specs.Timetable.{
   follows,
   validStations,
   validTrips,
+  numbered,
   counted,
+  climb,
   valid,
 }
 use Rattle.timetable.specs.Words.{
@@ -34,6 +36,7 @@ use Rattle.timetable.specs.Words.{
   stopAt,
   startAt,
   tripAt,
+  numberAt,
   timetableOf,
   rise,
   chained,
@@ -52,7 +55,7 @@ passes n b s = follows n b s && leb (s .arrive) (s .depart) && leaves s
 unfoldable pub between : {A : Type 0} → (ℕ → A) → ℕ → ℕ → List A
 between f i n = map f (range i (n - i))
 
--- the stations, stops, trips and starts from one number up to another
+-- the stations, stops, trips, starts and numbers from one place up to another
 abbrev pub stationsAt : List ℕ → ℕ → ℕ → List Station
 stationsAt w = between (stationAt w)
 
@@ -64,6 +67,9 @@ tripsAt w = between (tripAt w)
 
 abbrev pub startsAt : List ℕ → ℕ → ℕ → List ℕ
 startsAt w = between (startAt w)
+
+abbrev pub numbersAt : List ℕ → ℕ → ℕ → List ℕ
+numbersAt w = between (numberAt w)
 
 -- the trips from number k on, the first of which begins at stop `first`
 unfoldable pub tripsTest : List ℕ → (n stops k first trips : ℕ) → Bool
@@ -124,8 +130,11 @@ module _ (w : List ℕ) where
   headed =
       leb 1 (stationCount w) && leb (stationCount w) 64 && leb (tripCount w) 256 && leb (stopCount w) 2048
 
+  abbrev pub numbersTest : Bool
+  numbersTest = climb 0 (numbersAt w 0 (tripCount w))
+
   abbrev pub decision : Bool
-  decision = headed && eqb (startAt w 0) 0 && stationsTest && allTripsTest
+  decision = headed && eqb (startAt w 0) 0 && numbersTest && stationsTest && allTripsTest
 
   pub length-stations : length ((timetableOf w) .stations) ≡ stationCount w
   unfolding timetableOf
@@ -172,9 +181,18 @@ module _ (w : List ℕ) where
       let one : tripCount w + 1 - (0 + 1) ≡ tripCount w = omega arith in
       rw one
 
-  is-valid : zeroed ≡ true → rising ≡ true → valid (timetableOf w) ≡ (headed && stationsTest && tripsValid)
+  pub length-numbers : length ((timetableOf w) .numbers) ≡ tripCount w
+  unfolding timetableOf
+  length-numbers = length-map (range 0 (tripCount w)) (numberAt w) ∙ length-range 0 (tripCount w)
+
+  numbers-same : numbered (timetableOf w) ≡ numbersTest
+  unfolding numbered timetableOf between
+  numbers-same = rw (eq-eqb _ _ (length-numbers ∙ sym length-trips), sub-zero)
+
+  is-valid : zeroed ≡ true → rising ≡ true
+      → valid (timetableOf w) ≡ (headed && numbersTest && stationsTest && tripsValid)
   unfolding valid
-  is-valid z r = rw (is-counted z r, stations-same, trips-same)
+  is-valid z r = rw (is-counted z r, numbers-same, stations-same, trips-same)
 
   pub decided : isTimetable w ≡ decision
   unfolding isTimetable chained
@@ -186,22 +204,28 @@ module _ (w : List ℕ) where
           let z = and-left zeroed rising chain in
           let r = and-right zeroed rising chain in
           let v = sym (is-valid z r) ∙ and-right (zeroed && rising) (valid (timetableOf w)) e in
-          let hs = and-left (headed && stationsTest) tripsValid v in
-          and-both (headed && zeroed && stationsTest) allTripsTest
-          (and-both (headed && zeroed) stationsTest
-          (and-both headed zeroed (and-left headed stationsTest hs) z)
-          (and-right headed stationsTest hs))
-          (test-same ∙ and-both rising tripsValid r (and-right (headed && stationsTest) tripsValid v))
+          let hns = and-left (headed && numbersTest && stationsTest) tripsValid v in
+          let hn = and-left (headed && numbersTest) stationsTest hns in
+          and-both (headed && zeroed && numbersTest && stationsTest) allTripsTest
+          (and-both (headed && zeroed && numbersTest) stationsTest
+          (and-both (headed && zeroed) numbersTest
+          (and-both headed zeroed (and-left headed numbersTest hn) z)
+          (and-right headed numbersTest hn))
+          (and-right (headed && numbersTest) stationsTest hns))
+          (test-same ∙ and-both rising tripsValid r (and-right (headed && numbersTest && stationsTest) tripsValid v))
 
       back : decision ≡ true → isTimetable w ≡ true
       back e =
-          let hzs = and-left (headed && zeroed && stationsTest) allTripsTest e in
-          let hz = and-left (headed && zeroed) stationsTest hzs in
-          let rt = sym test-same ∙ and-right (headed && zeroed && stationsTest) allTripsTest e in
+          let hzns = and-left (headed && zeroed && numbersTest && stationsTest) allTripsTest e in
+          let hzn = and-left (headed && zeroed && numbersTest) stationsTest hzns in
+          let hz = and-left (headed && zeroed) numbersTest hzn in
+          let rt = sym test-same ∙ and-right (headed && zeroed && numbersTest && stationsTest) allTripsTest e in
           let z = and-right headed zeroed hz in
           let r = and-left rising tripsValid rt in
           and-both (zeroed && rising) (valid (timetableOf w)) (and-both zeroed rising z r)
           (is-valid z r
-          ∙ and-both (headed && stationsTest) tripsValid
-          (and-both headed stationsTest (and-left headed zeroed hz) (and-right (headed && zeroed) stationsTest hzs))
+          ∙ and-both (headed && numbersTest && stationsTest) tripsValid
+          (and-both (headed && numbersTest) stationsTest
+          (and-both headed numbersTest (and-left headed zeroed hz) (and-right (headed && zeroed) numbersTest hzn))
+          (and-right (headed && zeroed && numbersTest) stationsTest hzns))
           (and-right rising tripsValid rt))

@@ -1,6 +1,9 @@
 pub mod Timetable
+pub mod Numbers
 pub mod Words
 pub mod WordLaws
 pub mod Check
 pub mod Access
+pub mod Parts
+pub mod Changes
 pub mod Worked

@@ -1,13 +1,13 @@
 -- The abstract timetable: stations, trips and their stops. All later work speaks of this, never of words or bytes.
 -- Document 01: "Station: `S,station,change minutes,change penalty`", "Stop: `T,trip,stop,station,arrive,depart,ride
--- penalty`". Stations, trips and the stops of a trip are numbered from 1, by their places in the lists. Penalties are
--- counted in points. A field that is empty in the text is 0 here: arrive at a trip's first stop, depart and points at
--- its last.
+-- penalty`". Stations and the stops of a trip are numbered from 1, by their places in the lists; a trip has a number of
+-- its own, and trips stand in rising number. Penalties are counted in points. A field that is empty in the text is 0
+-- here: arrive at a trip's first stop, depart and points at its last.
 use mathlib.Core.Bool.{Bool, true, false, not, _&&_}
 use mathlib.Core.List.{List, [], _∷_, _++_}
 use Prim.Native.Nat.{ℕ}
 use lib.Dec.{leb, ltb, eqb}
-use lib.ListN.{length}
+use lib.ListN.{length, getD}
 use Rattle.timetable.specs.declared.Station.{Station as StationStruct}
 use Rattle.timetable.specs.declared.Stop.{Stop as StopStruct}
 
@@ -23,7 +23,12 @@ Trip = List Stop
 
 pub record Timetable : Type 0 where
   pub stations : List Station
+  pub numbers : List ℕ
   pub trips : List Trip
+
+-- the number of the trip at place z
+abbrev pub numberOf : Timetable → (z : ℕ) → ℕ
+numberOf t z = getD (t .numbers) z 0
 
 -- "At most 64 stations, 256 trips, 2,048 stops in all"
 abbrev pub stationsMost : ℕ
@@ -92,6 +97,20 @@ counted t =
     && leb (length (t .trips)) tripsMost
     && leb (length (stopsOf (t .trips))) stopsMost
 
--- A timetable that some accepted text leads to.
+-- "Trip numbers may have gaps and go to 9,999"
+abbrev pub numberMost : ℕ
+numberMost = 9999
+
+-- numbers of trips above a, rising
+unfoldable pub climb : (a : ℕ) → List ℕ → Bool
+climb a [] = true
+climb a (n ∷ l) = ltb a n && leb n numberMost && climb n l
+
+-- each trip has a number, from 1 on and rising
+unfoldable pub numbered : Timetable → Bool
+numbered t = eqb (length (t .numbers)) (length (t .trips)) && climb 0 (t .numbers)
+
+-- A timetable that reading an accepted text, and then cancelling and adding trips, can lead to.
 unfoldable pub valid : Timetable → Bool
-valid t = counted t && validStations (t .stations) && validTrips (length (t .stations)) (t .trips)
+valid t =
+    counted t && numbered t && validStations (t .stations) && validTrips (length (t .stations)) (t .trips)

@@ -1,4 +1,4 @@
--- The words of stations, stops and starts, one more at a time.
+-- The words of stations, stops and starts, one more at a time, and of a timetable, part by part.
 use mathlib.Core.Path.{_≡_, refl, sym, ap, _∙_}
 use mathlib.Core.List.{List, [], _∷_, _++_, append-assoc}
 use Prim.Native.Nat.{ℕ, _+_, _*_}
@@ -59,9 +59,11 @@ module _
     (is-stations : stations ≡ length (t .stations))
     (is-trips : trips ≡ length (t .trips))
     (is-stops : stops ≡ length (stopsOf (t .trips)))
-    (body starts old₁ old₂ : List ℕ)
+    (body starts numbers old₁ old₂ old₃ : List ℕ)
     (held : body ≡ put 0 (stationWords (t .stations) ++ stopWords (stopsOf (t .trips))) old₁)
     (kept : starts ≡ put 0 (startWords 0 (t .trips)) old₂)
+    (told : numbers ≡ put 0 (t .numbers) old₃)
+    (all-told : length (t .numbers) ≡ length (t .trips))
   where
     abbrev front : List ℕ
     front = stationWords (t .stations) ++ stopWords (stopsOf (t .trips))
@@ -85,6 +87,12 @@ module _
         omega (arith, is-trips, length-startWords 0 (t .trips)) in
         (λ i. take (many i) (kept i)) ∙ take-put (startWords 0 (t .trips)) old₂
 
-    pub joined-words : joined stations trips stops body starts ≡ words t
+    numbers-taken : take trips numbers ≡ t .numbers
+    numbers-taken =
+        let many : trips ≡ length (t .numbers) = omega (arith, is-trips, all-told) in
+        (λ i. take (many i) (told i)) ∙ take-put (t .numbers) old₃
+
+    pub joined-words : joined stations trips stops body starts numbers ≡ words t
     unfolding words
-    joined-words = λ i. is-stations i ∷ is-trips i ∷ is-stops i ∷ (body-taken i ++ starts-taken i)
+    joined-words =
+        λ i. is-stations i ∷ is-trips i ∷ is-stops i ∷ (body-taken i ++ starts-taken i ++ numbers-taken i)

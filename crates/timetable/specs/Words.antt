@@ -1,5 +1,6 @@
 -- The words of a timetable (docs/LAYOUT.md): S, T, N; change minutes and penalty of each station; station, arrive,
--- depart and ride penalty of each stop, trip by trip; the place of each trip's first stop among all stops, and N.
+-- depart and ride penalty of each stop, trip by trip; the place of each trip's first stop among all stops, and N; the
+-- number of each trip.
 use mathlib.Core.Bool.{Bool, _&&_}
 use mathlib.Core.List.{List, [], _∷_, _++_, map}
 use Prim.Native.Nat.{ℕ, _+_, _-_, _*_}
@@ -27,13 +28,16 @@ words t =
     length (t .stations)
     ∷ length (t .trips)
     ∷ length (stopsOf (t .trips))
-    ∷ (stationWords (t .stations) ++ stopWords (stopsOf (t .trips)) ++ startWords 0 (t .trips))
+    ∷ (stationWords (t .stations) ++ stopWords (stopsOf (t .trips)) ++ startWords 0 (t .trips) ++ t .numbers)
 
 -- the words of so many stations, trips and stops, as they are put together: those of stations and stops are the first
--- of one list, the starts the first of another
-abbrev pub joined : (stations trips stops : ℕ) (body starts : List ℕ) → List ℕ
-joined stations trips stops body starts =
-    stations ∷ trips ∷ stops ∷ (take (2 * stations + 4 * stops) body ++ take (trips + 1) starts)
+-- of one list, the starts and the numbers the first of two others
+abbrev pub joined : (stations trips stops : ℕ) (body starts numbers : List ℕ) → List ℕ
+joined stations trips stops body starts numbers =
+    stations
+    ∷ trips
+    ∷ stops
+    ∷ (take (2 * stations + 4 * stops) body ++ take (trips + 1) starts ++ take trips numbers)
 
 -- ---- the timetable that words spell
 abbrev pub stationCount : List ℕ → ℕ
@@ -69,10 +73,15 @@ startAt w k = getD w (stopPlace w (stopCount w) + k) 0
 unfoldable pub tripAt : List ℕ → ℕ → Trip
 tripAt w k = map (stopAt w) (range (startAt w k) (startAt w (k + 1) - startAt w k))
 
+-- the number of trip k
+unfoldable pub numberAt : List ℕ → ℕ → ℕ
+numberAt w k = getD w (stopPlace w (stopCount w) + (tripCount w + 1) + k) 0
+
 unfoldable pub timetableOf : List ℕ → Timetable
 timetableOf w =
     record {
       stations = map (stationAt w) (range 0 (stationCount w));
+      numbers = map (numberAt w) (range 0 (tripCount w));
       trips = map (tripAt w) (range 0 (tripCount w));
     }
 
@@ -86,7 +95,8 @@ rise a (b ∷ l) n = leb a b && rise b l n
 unfoldable pub chained : List ℕ → Bool
 chained w = eqb (startAt w 0) 0 && rise 0 (map (startAt w) (range 1 (tripCount w))) (stopCount w)
 
--- "Could the timetable words come from an accepted text? 9" The crate accepted proves that this is what it decides.
+-- "Could the timetable words come from an accepted text? 9", where document 02, Eleven, has question 9 "admit gaps and
+-- count no bytes": from a text and the changes after it. The crate accepted proves that this is what it decides.
 unfoldable pub isTimetable : List ℕ → Bool
 isTimetable w = chained w && valid (timetableOf w)
 

@@ -1,6 +1,6 @@
-// The abstract timetable, the words that hold it, and question 9: could these words come from an accepted text?
+// The abstract timetable, the words that hold it, and question 9: can a text and changes after it lead to these words?
 ghost use mathlib.Core.Path.{_≡_};
-ghost use Prim.Native.Nat.{_+_, _*_, _≤_, _<_};
+ghost use Prim.Native.Nat.{_+_, _-_, _*_, _≤_, _<_};
 ghost use lib.ListN.{length};
 ghost use Rattle.timetable.specs.Timetable.{
   validStation,
@@ -11,19 +11,24 @@ ghost use Rattle.timetable.specs.Timetable.{
   runs,
   validTrip,
   validStations,
+  climb,
 };
 ghost use Rattle.words.specs.Put.{put};
 ghost use Rattle.timetable.specs.Words.{
+  stationWords,
+  stopWords,
   joined,
   stationCount,
+  tripCount,
   stopCount,
   stationAt,
   stopAt,
   startAt,
+  numberAt,
   isTimetable,
   timetableNumber,
 };
-ghost use Rattle.timetable.specs.Check.{begins, passes, stationsAt, stopsAt, tripsTest};
+ghost use Rattle.timetable.specs.Check.{begins, passes, stationsAt, stopsAt, numbersAt, tripsTest};
 
 // The words that every lent timetable slice has at least.
 pub const WORDS_LEAST: usize = 16384;
@@ -34,10 +39,15 @@ pub const TRIPS_MOST: u32 = 256;
 
 pub const STOPS_MOST: u32 = 2048;
 
-// The words of all stations and stops, at the limits, and the places where trips begin.
+// The words of all stations and stops, at the limits, the places where trips begin, and their numbers.
 pub const BODY_WORDS: usize = 2 * STATIONS_MOST as usize + 4 * STOPS_MOST as usize;
 
 pub const STARTS_WORDS: usize = TRIPS_MOST as usize + 1;
+
+pub const NUMBERS_WORDS: usize = TRIPS_MOST as usize;
+
+// The greatest number of a trip.
+pub const NUMBER_MOST: u32 = 9999;
 
 const CHANGE_MINUTES_MOST: u32 = 240;
 
@@ -103,8 +113,77 @@ pub fn start_at(words: &[u16], k: usize) -> usize
     words::word(words, place) as usize
 }
 
+// The number of trip k, counted from 0.
+pub fn number_at(words: &[u16], k: usize) -> u32
+    requires { ⌜ (16384 ≤ length (now words))
+        × (stationCount (now words) ≤ 64)
+        × (tripCount (now words) ≤ 256)
+        × (stopCount (now words) ≤ 2048)
+        × (k ≤ 256) ⌝ }
+    ensures { λ r. ⌜ (r ≡ numberAt (now (words .entry)) k) × (r < 65536) ⌝ }
+{
+    let stops = 3 + 2 * words::word(words, 0) as usize;
+    let starts = stops + 4 * words::word(words, 2) as usize;
+    let place = starts + (words::word(words, 1) as usize + 1) + k;
+    words::word(words, place)
+}
+
+// Copies the words of all stations to the beginning of body.
+pub fn copy_stations(words: &[u16], body: &mut [u16])
+    requires { ⌜ (16384 ≤ length (now words)) × (stationCount (now words) ≤ 64) × (length (now body) ≡ 8320) ⌝ }
+    ensures { λ _. ⌜ now (body .exit)
+        ≡ put 0 (stationWords (stationsAt (now (words .entry)) 0 (stationCount (now (words .entry)))))
+        (now (body .entry)) ⌝ }
+    ensures { λ _. ⌜ length (now (body .exit)) ≡ length (now (body .entry)) ⌝ }
+{
+    let count = 2 * words::word(words, 0) as usize;
+    let from = 3;
+    let part = &words[from..from + count];
+    words::copy(body, 0, part, count);
+}
+
+// Copies the words of the stops from place first up to place end into body, from index at on.
+pub fn copy_stops(words: &[u16], first: usize, end: usize, body: &mut [u16], at: usize)
+    requires { ⌜ (16384 ≤ length (now words))
+        × (stationCount (now words) ≤ 64)
+        × (first ≤ end)
+        × (end ≤ 2048)
+        × (length (now body) ≡ 8320)
+        × (at + 4 * (end - first) ≤ 8320) ⌝ }
+    ensures { λ _. ⌜ now (body .exit)
+        ≡ put at (stopWords (stopsAt (now (words .entry)) first end)) (now (body .entry)) ⌝ }
+    ensures { λ _. ⌜ length (now (body .exit)) ≡ length (now (body .entry)) ⌝ }
+{
+    let count = 4 * (end - first);
+    let from = 3 + 2 * words::word(words, 0) as usize + 4 * first;
+    let part = &words[from..from + count];
+    words::copy(body, at, part, count);
+}
+
+// Copies the numbers of the trips from place first up to place end into numbers, from index at on.
+pub fn copy_numbers(words: &[u16], first: usize, end: usize, numbers: &mut [u16], at: usize)
+    requires { ⌜ (16384 ≤ length (now words))
+        × (stationCount (now words) ≤ 64)
+        × (tripCount (now words) ≤ 256)
+        × (stopCount (now words) ≤ 2048)
+        × (first ≤ end)
+        × (end ≤ 256)
+        × (length (now numbers) ≡ 256)
+        × (at + (end - first) ≤ 256) ⌝ }
+    ensures { λ _. ⌜ now (numbers .exit)
+        ≡ put at (numbersAt (now (words .entry)) first end) (now (numbers .entry)) ⌝ }
+    ensures { λ _. ⌜ length (now (numbers .exit)) ≡ length (now (numbers .entry)) ⌝ }
+{
+    let count = end - first;
+    let stops = 3 + 2 * words::word(words, 0) as usize;
+    let starts = stops + 4 * words::word(words, 2) as usize;
+    let from = starts + (words::word(words, 1) as usize + 1) + first;
+    let part = &words[from..from + count];
+    words::copy(numbers, at, part, count);
+}
+
 // Writes the words of a timetable of so many stations, trips and stops: the words of its stations and stops, which
-// body begins with, after the three counts, and after them where its trips begin.
+// body begins with, after the three counts, and after them where its trips begin and which numbers they have.
 pub fn write_words(
     timetable: &mut [u16],
     stations: usize,
@@ -112,15 +191,18 @@ pub fn write_words(
     stops: usize,
     body: &[u16],
     starts: &[u16],
+    numbers: &[u16],
 )
     requires { ⌜ (stations ≤ 64)
         × (trips ≤ 256)
         × (stops ≤ 2048)
         × (16384 ≤ length (now timetable))
         × (length (now body) ≡ 8320)
-        × (length (now starts) ≡ 257) ⌝ }
+        × (length (now starts) ≡ 257)
+        × (length (now numbers) ≡ 256) ⌝ }
     ensures { λ _. ⌜ now (timetable .exit)
-        ≡ put 0 (joined stations trips stops (now (body .entry)) (now (starts .entry))) (now (timetable .entry)) ⌝ }
+        ≡ put 0 (joined stations trips stops (now (body .entry)) (now (starts .entry)) (now (numbers .entry)))
+        (now (timetable .entry)) ⌝ }
     ensures { λ _. ⌜ length (now (timetable .exit)) ≡ length (now (timetable .entry)) ⌝ }
 {
     let body_length = 2 * stations + 4 * stops;
@@ -129,6 +211,7 @@ pub fn write_words(
     words::put_three(timetable, 0, stations as u32, trips as u32, stops as u32);
     words::copy(timetable, 3, body, body_length);
     words::copy(timetable, starts_at, starts, starts_length);
+    words::copy(timetable, starts_at + starts_length, numbers, trips);
 }
 
 // ---- question 9, from its parts
@@ -269,6 +352,31 @@ fn stations_are_valid(words: &[u16], n: usize) -> bool
     true
 }
 
+// The numbers of the trips rise, from 1 at least to the greatest at most.
+fn numbers_climb(words: &[u16], trips: usize) -> bool
+    requires { ⌜ (16384 ≤ length (now words))
+        × (stationCount (now words) ≤ 64)
+        × (tripCount (now words) ≤ 256)
+        × (stopCount (now words) ≤ 2048)
+        × (trips ≤ 256) ⌝ }
+    ensures { λ r. ⌜ r ≡ climb 0 (numbersAt (now (words .entry)) 0 trips) ⌝ }
+{
+    let mut last = 0;
+    let mut k = 0;
+    while k < trips {
+        let number = number_at(words, k);
+        if number <= last {
+            return false;
+        }
+        if NUMBER_MOST < number {
+            return false;
+        }
+        last = number;
+        k += 1;
+    }
+    true
+}
+
 // The trips stand one after the other, from stop 0 to the last of all stops, and each is valid.
 fn trips_are_valid(words: &[u16], n: u32, trips: usize, stops: usize) -> bool
     requires { ⌜ (16384 ≤ length (now words))
@@ -319,6 +427,9 @@ pub fn is_timetable(words: &[u16]) -> bool
         return false;
     }
     if start_at(words, 0) != 0 {
+        return false;
+    }
+    if !numbers_climb(words, trips as usize) {
         return false;
     }
     if !stations_are_valid(words, stations as usize) {

@@ -1,23 +1,17 @@
--- The theorem of Cases. The variants' texts are those that are written out from them, and so accepted; each reply then
--- follows by Replied from the rows, stores and lines that are worked out in the crates below.
+-- The theorem of Cases. The variants' texts are read by computation; each reply then follows by Replied from the rows,
+-- stores and lines that are worked out in the crates below.
 use mathlib.Core.Path.{_≡_, refl, sym, ap, _∙_}
 use mathlib.Core.Bool.{true}
 use mathlib.Core.List.{List, [], _∷_, _++_, map}
-use Prim.Native.Nat.{ℕ, suc, _+_, _*_, _-_, _≤_}
+use Prim.Native.Nat.{ℕ, _+_, _*_, _-_, _≤_}
 use native.Mathlib.Omega.{arith}
 use borrow.Author.Tests.{le-leb}
 use lib.ListN.{length, getD, drop, length-map}
-use Rattle.timetable.specs.Timetable.{validStation, leaves, ends, follows, runs}
-use Rattle.timetable.specs.Timetable.{listed as validListed, validTrip, validStations, validTrips, counted, valid}
+use Rattle.timetable.specs.Timetable.{numberOf}
 use Rattle.timetable.specs.Words.{words}
 use Rattle.timetable.specs.Worked.{variant, M}
 use Rattle.reading.specs.Reading.{Accepted, reading, readReply, readWords}
-use Rattle.accepted.specs.Marks.{lined, fielded}
-use Rattle.accepted.specs.Digits.{digits}
-use Rattle.accepted.specs.Clock.{clock}
-use Rattle.accepted.specs.WrittenOut.{stationLine, stationLines, stopLine, stopLines, tripLines, linesOf, textOf}
-use Rattle.accepted.specs.Taken.{valid-accepted}
-use Rattle.accepted.specs.Cases.{bytes, textM, M-accepted, M-words, case-k}
+use Rattle.accepted.specs.Cases.{bytes, readAll, textM, M-accepted, M-words, case-k}
 use Rattle.results.specs.Results.{dominates, equal, entries, result}
 use Rattle.connections.specs.Rides.{ridePoints, ridesOf}
 use Rattle.connections.specs.Connections.{net, changesOf}
@@ -30,7 +24,7 @@ use Rattle.lines.specs.DirectRides.{directs, directRows}
 use Rattle.lines.specs.Worked.{case-e, case-f}
 use Rattle.lines_tables.specs.Tables.{timeRow, lineTimes, courseWords, lineWords, linePlaces, allLineWords}
 use Rattle.lines_tables.specs.Tables.{callPairs, allCallPairs, callPlaces, tableWords}
-use Rattle.lines_tables.specs.Building.{lineCount, tablesOf}
+use Rattle.lines_tables.specs.Building.{lineCount}
 use Rattle.demands.specs.Cases.{from-1, from-2}
 use Rattle.demands.specs.Cases.{cases as defined}
 use Rattle.worked.specs.Calls.{Slices, Room, returned, read, timetableAfter, tablesAfter, tripsOf, storeSlice}
@@ -53,26 +47,13 @@ use Rattle.worked.specs.Replied.{
 }
 
 -- ---- the texts
-ten-lines : (c v : ℕ) → length (linesOf (variant c v)) ≡ 10
-unfolding linesOf stationLines tripLines stopLines variant
-ten-lines c v = refl
-
-variant-accepted : (c v : ℕ) (text : List ℕ) → valid (variant c v) ≡ true → textOf (variant c v) ≡ text
-    → reading text ≡ Accepted (variant c v) 10
-variant-accepted c v text valid-yes written =
-    ap reading (sym written)
-    ∙ valid-accepted (variant c v) valid-yes
-    ∙ ap (Accepted (variant c v)) (ten-lines c v)
-
 accepted-f : reading (textWith "3" "08:34") ≡ Accepted (variant 3 514) 10
-unfolding valid counted validStations validTrips validTrip validStation validListed leaves ends follows runs variant
-    textOf linesOf stationLines tripLines stopLines stationLine stopLine digits clock lined fielded bytes textWith
-accepted-f = variant-accepted 3 514 (textWith "3" "08:34") refl refl
+unfolding readAll bytes textWith variant
+accepted-f = refl
 
 accepted-i : reading (textWith "4" "08:40") ≡ Accepted (variant 4 520) 10
-unfolding valid counted validStations validTrips validTrip validStation validListed leaves ends follows runs variant
-    textOf linesOf stationLines tripLines stopLines stationLine stopLine digits clock lined fielded bytes textWith
-accepted-i = variant-accepted 4 520 (textWith "4" "08:40") refl refl
+unfolding readAll bytes textWith variant
+accepted-i = refl
 
 with-M : textWith "3" "08:40" ≡ textM
 unfolding textWith textM bytes
@@ -84,12 +65,12 @@ unfolding M variant
 three-stations = refl
 
 lines-M : lineCount M ≡ 2
-lines-M = sym (length-map (lines (M .trips)) (map suc)) ∙ ap length case-e
+lines-M = sym (length-map (lines (M .trips)) (map (numberOf M))) ∙ ap length case-e
 
-words-long : length (words M) ≡ 41
+words-long : length (words M) ≡ 44
 words-long = ap length M-words
 
-tables-long : length (tablesOf M) ≡ 56
+tables-long : length (tableWords M) ≡ 56
 unfolding
     tableWords
     linePlaces
@@ -178,11 +159,11 @@ module _ (s : Slices) where
       trips-handed s textM M 10 2 known-M line h (omega (arith, lines-M))
       ∙ ap (λ l. getD l (line - 1) []) case-e
 
-  words-m : timetableAfter s textM ≡ words M ++ drop 41 (s .timetable)
+  words-m : timetableAfter s textM ≡ words M ++ drop 44 (s .timetable)
   words-m = read-writes s textM M 10 2 known-M ∙ ap (λ k. words M ++ drop k (s .timetable)) words-long
 
-  words-e : tablesAfter s textM ≡ tablesOf M ++ drop 56 (s .tables)
-  words-e = build-writes s textM M 10 2 known-M ∙ ap (λ k. tablesOf M ++ drop k (s .tables)) tables-long
+  words-e : tablesAfter s textM ≡ tableWords M ++ drop 56 (s .tables)
+  words-e = build-writes s textM M 10 2 known-M ∙ ap (λ k. tableWords M ++ drop k (s .tables)) tables-long
 
   reply-k : read s [] ≡ returned 7 1
   unfolding readReply packedReply

@@ -13,7 +13,7 @@ use Rattle.timetable.specs.Worked.{M}
 use Rattle.accepted.specs.Cases.{bytes, textM}
 use Rattle.connections.specs.Worked.{oneRide, twoRides}
 use Rattle.stores.specs.Words.{wellMade}
-use Rattle.lines_tables.specs.Building.{tablesOf}
+use Rattle.lines_tables.specs.Tables.{tableWords}
 use Rattle.worked.specs.Calls.{
   Slices,
   returned,
@@ -46,7 +46,7 @@ textWith change arrival =
 pub record Cases (s : Slices) : Type 0 where
   -- "Timetable M": 10 lines. "Words past a result keep their values", here and below.
   pub m : read s textM ≡ returned 0 10
-  pub m-words : timetableAfter s textM ≡ words M ++ drop 41 (s .timetable)
+  pub m-words : timetableAfter s textM ≡ words M ++ drop 44 (s .timetable)
   pub m-with : textWith "3" "08:40" ≡ textM
   -- "(a) The two queries above.": `Q,1,3,470,2` with its rows, and `N,1,3,481,14`, each from the store of 1
   pub a : asked s textM 1 3 470 ≡ returned 0 2
@@ -66,7 +66,7 @@ pub record Cases (s : Slices) : Type 0 where
   pub d-words : storeSlice s textM 3 ≡ (0 ∷ 0 ∷ []) ++ drop 2 (s .store)
   -- "(e) Lines of M: trip 1; then trips 3, 2."
   pub e : built s textM ≡ returned 0 2
-  pub e-words : tablesAfter s textM ≡ tablesOf M ++ drop 56 (s .tables)
+  pub e-words : tablesAfter s textM ≡ tableWords M ++ drop 56 (s .tables)
   pub e-first : tripsOf s textM 1 ≡ 1 ∷ []
   pub e-second : tripsOf s textM 2 ≡ 3 ∷ 2 ∷ []
   -- "(f) With trip 2 arriving at 514: three lines."

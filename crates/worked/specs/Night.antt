@@ -32,6 +32,7 @@ unfoldable pub night : Timetable
 night =
     record {
       stations = station 1 5 ∷ station 7 27 ∷ station 4 33 ∷ station 3 29 ∷ station 2 6 ∷ [];
+      numbers = 1 ∷ 2 ∷ 3 ∷ 4 ∷ 5 ∷ 6 ∷ [];
       trips =
           (stop 4 0 50 12 ∷ stop 1 52 55 14 ∷ stop 4 58 60 19 ∷ stop 5 64 0 0 ∷ [])
           ∷ (stop 1 0 53 8 ∷ stop 5 57 66 23 ∷ stop 3 70 0 0 ∷ [])
@@ -42,7 +43,8 @@ night =
           ∷ [];
     }
 
--- its words: the counts; the stations; the stops, trip by trip; where the trips begin, and the end
+-- its words: the counts; the stations; the stops, trip by trip; where the trips begin, and the end; the numbers of the
+-- trips
 abbrev pub nightWords : List ℕ
 nightWords =
     (5 ∷ 6 ∷ 16 ∷ [])
@@ -54,6 +56,7 @@ nightWords =
     ++ (5 ∷ 0 ∷ 59 ∷ 17 ∷ 3 ∷ 70 ∷ 0 ∷ 0 ∷ [])
     ++ (5 ∷ 0 ∷ 65 ∷ 17 ∷ 3 ∷ 70 ∷ 0 ∷ 0 ∷ [])
     ++ (0 ∷ 4 ∷ 7 ∷ 10 ∷ 12 ∷ 14 ∷ 16 ∷ [])
+    ++ (1 ∷ 2 ∷ 3 ∷ 4 ∷ 5 ∷ 6 ∷ [])
 
 -- the words of its line tables: the counts, and where the stations' lists are told; where the lines stand; line by
 -- line; where the lists stand; the lists, of which that of station 4 has line 2 twice
@@ -80,7 +83,7 @@ threeRides d p t x y t′ x′ y′ t″ x″ y″ = d ∷ p ∷ 3 ∷ t ∷ x �
 pub record NightCases (s : Slices) : Type 0 where
   -- ---- reading, building line tables, and the trips of each line
   pub text : read s textNight ≡ returned 0 21
-  pub text-words : timetableAfter s textNight ≡ nightWords ++ drop 84 (s .timetable)
+  pub text-words : timetableAfter s textNight ≡ nightWords ++ drop 90 (s .timetable)
   pub tables : built s textNight ≡ returned 0 5
   pub tables-words : tablesAfter s textNight ≡ nightTables ++ drop 133 (s .tables)
   pub line-1 : tripsOf s textNight 1 ≡ 3 ∷ []

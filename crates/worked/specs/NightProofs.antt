@@ -1,17 +1,15 @@
--- The theorem of Night. The text is the one that is written out from the timetable, and so accepted; each reply then
--- follows by Replied from the rows, stores and lines that NightRows computes.
+-- The theorem of Night. Each reply follows by Replied from the rows, stores and lines that NightRows computes, as it
+-- computes that the text is accepted.
 use mathlib.Core.Path.{_≡_, refl, sym, ap, _∙_}
 use mathlib.Core.Bool.{true, false, _&&_}
 use mathlib.Core.List.{List, [], _∷_, _++_, map}
-use Prim.Native.Nat.{ℕ, suc, _+_, _*_, _-_, _≤_}
+use Prim.Native.Nat.{ℕ, _+_, _*_, _-_, _≤_}
 use native.Mathlib.Omega.{arith}
 use borrow.Author.Tests.{leb-true, eqb-false}
 use lib.Dec.{leb, eqb}
 use lib.ListN.{length, getD, drop, length-map}
 use Rattle.lists.specs.Tests.{and-left, and-right}
-use Rattle.timetable.specs.Timetable.{lastMinute}
-use Rattle.reading.specs.Reading.{Accepted, reading}
-use Rattle.accepted.specs.Taken.{valid-accepted}
+use Rattle.timetable.specs.Timetable.{numberOf, lastMinute}
 use Rattle.connections.specs.Connections.{net}
 use Rattle.connections.specs.Planner.{plannerList, rowsOf}
 use Rattle.stores.specs.Words.{storeWords}
@@ -22,9 +20,7 @@ use Rattle.demands.specs.Demands.{Query}
 use Rattle.worked.specs.Calls.{Slices, tripsOf, Stores, Asks, AsksNone, Rides, RidesNone}
 use Rattle.worked.specs.Night.{textNight, night, NightCases}
 use Rattle.worked.specs.NightRows.{
-  night-valid,
-  night-written,
-  lines-written,
+  night-accepted,
   night-words,
   night-lines,
   night-tables,
@@ -75,12 +71,6 @@ use Rattle.worked.specs.Replied.{
   no-rides,
 }
 
-accepted : reading textNight ≡ Accepted night 21
-accepted =
-    ap reading (sym night-written)
-    ∙ valid-accepted night night-valid
-    ∙ ap (Accepted night) lines-written
-
 -- a query that names two of the five stations, and a minute
 query : (a b u : ℕ) → (leb 1 a && leb a 5) ≡ true → (leb 1 b && leb b 5) ≡ true → eqb b a ≡ false
     → leb u lastMinute ≡ true → Query (net night) a u b
@@ -103,10 +93,10 @@ unfolding night
 five-stations = refl
 
 five-lines : lineCount night ≡ 5
-five-lines = sym (length-map (lines (night .trips)) (map suc)) ∙ ap length night-lines
+five-lines = sym (length-map (lines (night .trips)) (map (numberOf night))) ∙ ap length night-lines
 
 known : Known textNight night 21 5
-known = record { accepted = accepted; counted = five-lines; few-lines = omega arith; few-counted = omega arith }
+known = record { accepted = night-accepted; counted = five-lines; few-lines = omega arith; few-counted = omega arith }
 
 module _ (s : Slices) where
   store-of : (a x y : ℕ) (rest : List ℕ) → storeWords (net night) a ≡ x ∷ y ∷ rest → 1 ≤ a → a ≤ 5

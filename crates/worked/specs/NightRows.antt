@@ -6,14 +6,9 @@ use Prim.Native.Nat.{ℕ}
 use native.Mathlib.Omega.{arith}
 use borrow.Author.Tests.{le-leb}
 use lib.ListN.{length}
-use Rattle.timetable.specs.Timetable.{validStation, leaves, ends, follows, runs}
-use Rattle.timetable.specs.Timetable.{listed as validListed, validTrip, validStations, validTrips, counted, valid}
 use Rattle.timetable.specs.Words.{stationWords, stopWords, startWords, words}
-use Rattle.accepted.specs.Cases.{bytes}
-use Rattle.accepted.specs.Marks.{lined, fielded}
-use Rattle.accepted.specs.Digits.{digits}
-use Rattle.accepted.specs.Clock.{clock}
-use Rattle.accepted.specs.WrittenOut.{stationLine, stationLines, stopLine, stopLines, tripLines, linesOf, textOf}
+use Rattle.reading.specs.Reading.{Accepted, reading}
+use Rattle.accepted.specs.Cases.{bytes, readAll}
 use Rattle.results.specs.Results.{dominates, equal, entries, result}
 use Rattle.connections.specs.Rides.{ridePoints, ridesOf}
 use Rattle.connections.specs.Connections.{net, changesOf}
@@ -25,34 +20,24 @@ use Rattle.lines.specs.Lines.{inOrder, lines, lineNumbers, calls}
 use Rattle.lines.specs.DirectRides.{directs, directRows}
 use Rattle.lines_tables.specs.Tables.{timeRow, lineTimes, courseWords, lineWords, linePlaces, allLineWords}
 use Rattle.lines_tables.specs.Tables.{callPairs, allCallPairs, callPlaces, tableWords}
-use Rattle.lines_tables.specs.Building.{tablesOf}
 use Rattle.worked.specs.Night.{textNight, night, nightWords, nightTables, threeRides}
 
 -- ---- the text
-pub night-valid : valid night ≡ true
-unfolding valid counted validStations validTrips validTrip validStation validListed leaves ends follows runs night
-night-valid = refl
-
-pub night-written : textOf night ≡ textNight
-unfolding textOf linesOf stationLines tripLines stopLines stationLine stopLine digits clock lined fielded bytes
-    textNight night
-night-written = refl
-
-pub lines-written : length (linesOf night) ≡ 21
-unfolding linesOf stationLines tripLines stopLines night
-lines-written = refl
+pub night-accepted : reading textNight ≡ Accepted night 21
+unfolding readAll bytes textNight night
+night-accepted = refl
 
 pub night-words : words night ≡ nightWords
 unfolding words stationWords stopWords startWords night
 night-words = refl
 
 -- ---- the lines
-pub night-lines : lineNumbers (night .trips)
+pub night-lines : lineNumbers night
     ≡ (3 ∷ []) ∷ (1 ∷ []) ∷ (2 ∷ []) ∷ (4 ∷ []) ∷ (5 ∷ 6 ∷ []) ∷ []
 unfolding night lines inOrder
 night-lines = refl
 
-pub night-tables : tablesOf night ≡ nightTables
+pub night-tables : tableWords night ≡ nightTables
 unfolding
     tableWords
     linePlaces

@@ -24,7 +24,8 @@ use Rattle.connections.specs.Connections.{net, Connection}
 use Rattle.connections.specs.Planner.{plannerList, measure, rowsOf}
 use Rattle.stores.specs.Stored.{stored}
 use Rattle.stores.specs.Words.{nodes, arcs, encode, entriesMost, storeWords, wellMade, keptList, answer}
-use Rattle.lines_tables.specs.Building.{buildNumber, buildReply, lineCount, tablesOf}
+use Rattle.lines_tables.specs.Building.{buildNumber, buildReply, lineCount}
+use Rattle.lines_tables.specs.Tables.{tableWords}
 use Rattle.lines_check.specs.Built.{built-words, built-long, built-holds}
 use Rattle.lines.specs.Lines.{lineNumbers}
 use Rattle.lines.specs.DirectRides.{directs, directRows}
@@ -172,19 +173,19 @@ module _ (s : Slices) (text : List ℕ) (t : Timetable) (lines count : ℕ) (k :
   built-0 : numberOf (buildReply w (length (s .tables)) (s .space)) ≡ 0
   built-0 = ap numberOf build-reply
 
-  pub build-writes : v ≡ tablesOf t ++ drop (length (tablesOf t)) (s .tables)
+  pub build-writes : v ≡ tableWords t ++ drop (length (tableWords t)) (s .tables)
   build-writes =
       built-words w (s .tables) (s .space) built-0
-      ∙ put-front (tablesOf (timetableOf w)) (s .tables)
-      ∙ ap (λ x. tablesOf x ++ drop (length (tablesOf x)) (s .tables)) spells
+      ∙ put-front (tableWords (timetableOf w)) (s .tables)
+      ∙ ap (λ x. tableWords x ++ drop (length (tableWords x)) (s .tables)) spells
 
   -- the trips of a line are handed out, by their numbers
   pub trips-handed : (line : ℕ) → 1 ≤ line → line ≤ lineCount t
-      → tripsOf s text line ≡ getD (lineNumbers (t .trips)) (line - 1) []
+      → tripsOf s text line ≡ getD (lineNumbers t) (line - 1) []
   unfolding pieceNumber
   trips-handed line least most =
       let holds = built-holds w (s .tables) (s .space) built-0 in
-      let counted = holding v (length ((timetableOf w) .stations)) ((timetableOf w) .trips) holds .line-count in
+      let counted = holding v (timetableOf w) holds .line-count in
       let named : line ≤ countedLines v = omega (arith, counted, ap lineCount spells) in
       let number : pieceNumber v (s .space) line ≡ 0 =
       rw (
@@ -195,8 +196,8 @@ module _ (s : Slices) (text : List ℕ) (t : Timetable) (lines count : ℕ) (k :
         le-leb 1 line least,
         le-leb line (countedLines v) named,
       ) in
-      handed v (s .space) line number (length ((timetableOf w) .stations)) ((timetableOf w) .trips) holds
-      ∙ ap (λ x. getD (lineNumbers (x .trips)) (line - 1) []) spells
+      handed v (s .space) line number (timetableOf w) holds
+      ∙ ap (λ x. getD (lineNumbers x) (line - 1) []) spells
 
   -- ---- the text is read and its tables are built
   loaded : Loaded text t w v

@@ -10,8 +10,8 @@ use std::time::{Duration, Instant};
 use dairyepoch_tests::connections;
 use dairyepoch_tests::direct::{self, Query, ROW_WORDS};
 use dairyepoch_tests::ffi::{
-    self, build_lines, check_lines, check_lines_alone, check_timetable, make_store, read, times_by_stop, times_by_trip,
-    Reply, Tables,
+    self, add_trip, build_lines, cancel_trip, check_lines, check_lines_alone, check_timetable, make_store, read,
+    times_by_stop, times_by_trip, Reply, Tables,
 };
 use dairyepoch_tests::generate::{
     largest, long_lines, most_rows, one_way, overtaking, rural, with_trips, Diamonds, DIRECT_ROWS_MOST,
@@ -22,8 +22,8 @@ use dairyepoch_tests::reference;
 use dairyepoch_tests::search::{self, Network};
 use dairyepoch_tests::store::{Store, STORE_WORDS_MOST};
 use dairyepoch_tests::tables;
-use dairyepoch_tests::timetable::{Timetable, RIDE_PENALTY_MOST};
-use dairyepoch_tests::words::{text_of, to_words, TIMETABLE_WORDS};
+use dairyepoch_tests::timetable::{trip_text, Timetable, RIDE_PENALTY_MOST};
+use dairyepoch_tests::words::{timetable_of, to_words, TIMETABLE_WORDS};
 
 const ROUNDS_MOST: usize = 1_001;
 const ROUNDS_LEAST: usize = 5;
@@ -39,6 +39,11 @@ fn main() {
     asking("question 10 on one line", &long_lines());
     asking("question 10 on 256 lines", &overtaking());
     asking("question 10 on one trip of 2,044 stops", &dear);
+    changing("a change on one line", &long_lines());
+    changing("a change on 256 lines", &overtaking());
+    changing("a change of random trips", &largest(&mut Random::new(4)));
+    changing("a change of a rural timetable", &rural(&mut Random::new(1), 8));
+    changing("a change of one trip of 2,044 stops", &dear);
     translating("times by trip and by stop of one line", &long_lines());
     translating("times by trip and by stop of 256 lines", &overtaking());
     translating("times by trip and by stop of one trip of 2,044 stops", &dear);
@@ -104,7 +109,7 @@ fn reading() {
             black_box(check_timetable(black_box(&table)));
         },
         &mut || {
-            black_box(text_of(black_box(&table)));
+            black_box(timetable_of(black_box(&table)));
         },
     ]);
     report("reading a text into words", reading, reference);
@@ -248,8 +253,7 @@ fn building(what: &str, timetable: &Timetable, lines: u32) {
             black_box(build_lines(black_box(&table), &mut words, &mut work));
         },
         &mut || {
-            let text = text_of(black_box(&table)).expect("the words have a text");
-            let timetable = reference::read(&text).expect("the text of words is accepted");
+            let timetable = timetable_of(black_box(&table)).expect("the words of a timetable");
             black_box(lines::to_words(&timetable));
         },
         &mut || {
@@ -283,8 +287,7 @@ fn asking(what: &str, timetable: &Timetable) {
             black_box(check_lines(black_box(&table), black_box(&lines), &mut work));
         },
         &mut || {
-            let text = text_of(black_box(&table)).expect("the words have a text");
-            let timetable = reference::read(&text).expect("the text of words is accepted");
+            let timetable = timetable_of(black_box(&table)).expect("the words of a timetable");
             black_box(tables::are_of(&timetable, black_box(&lines)));
         },
         &mut || {
@@ -296,6 +299,56 @@ fn asking(what: &str, timetable: &Timetable) {
     ]);
     report(&format!("{what}, with timetable words"), with, reference_with);
     report(&format!("{what}, alone"), alone, reference_alone);
+}
+
+/// Times cancelling the first, the middle and the last trip and adding it again, beside building the line tables afresh
+/// and question 9: a change is to take at most 1.5 times these two. Every change asks question 10 first.
+fn changing(what: &str, timetable: &Timetable) {
+    if !wanted(what) {
+        return;
+    }
+    let [mut table, mut lines] = lent(timetable);
+    let (fresh, fresh_lines) = (table.clone(), lines.clone());
+    let (mut built, mut work, mut work_built) = (vec![0; LINE_WORDS], vec![0; WORK_WORDS], vec![0; WORK_WORDS]);
+    let mut work_asked = vec![0; WORK_WORDS];
+    let numbers: Vec<u16> = timetable.trips.keys().copied().collect();
+    let last = numbers.len() - 1;
+    for (place, number) in [("first", numbers[0]), ("middle", numbers[last / 2]), ("last", numbers[last])] {
+        let (trip, text) = (number.into(), trip_text(number.into(), &timetable.trips[&number]));
+        let [mut cancels, mut adds] = [Vec::new(), Vec::new()];
+        let [building, nine, nine_and_ten, _] = medians([
+            &mut || {
+                black_box(build_lines(black_box(&fresh), &mut built, &mut work_built));
+            },
+            &mut || {
+                black_box(check_timetable(black_box(&fresh)));
+            },
+            &mut || {
+                black_box(check_lines(black_box(&fresh), black_box(&fresh_lines), &mut work_asked));
+            },
+            &mut || {
+                let began = Instant::now();
+                let cancelled = cancel_trip(black_box(&mut table), &mut lines, &mut work, trip);
+                cancels.push(began.elapsed());
+                let began = Instant::now();
+                let added = add_trip(black_box(&mut table), &mut lines, &mut work, trip, text.as_bytes());
+                adds.push(began.elapsed());
+                assert_eq!((cancelled.number, added.number), (0, 0), "{what}, trip {trip}");
+            },
+        ]);
+        assert_eq!(table, fresh, "{what}: cancelled and added again");
+        let beside = building + nine;
+        for (change, mut times) in [("cancelling", cancels), ("adding", adds)] {
+            let time = median(&mut times);
+            let ratio = time.as_secs_f64() / beside.as_secs_f64();
+            let verdict = if ratio <= 1.5 { "" } else { ", more than 1.5" };
+            println!(
+                "{what}, {change} the {place} trip: {time:.1?}, building and question 9 {beside:.1?}, ratio \
+                 {ratio:.2}{verdict}"
+            );
+        }
+        println!("  of a change questions 9 and 10 take {nine_and_ten:.1?}");
+    }
 }
 
 /// Times both translations against question 10 to the same tables.
@@ -379,10 +432,12 @@ fn medians_within<const N: usize>(mut works: [&mut dyn FnMut(); N], enough: Dura
             times.push(began.elapsed());
         }
     }
-    times.map(|mut times| {
-        times.sort_unstable();
-        times[times.len() / 2]
-    })
+    times.map(|mut times| median(&mut times))
+}
+
+fn median(times: &mut [Duration]) -> Duration {
+    times.sort_unstable();
+    times[times.len() / 2]
 }
 
 fn report(what: &str, library: Duration, reference: Duration) {

@@ -1,6 +1,6 @@
--- Three counts may be too large; then the trips on all lines decide.
+-- Two counts may be too large; then the trips on all lines decide.
 use borrow.Author.Needs.{needs}
-use Rattle.lines_alone.proofs.CountLaws.{stations-many, trips-many, lines-many, counts-tested}
+use Rattle.lines_alone.proofs.CountLaws.{stations-many, lines-many, counts-tested}
 use Rattle.lines_alone.proofs.counts_fit.Statement.{statement}
 use Rattle.lines_alone.proofs.counts_fit.Tie as tie
 
@@ -8,13 +8,10 @@ returns : tie.Need-returns
 returns c = search stations-many
 
 returns-2 : tie.Need-returns-2
-returns-2 c = search trips-many
+returns-2 c = search lines-many
 
 returns-3 : tie.Need-returns-3
-returns-3 c = search lines-many
-
-returns-4 : tie.Need-returns-4
-returns-4 c = search counts-tested
+returns-3 c = search counts-tested
 
 pub counts-fit-spec : {M : Type 1} → statement M
 counts-fit-spec =
@@ -25,6 +22,4 @@ counts-fit-spec =
     (λ c. search needs)
     returns-2
     (λ c. search needs)
-    returns-3
-    (λ c. search needs)
-    returns-4)
+    returns-3)

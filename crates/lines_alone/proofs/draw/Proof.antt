@@ -1,17 +1,9 @@
 -- The limits leave room in both arrays, and what is in them makes the words.
 use Prim.Native.Nat.{ℕ}
+use native.Mathlib.Omega.{arith}
 use borrow.Author.Needs.{needs}
 use lib.ListN.{replicate, length-replicate}
-use Rattle.lines_alone.proofs.SomeLaws.{
-  few-stations,
-  few-trips,
-  stations-room,
-  starts-room,
-  few-stops,
-  few-counted,
-  stops-room,
-  drawn-written,
-}
+use Rattle.lines_alone.proofs.SomeLaws.{few-stations, stations-room, few-counted, stops-room, drawn-written}
 use Rattle.lines_alone.proofs.draw.Statement.{statement}
 use Rattle.lines_alone.proofs.draw.Tie as tie
 
@@ -19,31 +11,33 @@ draw-stations-requires : tie.Need-draw-stations-requires
 draw-stations-requires c κs = search stations-room
 
 draw-trips-requires : tie.Need-draw-trips-requires
-draw-trips-requires c κs =
-    (search needs, search needs, search starts-room, search needs, search few-stops, search stops-room)
+draw-trips-requires c κs = (
+  (search needs, search needs, search needs),
+  ((search needs, search needs), (search needs, search needs, search needs, search stops-room)),
+)
 
 write-words-requires : tie.Need-write-words-requires
 write-words-requires c κs =
-    (search few-stations, search few-trips, search few-counted, search needs, search needs, search needs)
+    (search few-stations, search needs, search few-counted, search needs, search needs, search needs, search needs)
 
 returns : tie.Need-returns
 returns c =
     let write = c .before .before in
     let trips = write .before .before .before .before .before .before in
     let stations = trips .before .before .before .before in
-    let peeked-trips = stations .before .before in
-    let peeked-lines = peeked-trips .before in
-    let peeked = peeked-lines .before in
-    let entry = peeked .before .before .before in
-    let a = entry .args in (
-      drawn-written (a .v .now) (peeked .peek .result) (peeked-trips .peek3 .result) (trips .draw-trips .result)
-          (peeked .peek .ensures .0) (peeked-trips .peek3 .ensures .0) (trips .draw-trips .ensures .1 .1 .1)
-          (replicate 8320 0) (stations .draw-stations .last .0) (trips .draw-trips .last .1 .1 .1 .0) (replicate 257 0)
-          (trips .draw-trips .last .1 .1 .1 .1 .1 .0) (a .out .now) (write .write-words .last .0)
-          (stops-room (a .v .now) (entry .pre .0) (peeked-trips .peek3 .result) (peeked-trips .peek3 .ensures .0)
-          (entry .pre .1) (peeked .peek .result) (peeked .peek .ensures .0) (replicate 8320 0)
-          (length-replicate {A = ℕ} 8320 0)) (stations .draw-stations .ensures .0) (trips .draw-trips .ensures .0)
-          (trips .draw-trips .ensures .1 .0) (write .write-words .ensures .0),
+    let peeked = stations .before .before in
+    let entry = peeked .before .before .before .before .before in
+    let a = entry .args in
+    let few = entry .pre .1 .1 .0 in
+    let told = entry .pre .1 .0 .0 in (
+      drawn-written (a .v .now) (peeked .peek .result) (a .trips) (trips .draw-trips .result)
+          (peeked .peek .ensures .0) (trips .draw-trips .ensures .1 .1 .1) (a .numbers .now) told
+          (omega (arith, entry .pre .1 .0 .1, entry .pre .1 .0 .2)) (replicate 8320 0)
+          (stations .draw-stations .last .0) (trips .draw-trips .last .1 .1 .1 .1 .0) (replicate 257 0)
+          (trips .draw-trips .last .1 .1 .1 .1 .1 .1 .0) (a .out .now) (write .write-words .last .0)
+          (stops-room (a .v .now) (entry .pre .0 .0) (a .trips) few (peeked .peek .result) (peeked .peek .ensures .0)
+          (replicate 8320 0) (length-replicate {A = ℕ} 8320 0)) (stations .draw-stations .ensures .0)
+          (trips .draw-trips .ensures .0) (trips .draw-trips .ensures .1 .0) (write .write-words .ensures .0),
       search needs,
     )
 
@@ -51,8 +45,6 @@ pub draw-spec : {M : Type 1} → statement M
 draw-spec =
     tie.close
     (tie.spec
-    (λ c. search needs)
-    (λ c. search needs)
     (λ c. search needs)
     (λ c. search needs)
     draw-stations-requires

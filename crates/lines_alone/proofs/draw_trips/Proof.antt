@@ -8,6 +8,7 @@ use Rattle.words.specs.Put.{put, put-none}
 use Rattle.timetable.specs.Timetable.{stopsOf}
 use Rattle.timetable.specs.Words.{stopWords, startWords}
 use Rattle.lines_alone.specs.Drawn.{drawnTrips}
+use Rattle.lines_alone.proofs.NumberLaws.{number-small}
 use Rattle.lines_alone.proofs.DrawLaws.{
   start-held,
   next-counted,
@@ -24,7 +25,7 @@ use Rattle.lines_alone.proofs.draw_trips.Statement.{statement}
 use Rattle.lines_alone.proofs.draw_trips.Tie as tie
 
 abbrev Inv-loop : tie.InvT-loop
-Inv-loop v lines trips body₀ at starts₀ count₀ z₀ body starts count z =
+Inv-loop v marks numbers trips body₀ at starts₀ count₀ z₀ body starts count z =
     (z ≤ trips)
     × (count ≤ 2048)
     × (length body ≡ length body₀)
@@ -34,12 +35,12 @@ Inv-loop v lines trips body₀ at starts₀ count₀ z₀ body starts count z =
     × (starts ≡ put 0 (startWords 0 (drawnTrips v 0 z)) starts₀)
 
 abbrev μ-loop : tie.MeasureT-loop
-μ-loop v lines trips body₀ at starts₀ count₀ z₀ body starts count z = trips - z
+μ-loop v marks numbers trips body₀ at starts₀ count₀ z₀ body starts count z = trips - z
 
 loop-holds : tie.Need-loop-holds Inv-loop μ-loop
 unfolding stopWords
 loop-holds c =
-    let entry = c .before .before .before in (
+    let entry = c .before .before .before .before .before in (
       search needs,
       search needs,
       search needs,
@@ -59,25 +60,33 @@ loop-again : tie.Need-loop-again Inv-loop μ-loop
 loop-again c =
     let drawn = c .before .before .before in
     let home = drawn .before .before in
-    let test = home .before in
+    let read = home .before in
+    let test = read .before in
     let turn = test .before in
-    let entry = turn .before .before .before .before in
+    let entry = turn .before .before .before .before .before .before in
     let a = entry .args in
     let x = home .home-of in
+    let told = entry .pre .1 .0 .0 in
+    let number = read .word in
     let zeroed = set (a .starts .now) 0 0 in (
       search needs,
       search next-few,
       search needs,
       search needs,
-      next-counted (a .v .now) (a .trips) (turn .loop .z) (turn .loop .count) (turn .loop .inv .4) (x .result)
-          (x .ensures .0) (test .loop-test .taken),
-      trip-more (a .v .now) (a .trips) (turn .loop .z) (turn .loop .count) (turn .loop .inv .4) (x .result)
-          (x .ensures .0) (test .loop-test .taken) (a .at) (a .body .now) (turn .loop .body) (entry .pre .5)
-          (turn .loop .inv .5) (drawn .draw-trip .last .1 .1 .0) (drawn .draw-trip .ensures .0),
-      start-more (a .v .now) (a .trips) (turn .loop .z) (turn .loop .count) (turn .loop .inv .4) (x .result)
-          (x .ensures .0) (test .loop-test .taken) zeroed (turn .loop .starts) (turn .loop .inv .6)
-          (omega (arith, length-set (a .starts .now) 0 0, entry .pre .2)),
+      next-counted (a .v .now) (a .trips) (turn .loop .z) (turn .loop .count) (turn .loop .inv .4) (a .numbers .now)
+          told (number .result) (number .ensures .0) (x .result) (x .ensures .0) (test .loop-test .taken),
+      trip-more (a .v .now) (a .trips) (turn .loop .z) (turn .loop .count) (turn .loop .inv .4) (a .numbers .now) told
+          (number .result) (number .ensures .0) (x .result) (x .ensures .0) (test .loop-test .taken) (a .at)
+          (a .body .now) (turn .loop .body) (entry .pre .1 .1 .3) (turn .loop .inv .5)
+          (drawn .draw-trip .last .1 .1 .0) (drawn .draw-trip .ensures .0),
+      start-more (a .v .now) (a .trips) (turn .loop .z) (turn .loop .count) (turn .loop .inv .4) (a .numbers .now) told
+          (number .result) (number .ensures .0) (x .result) (x .ensures .0) (test .loop-test .taken) zeroed
+          (turn .loop .starts) (turn .loop .inv .6)
+          (omega (arith, length-set (a .starts .now) 0 0, entry .pre .1 .1 .0)),
     )
+
+home-of-requires : tie.Need-home-of-requires Inv-loop μ-loop
+home-of-requires c κs = (search needs, search needs, search needs, search number-small)
 
 returns : tie.Need-returns Inv-loop μ-loop
 returns c = (search trips-drawn, (search starts-drawn, ((search needs, search needs), search all-counted)))
@@ -90,8 +99,9 @@ draw-trips-spec =
     μ-loop
     (λ c. search needs)
     loop-holds
+    (λ c κs. search needs)
     (λ c. search needs)
-    (λ c. search needs)
+    home-of-requires
     (λ c. search needs)
     (λ c. search needs)
     draw-trip-requires

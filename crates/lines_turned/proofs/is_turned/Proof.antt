@@ -3,7 +3,7 @@ use mathlib.Core.Path.{_≡_}
 use Prim.Native.Nat.{_≤_, _-_}
 use lib.ListN.{drop}
 use Rattle.timetable.specs.Words.{timetableOf}
-use Rattle.lines_turned.specs.ByTrip.{tablesByTrip}
+use Rattle.lines_turned.specs.ByTrip.{wordsByTrip}
 use Rattle.lines_turned.specs.Turned.{starts}
 use Rattle.lines_turned.specs.Turning.{areByTrip}
 use Rattle.lines_turned.specs.Laid.{lineStart}
@@ -27,8 +27,8 @@ abbrev Inv-loop : tie.InvT-loop
 Inv-loop words work other count i₀ i =
     (i ≤ count)
     × (areByTrip words other
-    ≡ starts (drop (lineStart ((timetableOf words) .trips) i) (tablesByTrip (timetableOf words)))
-    (drop (lineStart ((timetableOf words) .trips) i) other))
+    ≡ starts (drop (lineStart (timetableOf words) i) (wordsByTrip (timetableOf words)))
+    (drop (lineStart (timetableOf words) i) other))
 
 abbrev μ-loop : tie.MeasureT-loop
 μ-loop words work other count i₀ i = count - i

@@ -4,7 +4,7 @@ use Prim.Native.Nat.{_≤_, _-_}
 use lib.ListN.{length, drop}
 use Rattle.words.specs.Put.{put}
 use Rattle.timetable.specs.Words.{timetableOf}
-use Rattle.lines_turned.specs.ByTrip.{tablesByTrip}
+use Rattle.lines_turned.specs.ByTrip.{wordsByTrip}
 use Rattle.lines_turned.specs.Laid.{lineStart}
 use Rattle.lines_turned.proofs.TurnLaws.{
   front-inside,
@@ -20,8 +20,8 @@ use Rattle.lines_turned.proofs.write_turned.Tie as tie
 
 abbrev Inv-loop : tie.InvT-loop
 Inv-loop words lines other₀ count i₀ other i =
-    let t = (timetableOf words) .trips in
-    let whole = tablesByTrip (timetableOf words) in
+    let t = timetableOf words in
+    let whole = wordsByTrip t in
     (i ≤ count)
     × (length other ≡ length other₀)
     × (16384 ≤ length other)

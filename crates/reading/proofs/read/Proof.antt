@@ -31,10 +31,21 @@ read-spec =
     (λ c. search needs)
     (λ c. search needs)
     (λ c. search needs)
+    (λ c. search needs)
+    (λ c. search needs)
     (λ c. (search refused-reply, (search refused-values, search refused-words)))
     (λ c. search needs)
     (λ c. search needs)
     (λ c. search needs)
-    (λ c κs. (search few-stations, search few-trips, search few-stops, search needs, search needs, search needs))
+    (λ c. search needs)
+    (λ c κs. (
+      search few-stations,
+      search few-trips,
+      search few-stops,
+      search needs,
+      search needs,
+      search needs,
+      search needs,
+    ))
     (λ c. search needs)
     (λ c. (search done-reply, (search done-values, search done-words))))

@@ -8,10 +8,11 @@ use Rattle.reading.proofs.read_lines.Statement.{statement}
 use Rattle.reading.proofs.read_lines.Tie as tie
 
 abbrev Inv-loop : tie.InvT-loop
-Inv-loop text body₀ starts₀ n p₀ line₀ from₀ body starts p line from = Kept text body₀ starts₀ body starts p line from
+Inv-loop rules stations text body₀ starts₀ n p₀ line₀ from₀ body starts p line from =
+    Kept rules stations text body₀ starts₀ body starts p line from
 
 abbrev μ-loop : tie.MeasureT-loop
-μ-loop text body₀ starts₀ n p₀ line₀ from₀ body starts p line from = length text - from
+μ-loop rules stations text body₀ starts₀ n p₀ line₀ from₀ body starts p line from = length text - from
 
 pub read-lines-spec : {M : Type 1} → statement M
 read-lines-spec =

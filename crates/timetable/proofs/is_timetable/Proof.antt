@@ -6,6 +6,7 @@ use Rattle.timetable.proofs.DecideLaws.{
   many-trips,
   many-stops,
   late-start,
+  bad-numbers,
   bad-stations,
   trips-decide,
 }
@@ -25,6 +26,9 @@ is-timetable-spec =
     (λ c. search many-stops)
     (λ c. search needs)
     (λ c. search late-start)
+    (λ c. search needs)
+    (λ c. search needs)
+    (λ c. search bad-numbers)
     (λ c. search needs)
     (λ c. search needs)
     (λ c. search bad-stations)

@@ -1,0 +1,46 @@
+-- Lines that are refused change nothing; a trip that was read is put in, and the tables are built again.
+use borrow.Author.Needs.{needs}
+use Rattle.changes.proofs.AskedLaws.{granted, words-room, lines-room, work-room, after-room}
+use Rattle.changes.proofs.AddLaws.{
+  refused-reply,
+  refused-timetable,
+  refused-lines,
+  fitting,
+  added-yes,
+  added-reply,
+  added-timetable,
+  added-lines,
+}
+use Rattle.changes.proofs.add_free.Statement.{statement}
+use Rattle.changes.proofs.add_free.Tie as tie
+
+put-in-requires : tie.Need-put-in-requires
+put-in-requires c κs =
+    let read = c .before .before .before .before .before in
+    let start = read .before .before .before .before .before .before .before in
+    let a = start .args in (
+      search words-room,
+      search needs,
+      search granted,
+      search needs,
+      fitting (a .timetable .now) (a .lines .now) _ (a .trip) (a .text .now) (start .pre .0) (start .pre .3) _ _ _
+          (read .read-trip .ensures .0) (search needs) (a .place) (start .pre .1),
+    )
+
+pub add-free-spec : {M : Type 1} → statement M
+add-free-spec =
+    tie.close
+    (tie.spec
+    (λ c. search needs)
+    (λ c κs. (search words-room, search granted, search needs, search needs))
+    (λ c. search needs)
+    (λ c. search needs)
+    (λ c. (search refused-reply, (search refused-timetable, search refused-lines)))
+    (λ c. search needs)
+    (λ c. search needs)
+    put-in-requires
+    (λ c κs. (search after-room, search added-yes, search lines-room, search work-room))
+    (λ c. search needs)
+    (λ c. search needs)
+    (λ c. search needs)
+    (λ c. (search added-reply, (search added-timetable, search added-lines))))

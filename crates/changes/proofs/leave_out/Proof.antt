@@ -1,0 +1,30 @@
+-- The words of what the arrays hold are written over the old ones.
+use borrow.Author.Needs.{needs}
+use Rattle.changes.proofs.FillLaws.{few-stations, left-words}
+use Rattle.changes.proofs.leave_out.Statement.{statement}
+use Rattle.changes.proofs.leave_out.Tie as tie
+
+pub leave-out-spec : {M : Type 1} → statement M
+leave-out-spec =
+    tie.close
+    (tie.spec
+    (λ c. search needs)
+    (λ c. search needs)
+    (λ c. search needs)
+    (λ c. search needs)
+    (λ c. search needs)
+    (λ c. search needs)
+    (λ c. search needs)
+    (λ c. search needs)
+    (λ c. search needs)
+    (λ c κs. (
+      search few-stations,
+      search needs,
+      search needs,
+      search needs,
+      search needs,
+      search needs,
+      search needs,
+    ))
+    (λ c. search needs)
+    (λ c. (search left-words, search needs)))

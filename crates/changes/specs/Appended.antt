@@ -1,0 +1,110 @@
+-- How the code puts a timetable together: stations, then trip behind trip, in three arrays. No reader of the promise
+-- needs this file.
+use mathlib.Core.Path.{_≡_}
+use mathlib.Core.List.{List, [], _∷_, _++_, map}
+use mathlib.Core.Bool.{true}
+use Prim.Native.Nat.{ℕ, _+_, _-_, _≤_, _<_}
+use lib.ListN.{length, take, drop}
+use Rattle.lists.specs.Lists.{range}
+use Rattle.words.specs.Put.{put}
+use Rattle.timetable.specs.Timetable.{Station, Trip, Timetable, stopsOf}
+use Rattle.timetable.specs.Words.{stationWords, stopWords, startWords, words, stationCount, tripCount, stopCount}
+use Rattle.timetable.specs.Words.{startAt, timetableOf, isTimetable}
+use Rattle.timetable.specs.Check.{tripsAt, numbersAt}
+use Rattle.timetable.specs.Changes.{without}
+use Rattle.reading.specs.Reading.{Outcome, Accepted, Refused}
+use Rattle.reading.specs.Model.{Within, bodyWords, progressOf}
+use Rattle.reading.specs.declared.Lines.{Lines}
+use Rattle.reading.specs.declared.Lines.the-variants.{Accepted as LinesAccepted, Refused as LinesRefused}
+use Rattle.changes.specs.declared.Counts.{Counts}
+use Rattle.changes.specs.declared.Found.{Found}
+use Rattle.changes.specs.declared.Found.the-variants.{Whole, Refused as FoundRefused}
+
+-- where the trips from one place up to another end, if so many stops stand before them
+unfoldable pub endsAt : List ℕ → (from to stops : ℕ) → List ℕ
+endsAt w from to stops = map (λ k. stops + (startAt w (k + 1) - startAt w from)) (range from (to - from))
+
+-- what the three arrays hold
+pub record Held (st : List Station) (ts : List Trip) (ns : List ℕ) (p : Counts)
+    (body starts numbers body₀ starts₀ numbers₀ : List ℕ) : Type 0 where
+  pub is-body : body ≡ put 0 (stationWords st ++ stopWords (stopsOf ts)) body₀
+  pub is-starts : starts ≡ put 0 (startWords 0 ts) starts₀
+  pub is-numbers : numbers ≡ put 0 ns numbers₀
+  pub trips : p .trips ≡ length ts
+  pub stops : p .stops ≡ length (stopsOf ts)
+  pub all-numbered : length ns ≡ length ts
+
+-- more trips of the same stations behind those that stand there
+pub record Extends (w : List ℕ) (from to : ℕ) (p q : Counts) (body starts numbers body′ starts′ numbers′ : List ℕ)
+    : Type 0 where
+  pub holds : (st : List Station) (ts : List Trip) (ns body₀ starts₀ numbers₀ : List ℕ)
+      → length st ≡ stationCount w → length body₀ ≡ 8320 → length starts₀ ≡ 257 → length numbers₀ ≡ 256
+      → Held st ts ns p body starts numbers body₀ starts₀ numbers₀
+      → Held st (ts ++ tripsAt w from to) (ns ++ numbersAt w from to) q body′ starts′ numbers′ body₀ starts₀ numbers₀
+
+-- the arrays hold the stations and the trips before a place
+abbrev pub Front : List ℕ → (place : ℕ) → Counts → (body starts numbers body₀ starts₀ numbers₀ : List ℕ) → Type 0
+Front w place p body starts numbers body₀ starts₀ numbers₀ =
+    Held ((timetableOf w) .stations) (tripsAt w 0 place) (numbersAt w 0 place) p body starts numbers body₀ starts₀
+    numbers₀
+
+-- and the trip of another timetable behind them
+abbrev pub Middle : List ℕ → (place : ℕ) → (e : List ℕ) → Counts → (body starts numbers body₀ starts₀ numbers₀ : List ℕ)
+    → Type 0
+Middle w place e p body starts numbers body₀ starts₀ numbers₀ =
+    Held ((timetableOf w) .stations) (tripsAt w 0 place ++ tripsAt e 0 1)
+    (numbersAt w 0 place ++ numbersAt e 0 1) p body
+    starts numbers body₀ starts₀ numbers₀
+
+-- the arrays hold a timetable
+abbrev pub Filled : Timetable → Counts → (body starts numbers body₀ starts₀ numbers₀ : List ℕ) → Type 0
+Filled t p body starts numbers body₀ starts₀ numbers₀ =
+    Held (t .stations) (t .trips) (t .numbers) p body starts numbers body₀ starts₀ numbers₀
+
+-- a timetable of one trip and the same stations, for which there is room
+pub record Fitting (w e : List ℕ) : Type 0 where
+  pub okay : isTimetable e ≡ true
+  pub stations : stationCount e ≡ stationCount w
+  pub one : tripCount e ≡ 1
+  pub trips : tripCount w < 256
+  pub stops : stopCount w + stopCount e ≤ 2048
+
+-- a timetable without the trip at place k
+unfoldable pub leftOut : Timetable → (k : ℕ) → Timetable
+leftOut t k =
+    record { stations = t .stations; numbers = without k (t .numbers); trips = without k (t .trips) }
+
+-- a timetable with the trip of another at place k
+unfoldable pub putIn : Timetable → (k : ℕ) → Timetable → Timetable
+putIn t k one =
+    record {
+      stations = t .stations;
+      numbers = take k (t .numbers) ++ one .numbers ++ drop k (t .numbers);
+      trips = take k (t .trips) ++ one .trips ++ drop k (t .trips);
+    }
+
+-- the extra trip of number n, alone with the stations, in the arrays
+pub record Single (n : ℕ) (one : Timetable) (body starts : List ℕ) : Type 0 where
+  pub within : Within (progressOf one)
+  pub old-body : List ℕ
+  pub is-body : body ≡ put 0 (bodyWords one) old-body
+  pub old-starts : List ℕ
+  pub is-starts : starts ≡ put 0 (startWords 0 (one .trips)) old-starts
+  pub small : n ≤ 9999
+  pub numbered : one .numbers ≡ n ∷ []
+  pub single : length (one .trips) ≡ 1
+
+-- what reading the lines of an extra trip has to answer and to leave in the arrays, and in the slice
+abbrev pub StopsAre : (n : ℕ) → Outcome → Lines → (body starts : List ℕ) → Type 0
+StopsAre n (Accepted one lines) r body starts = (r ≡ LinesAccepted (progressOf one) lines) × Single n one body starts
+StopsAre n (Refused number line) r body starts = r ≡ LinesRefused number line
+
+pub record StopsRead (n : ℕ) (o : Outcome) (r : Lines) (body starts : List ℕ) : Type 0 where
+  pub are : StopsAre n o r body starts
+
+abbrev pub TripIs : Outcome → Found → (extra old : List ℕ) → Type 0
+TripIs (Accepted one lines) r extra old = (r ≡ Whole) × (extra ≡ put 0 (words one) old)
+TripIs (Refused number line) r extra old = r ≡ FoundRefused number line
+
+pub record TripRead (o : Outcome) (r : Found) (extra old : List ℕ) : Type 0 where
+  pub is : TripIs o r extra old
