@@ -354,6 +354,7 @@ fn pass_all(
     }
 }
 
+// All words become 0, below which no one has paid.
 fn clear(v: &mut [u32])
     ensures { λ _. ⌜ ZeroTo (length (now (v .entry))) (now (v .exit)) ⌝ }
     ensures { λ _. ⌜ length (now (v .exit)) ≡ length (now (v .entry)) ⌝ }
@@ -361,7 +362,7 @@ fn clear(v: &mut [u32])
     let n = v.len();
     let mut i = 0;
     while i < n {
-        v[i] = 0;
+        query_minutes::set_points(v, i, Points(0));
         i += 1;
     }
 }
