@@ -64,7 +64,7 @@ pub record BoardsAt (v : List ℕ) (k : ℕ) (rest : Piece) (g : Boarding) : Typ
 
 -- how large its numbers get, and that its total is the one where it boards
 pub record Within (v : List ℕ) (g : Boarding) : Type 0 where
-  pub total : g .total ≡ totalAt v (g .line) (g .call .place)
+  pub total : g .total .0 ≡ totalAt v (g .line) (g .call .place)
   pub at-few : g .line .at < 65536
   pub positions-few : g .line .positions < 65536
   pub trips-few : g .line .trips < 65536

@@ -15,6 +15,7 @@ ghost use Rattle.lines_lookup.specs.Lookup.{
   departAt,
   callsPlace,
 };
+use results::Points;
 
 // The words of a position on a line, and the values that one word has.
 const POSITION_WORDS: usize = lines_tables::POSITION_WORDS;
@@ -44,7 +45,7 @@ pub struct Call {
 pub struct Boarding {
     pub call: Call,
     pub line: Line,
-    pub total: usize,
+    pub total: Points,
     pub rest: Piece,
 }
 
@@ -99,11 +100,13 @@ pub fn low_at(v: &[u16], l: Line, p: usize) -> usize
 }
 
 // What the rides of a line cost from its first place up to place p: a low word and a high word.
-pub fn total_at(v: &[u16], l: Line, p: usize) -> usize
+pub fn total_at(v: &[u16], l: Line, p: usize) -> Points
     requires { ⌜ (l .at < 65536) × (l .trips < 65536) × (p < 65536) ⌝ }
-    ensures { λ r. ⌜ (r ≡ totalAt (now (v .entry)) l p) × (r < 4294967296) ⌝ }
+    ensures { λ r. ⌜ r .0 ≡ totalAt (now (v .entry)) l p ⌝ }
 {
-    low_at(v, l, p) + WORD_VALUES * peek(v, l.at + 2 + l.trips + POSITION_WORDS * p + 2)
+    let total = low_at(v, l, p)
+        + WORD_VALUES * peek(v, l.at + 2 + l.trips + POSITION_WORDS * p + 2);
+    Points(total as u32)
 }
 
 // The index where the arrivals at place p of a line begin.

@@ -2,7 +2,6 @@
 use mathlib.Core.Path.{_≡_, sym, ap, _∙_}
 use mathlib.Core.List.{List, [], _∷_, map}
 use Prim.Native.Nat.{ℕ, _+_, _-_, _≤_, _<_}
-use native.Mathlib.Omega.{arith}
 use lib.ListN.{length}
 use borrow.Author.Tests.{eq-eqb, ne-eqb}
 use Rattle.results.specs.declared.Points.{Points}
@@ -16,11 +15,8 @@ use Rattle.query_minutes.specs.Minutes.{noteAll, lowered}
 -- ---- the penalty, by two totals
 module _ (v : List ℕ) (l : Line) (x y here there : ℕ) (is-here : here ≡ totalAt v l x) (is : there ≡ totalAt v l y)
   where
-    pub totals-fall : there < here → 0 ≡ pointsBetween v l x y
-    totals-fall h = omega (arith, is, is-here)
-
-    pub totals-rise : there - here ≡ pointsBetween v l x y
-    totals-rise = λ i. is i - is-here i
+    pub total-left : (r : ℕ) → r ≡ there - here → r ≡ pointsBetween v l x y
+    total-left r left = left ∙ (λ i. is i - is-here i)
 
 -- a piece from index k on
 abbrev pub from : (k end : ℕ) → Piece

@@ -18,10 +18,7 @@ pub fn ride_points(v: &[u16], g: Boarding, y: usize) -> Points
 {
     let here = g.total;
     let there = lines_lookup::total_at(v, g.line, y);
-    if there < here {
-        return Points(0);
-    }
-    Points((there - here) as u32)
+    query_minutes::left_of(there, here)
 }
 
 // Notes the ride on the trip at place j of the line that is boarded, to the nearest call of the line that is left. Who

@@ -101,6 +101,13 @@ pub fn minutes_between(minute: usize, arrive: usize) -> Minutes
     Minutes((arrive - minute) as u32)
 }
 
+// Whether a is shorter than b.
+pub fn shorter(a: Minutes, b: Minutes) -> bool
+    ensures { λ r. ⌜ r ≡ ltb (a .0) (b .0) ⌝ }
+{
+    a.0 < b.0
+}
+
 // The minute of the day so many minutes after another.
 pub fn minute_after(minute: usize, wait: Minutes) -> usize
     requires { ⌜ minute ≤ 65536 ⌝ }

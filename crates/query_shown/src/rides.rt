@@ -2,7 +2,7 @@
 // is written, and one changes after it.
 ghost use mathlib.Core.Path.{_≡_};
 ghost use mathlib.Core.List.{[], _∷_};
-ghost use Prim.Native.Nat.{_+_, _-_, _*_, _≤_, _<_};
+ghost use Prim.Native.Nat.{_+_, _*_, _≤_, _<_};
 ghost use lib.ListN.{length, getD};
 ghost use Rattle.words.specs.Put.{put};
 ghost use Rattle.query_direct.specs.Candidates.{nearRead};
@@ -16,6 +16,7 @@ use crate::Next;
 use crate::rests;
 use query_minutes::NO_POINTS;
 use query_rides::Ride;
+use results::Minutes;
 use results::Points;
 
 // The last minute in which a trip may arrive.
@@ -24,24 +25,14 @@ const LAST_MINUTE: usize = 2879;
 // The trip of no ride: every trip has a lower number.
 const NO_TRIP: usize = 65536;
 
-// By how many minutes of the day b is before a, or 0 if it is after it.
-fn less(a: usize, b: usize) -> usize
-    ensures { λ r. ⌜ r ≡ a - b ⌝ }
-{
-    if a <= b {
-        return 0;
-    }
-    a - b
-}
-
 // By how much a ride leaves before the last minute, where that counts.
-fn lateness(first: bool, depart: usize) -> usize
-    ensures { λ r. ⌜ r ≡ lateness first depart ⌝ }
+fn lateness(first: bool, depart: usize) -> Minutes
+    ensures { λ r. ⌜ r .0 ≡ lateness first depart ⌝ }
 {
     if first {
-        return less(LAST_MINUTE, depart);
+        return query_minutes::minutes_between(depart, LAST_MINUTE);
     }
-    0
+    Minutes(0)
 }
 
 // Whether the numbers of ride g come before those of ride f.
@@ -69,10 +60,10 @@ fn goes_before(first: bool, g: Ride, f: Ride) -> bool
 {
     let a = lateness(first, g.depart);
     let b = lateness(first, f.depart);
-    if a < b {
+    if query_minutes::shorter(a, b) {
         return true;
     }
-    if b < a {
+    if query_minutes::shorter(b, a) {
         return false;
     }
     numbers_before(g, f)

@@ -1,5 +1,6 @@
 -- The loops over the arrivals of a station: what they read lies inside, and what they keep.
 use mathlib.Core.Path.{_≡_, sym, ap, subst, _∙_}
+use mathlib.Core.Bool.{Bool, true, false}
 use mathlib.Core.List.{List}
 use Prim.Native.Nat.{ℕ, _+_, _-_, _≤_, _<_, min}
 use native.Mathlib.Omega.{arith}
@@ -17,12 +18,17 @@ use Rattle.store_frontier.specs.Front.{
   MinuteEnd,
   markOf,
   Marked,
+  LeftOut,
+  left-dear,
+  left-words,
+  left-none,
   Fronted,
   Fronting,
   least-more,
   marked-more,
   fronting-none,
-  fronting-over,
+  fronting-out,
+  fronting-more,
 }
 
 pub minute-is : (w arrivals : List ℕ) (r j : ℕ) (s : Stop) → j ≡ getD arrivals r 0 → s ≡ stopAt w j
@@ -120,23 +126,35 @@ pub front-first : (w arrivals : List ℕ) (begin end top : ℕ) (v : List ℕ) �
     → Fronting w arrivals begin end top v begin top v
 front-first w arrivals begin end top v r = fronting-none w arrivals begin end top v (r .held .ordered)
 
--- ---- an arrival that is passed over
+-- ---- an arrival that is left out, and one that is not
 module _ (w arrivals : List ℕ) (begin end p : ℕ) (run : Run w arrivals begin end) (on : p < end) where
   pub arrival-inside : p < length arrivals
   arrival-inside = omega (arith, run .held .inside)
 
-  module _ (v v′ : List ℕ) (j : ℕ) (long : length v ≡ 2048) (same : length v′ ≡ length v)
-      (is-j : j ≡ getD arrivals p 0) where
-    pub arrival-stop : begin ≤ p → j < length v′
+  module _ (v v′ : List ℕ) (long : length v ≡ 2048) (same : length v′ ≡ length v) where
+    pub arrival-stop : begin ≤ p → getD arrivals p 0 < length v′
     arrival-stop a = omega (arith, run .held .stop p a on)
 
-    pub front-over : (top low u : ℕ) (v″ : List ℕ) → Fronting w arrivals begin end top v p low v′ → u ≡ getD v′ j 0
-        → low ≤ u → v″ ≡ set v′ j 0 → Fronting w arrivals begin end top v (p + 1) low v″
-    front-over top low u v″ f is-u dear is =
-        subst
-        (Fronting w arrivals begin end top v (p + 1) low)
-        (sym (is ∙ ap (λ k. set v′ k 0) is-j))
-        (fronting-over w arrivals begin end top v run p low v′ on f (rw (is-u, is-j) at dear) (same ∙ long))
+    module _ (top low : ℕ) (f : Fronting w arrivals begin end top v p low v′) (out : Bool) (v₁ : List ℕ)
+        (o : LeftOut arrivals low p v′ out v₁) where
+      pub front-out : out ≡ true → Fronting w arrivals begin end top v (p + 1) low v₁
+      front-out e =
+          subst
+          (Fronting w arrivals begin end top v (p + 1) low)
+          (sym (left-words arrivals low p v′ out v₁ o e))
+          (fronting-out w arrivals begin end top v run p low v′ on f
+          (left-dear arrivals low p v′ out v₁ o e)
+          (same ∙ long))
+
+      pub front-minute : out ≡ false → (q low′ : ℕ) (v″ : List ℕ) → MinuteEnd w arrivals p end q
+          → Least arrivals v₁ low p q low′ → Marked arrivals low low′ p q v₁ v″
+          → Fronting w arrivals begin end top v q low′ v″
+      front-minute e =
+          fronting-more w arrivals begin end top v run p low v₁ on
+          (subst
+          (Fronting w arrivals begin end top v p low)
+          (sym (left-none arrivals low p v′ out v₁ o e))
+          f)
 
 -- ---- all stations
 module _

@@ -2,14 +2,14 @@
 -- minutes, and no more than those of its own minute. So the least before the minute and the least with it decide. Who
 -- has paid no less than the least before the minute is not on the frontier, whoever else arrives then.
 use mathlib.Core.Path.{_≡_, refl, sym, ap, subst, _∙_}
-use mathlib.Core.Bool.{cond, _&&_}
+use mathlib.Core.Bool.{Bool, true, false, cond, _&&_}
 use mathlib.Core.Logic.{_↔_, _≢_}
 use mathlib.Core.List.{List}
 use Prim.Native.Nat.{ℕ, suc, _+_, _^_, _≤_, _<_, min}
 use native.Mathlib.Omega.{arith}
 use native.Mathlib.Decide.{ℕ-discrete, decLt}
-use borrow.Author.Tests.{lt-ltb, le-ltb, eq-eqb, ne-eqb}
-use lib.Dec.{ltb, eqb}
+use borrow.Author.Tests.{lt-ltb, le-ltb, eq-eqb, ne-eqb, leb-true}
+use lib.Dec.{leb, ltb, eqb}
 use lib.ListN.{length, getD, set, length-set}
 use lib.Seq.{getD-set-same, getD-set-other}
 use Rattle.store_stops.specs.Stopwise.{arrive}
@@ -177,6 +177,32 @@ module _ (arrivals : List ℕ) (end before low from : ℕ) (held : Held arrivals
       others : (r : ℕ) → from ≤ r → r < to → getD arrivals to 0 ≢ getD arrivals r 0
       others r h g = held .once r to h g c
 
+-- ---- an arrival that is left out: it has paid low or more
+pub record LeftOut (arrivals : List ℕ) (low p : ℕ) (v : List ℕ) (out : Bool) (v′ : List ℕ) : Type 0 where
+  pub dear : out ≡ leb low (getD v (getD arrivals p 0) 0)
+  pub words : v′ ≡ cond out (set v (getD arrivals p 0) 0) v
+
+module _ (arrivals : List ℕ) (low p : ℕ) (v : List ℕ) where
+  module _ (j u : ℕ) (r : Bool) (is-j : j ≡ getD arrivals p 0) (is-u : u ≡ getD v j 0) (is : r ≡ leb low u) where
+    told : r ≡ leb low (getD v (getD arrivals p 0) 0)
+    told = is ∙ ap (leb low) (is-u ∙ ap (λ k. getD v k 0) is-j)
+
+    pub out-yes : (v′ : List ℕ) → r ≡ true → v′ ≡ set v j 0 → LeftOut arrivals low p v true v′
+    out-yes v′ e put = record { dear = sym e ∙ told; words = put ∙ ap (λ k. set v k 0) is-j }
+
+    pub out-no : r ≡ false → LeftOut arrivals low p v false v
+    out-no e = record { dear = sym e ∙ told; words = refl }
+
+  module _ (out : Bool) (v′ : List ℕ) (o : LeftOut arrivals low p v out v′) where
+    pub left-dear : out ≡ true → low ≤ getD v (getD arrivals p 0) 0
+    left-dear e = leb-true low (getD v (getD arrivals p 0) 0) (sym (o .dear) ∙ e)
+
+    pub left-words : out ≡ true → v′ ≡ set v (getD arrivals p 0) 0
+    left-words e = o .words ∙ ap (λ b. cond b (set v (getD arrivals p 0) 0) v) e
+
+    pub left-none : out ≡ false → v′ ≡ v
+    left-none e = o .words ∙ ap (λ b. cond b (set v (getD arrivals p 0) 0) v) e
+
 -- ---- a station
 module _ (w arrivals : List ℕ) (from end top : ℕ) (v : List ℕ) where
   -- the arrival at stop k is on the frontier of those at places from up to end, and has paid less than top
@@ -239,7 +265,7 @@ module _ (w arrivals : List ℕ) (from end top : ℕ) (v : List ℕ) where
         let a = f .begun in
         f .fronted .off (at r) (λ s i j. differ r s (omega arith) g i (omega arith) (omega arith))
 
-    -- one that has paid no less than low is passed over
+    -- one that has paid no less than low is left out
     module _ (dear : low ≤ getD v′ (at p) 0) (long : length v′ ≡ 2048) where
       not-front : Front (at p) → ⊥
       not-front g =
@@ -251,14 +277,14 @@ module _ (w arrivals : List ℕ) (from end top : ℕ) (v : List ℕ) where
       other : (r : ℕ) → from ≤ r → r < p → at p ≢ at r
       other r h g = differ p r (f .begun) more h (omega arith) (omega arith)
 
-      none-over : (x : ℕ) → (x < getD (set v′ (at p) 0) (at p) 0) ↔ (Front (at p) × (x ≤ getD v (at p) 0))
-      none-over x =
+      none-out : (x : ℕ) → (x < getD (set v′ (at p) 0) (at p) 0) ↔ (Front (at p) × (x ≤ getD v (at p) 0))
+      none-out x =
           rw
           (getD-set-same v′ (at p) 0 0 (omega (arith, long, run .held .stop p (f .begun) more)))
           (λ h. absurd (omega arith), λ h. absurd (not-front (h .0)))
 
-      pub fronting-over : Fronting (p + 1) low (set v′ (at p) 0)
-      fronting-over =
+      pub fronting-out : Fronting (p + 1) low (set v′ (at p) 0)
+      fronting-out =
           record {
             begun = omega (arith, f .begun);
             most = omega arith;
@@ -267,7 +293,7 @@ module _ (w arrivals : List ℕ) (from end top : ℕ) (v : List ℕ) where
                   at =
                       (λ r x h g.
                       elim (ℕ-discrete r p) [
-                        | yes z ↦ rw z (none-over x)
+                        | yes z ↦ rw z (none-out x)
                         | no z ↦
                             rw
                             (getD-set-other v′ (at p) (at r) 0 0 (λ e. other r h (omega arith) (sym e)))

@@ -1,5 +1,5 @@
 -- Words set to 0 one by one.
-use mathlib.Core.Path.{_≡_, _∙_}
+use mathlib.Core.Path.{_≡_, ap, _∙_}
 use mathlib.Core.List.{List}
 use Prim.Native.Nat.{ℕ, _+_, _≤_, _<_}
 use native.Mathlib.Omega.{arith}
@@ -15,10 +15,12 @@ pub zero-none : (v : List ℕ) → ZeroTo 0 v
 unfolding ZeroTo
 zero-none v k h = absurd (omega arith)
 
-pub zero-more : (v : List ℕ) (n i m : ℕ) → n ≡ m → length v ≡ m → i < n → ZeroTo i v → ZeroTo (i + 1) (set v i 0)
+pub zero-more : (v v′ : List ℕ) (n i m : ℕ) → n ≡ m → length v ≡ m → i < n → ZeroTo i v → v′ ≡ set v i 0
+    → ZeroTo (i + 1) v′
 unfolding ZeroTo
-zero-more v n i m long same h z k g =
-    elim (ℕ-discrete k i) [
+zero-more v v′ n i m long same h z put k g =
+    ap (λ l. getD l k 0) put
+    ∙ elim (ℕ-discrete k i) [
       | yes e ↦ rw e (getD-set-same v i 0 0 (omega arith))
       | no e ↦ getD-set-other v i k 0 0 e ∙ z k (omega arith)
     ]

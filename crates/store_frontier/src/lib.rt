@@ -10,7 +10,7 @@ ghost use Rattle.store_stops.specs.Settled.{Timely};
 ghost use Rattle.store_departures.specs.Order.{order as departures};
 ghost use Rattle.store_departures.specs.Rising.{minuteAt, InTime};
 ghost use Rattle.store_frontier.specs.Arrivals.{Arrivals, Held, Run};
-ghost use Rattle.store_frontier.specs.Front.{Least, MinuteEnd, markOf, Marked, Fronted};
+ghost use Rattle.store_frontier.specs.Front.{Least, MinuteEnd, markOf, Marked, LeftOut, Fronted};
 ghost use Rattle.store_frontier.specs.Allowing.{topOf};
 ghost use Rattle.store_frontier.specs.Passed.{Limits, Passed, ontoBound, leaveBound};
 ghost use Rattle.store_frontier.specs.Zeros.{ZeroTo};
@@ -102,6 +102,20 @@ fn mark_all(arrivals: &[u16], p: usize, q: usize, before: Points, low: Points, v
     }
 }
 
+// Leaves the arrival at place p out of the frontier if low or more was paid on it. Returns whether it did.
+fn leave_out(arrivals: &[u16], p: usize, low: Points, v: &mut [u32]) -> bool
+    requires { ⌜ (p < length (now arrivals)) × (getD (now arrivals) p 0 < length (now v)) ⌝ }
+    ensures { λ r. ⌜ LeftOut (now (arrivals .entry)) (low .0) p (now (v .entry)) r (now (v .exit)) ⌝ }
+    ensures { λ _. ⌜ length (now (v .exit)) ≡ length (now (v .entry)) ⌝ }
+{
+    let j = words::word(arrivals, p) as usize;
+    if query_minutes::at_least(query_minutes::points_at(v, j), low) {
+        query_minutes::set_points(v, j, Points(0));
+        return true;
+    }
+    false
+}
+
 // The arrivals of one station, at places begin up to end, where less than top is to have been paid.
 fn allow_station(
     words: &[u16],
@@ -122,12 +136,9 @@ fn allow_station(
     let mut low = top;
     let mut p = begin;
     while p < end {
-        let j = words::word(arrivals, p) as usize;
         // Most are not reached or have paid no less than someone earlier: whoever else arrives in their minute, they
         // are not on the frontier.
-        let u = query_minutes::points_at(v, j);
-        if low.0 <= u.0 {
-            query_minutes::set_points(v, j, Points(0));
+        if leave_out(arrivals, p, low, v) {
             p += 1;
             continue;
         }
@@ -343,6 +354,7 @@ fn pass_all(
     }
 }
 
+// All words become 0, below which no one has paid.
 fn clear(v: &mut [u32])
     ensures { λ _. ⌜ ZeroTo (length (now (v .entry))) (now (v .exit)) ⌝ }
     ensures { λ _. ⌜ length (now (v .exit)) ≡ length (now (v .entry)) ⌝ }
@@ -350,7 +362,7 @@ fn clear(v: &mut [u32])
     let n = v.len();
     let mut i = 0;
     while i < n {
-        v[i] = 0;
+        query_minutes::set_points(v, i, Points(0));
         i += 1;
     }
 }

@@ -17,4 +17,5 @@ total-at-spec =
     (λ c. search needs)
     (λ c. search needs)
     (λ c. search needs)
-    (λ c. (search total-is, search needs)))
+    (λ c. search needs)
+    (λ c. search total-is))

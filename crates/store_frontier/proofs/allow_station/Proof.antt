@@ -1,10 +1,10 @@
--- The arrivals up to place p are marked, and low is the least among them: one is passed over alone, or what is left of
+-- The arrivals up to place p are marked, and low is the least among them: one is left out alone, or what is left of
 -- its minute is marked with it.
 use mathlib.Core.Path.{_≡_}
 use Prim.Native.Nat.{_≤_, _-_}
 use borrow.Author.Needs.{needs}
 use lib.ListN.{length}
-use Rattle.store_frontier.specs.Front.{Fronting, fronting-more, fronting-all}
+use Rattle.store_frontier.specs.Front.{Fronting, fronting-all}
 use Rattle.store_frontier.proofs.FrontLaws.{
   end-most,
   end-nearer,
@@ -13,7 +13,8 @@ use Rattle.store_frontier.proofs.FrontLaws.{
   minute-held,
   run-ordered,
   front-first,
-  front-over,
+  front-out,
+  front-minute,
   arrival-inside,
   arrival-stop,
 }
@@ -35,17 +36,14 @@ allow-station-spec =
     Inv-loop
     μ-loop
     (λ c. (search needs, (search run-ordered, (search needs, search front-first))))
-    (λ c κs. search arrival-inside)
-    (λ c. search needs)
-    (λ c κs. search arrival-stop)
-    (λ c κs. search arrival-stop)
+    (λ c κs. (search arrival-inside, search arrival-stop))
     (λ c. search needs)
     (λ c. search needs)
-    (λ c. (search needs, (search needs, (search needs, search front-over))))
+    (λ c. (search needs, (search needs, (search needs, search front-out))))
     (λ c κs. (search needs, search needs, search run-from, search needs))
     (λ c κs. (search minute-held, search needs))
     (λ c κs. (search minute-held, search needs))
     (λ c. search end-nearer)
-    (λ c. (search end-behind, (search end-most, (search needs, search fronting-more))))
+    (λ c. (search end-behind, (search end-most, (search needs, search front-minute))))
     (λ c. search needs)
     (λ c. (search fronting-all, search needs)))

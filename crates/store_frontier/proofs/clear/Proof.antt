@@ -20,8 +20,7 @@ clear-spec =
     Inv-loop
     μ-loop
     (λ c. (search needs, (search needs, (search needs, search zero-none))))
-    (λ c. search needs)
-    (λ c. search needs)
+    (λ c κs. search needs)
     (λ c. search needs)
     (λ c. search needs)
     (λ c. (search needs, (search needs, (search needs, search zero-more))))

@@ -8,4 +8,4 @@ returns : tie.Need-returns
 returns c = search late-first
 
 pub lateness-spec : {M : Type 1} → statement M
-lateness-spec = tie.close (tie.spec (λ c. search needs) returns (λ c. search needs))
+lateness-spec = tie.close (tie.spec (λ c κs. search needs) returns (λ c. search needs))
