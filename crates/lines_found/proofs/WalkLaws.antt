@@ -1,42 +1,20 @@
 -- The walk along the lines of one course: those that it passes over have another course, and no trip of this one can
 -- join them.
-use mathlib.Core.Path.{_≡_, refl, sym, ap, _∙_}
+use mathlib.Core.Path.{_≡_, sym, ap, _∙_}
 use mathlib.Core.Bool.{Bool, true, false}
 use mathlib.Core.List.{List}
-use Prim.Native.Nat.{ℕ, zero, suc, _+_, _-_, _≤_, _<_}
-use native.Mathlib.Numerals.{add-one}
+use Prim.Native.Nat.{ℕ, _+_, _-_, _≤_, _<_}
 use native.Mathlib.Decide.{ℕ-discrete}
 use native.Mathlib.Omega.{arith}
-use lib.Dec.{T, ltb, ltb→lt, nltb→le}
+use lib.Dec.{ltb, ltb→lt, nltb→le}
 use lib.ListN.{length, getD, take}
-use lib.Seq.{slice}
 use Rattle.lists.specs.Tests.{either, T-false}
 use Rattle.timetable.specs.Words.{tripAt}
 use Rattle.lines_found.specs.Steps.{Below, firstPlace, runsBefore}
 use Rattle.lines_found.specs.Glance.{courseOf, lastArrival, behind-course, behind-arrives}
 use Rattle.lines_found.specs.Chains.{nextOf, floorOf}
 use Rattle.lines_found.specs.Taken.{OfLasts, courseAt}
-use Rattle.lines_found.proofs.ArrayLaws.{below-at, place-end, place-hit, place-miss}
-
--- ---- a place that is known by those before it
-module _ (p : ℕ → Bool) (l : List ℕ) (n : ℕ) (room : n ≤ length l) where
-  place-from : (k : ℕ) → k ≤ n → ((j : ℕ) → j < k → p (getD l j 0) ≡ false)
-      → firstPlace p (take n l) ≡ k + firstPlace p (slice k n l)
-  place-from zero h none = omega arith
-  place-from (suc k) h none =
-      let left = place-from k (omega arith) (λ j g. none j (omega arith)) in
-      place-miss p l n k left room (omega arith) (λ e. omega arith) (getD l k 0) refl (p (getD l k 0)) refl
-      (none k (omega arith))
-      ∙ rw (add-one k)
-
-  place-none : ((j : ℕ) → j < n → p (getD l j 0) ≡ false) → n ≡ firstPlace p (take n l)
-  place-none none = place-end p l n n (place-from n (omega arith) none) refl
-
-  place-first : (k : ℕ) → k < n → ((j : ℕ) → j < k → p (getD l j 0) ≡ false) → p (getD l k 0) ≡ true
-      → k ≡ firstPlace p (take n l)
-  place-first k h none hit =
-      place-hit p l n k (place-from k (omega arith) none) room (omega arith) (λ e. omega arith) (getD l k 0) refl
-      (p (getD l k 0)) refl hit
+use Rattle.lines_found.proofs.ArrayLaws.{below-at, place-none, place-first}
 
 pub last-fits : (w lasts : List ℕ) (line z y : ℕ) (t : Bool) → t ≡ runsBefore w z y → y ≡ getD lasts line 0
     → t ≡ runsBefore w z (getD lasts line 0)

@@ -1,8 +1,8 @@
 -- What a trip shows at a glance: a number that trips of one course have alike, and when it arrives at its last stop. A
 -- trip that can run behind another has the same number and arrives no earlier, so that most lines need not be tried
 -- stop by stop.
-use mathlib.Core.Path.{_≡_, refl, _∙_}
-use mathlib.Core.List.{List, [], _∷_}
+use mathlib.Core.Path.{_≡_, refl}
+use mathlib.Core.List.{[], _∷_}
 use Prim.Native.Nat.{ℕ, _+_, _*_, _%_, _≤_, _<_}
 use native.Mathlib.Nat.{mod-lt}
 use native.Mathlib.Omega.{arith}
