@@ -22,7 +22,8 @@ use Rattle.lines_found.specs.Grouped.{endsFrom}
 use Rattle.lines_found.specs.Steps.{Below, firstPlace, runsBefore, same-place}
 use Rattle.lines_found.specs.Order.{all-in-order, in-order-out, length-order}
 use Rattle.lines_found.specs.Joined.{joinAt, Holds, Joined, joinable, add-joins, ends-below, length-ends}
-use Rattle.lines_found.specs.Joined.{lasts-join, lasts-found, lasts-below}
+use Rattle.lines_found.specs.Joined.{length-joins, length-founds, lasts-join, lasts-found, lasts-below}
+use Rattle.lines_found.specs.Taken.{TakenTo, OfLasts}
 use Rattle.lines_found.proofs.ArrayLaws.{held}
 
 abbrev pub tripsOf : List ℕ → List Trip
@@ -125,6 +126,8 @@ module _
     (g : count ≤ k)
     (long : length lasts ≡ 256)
     (inside : line ≤ count)
+    (lasts′ : List ℕ)
+    (is-set : lasts′ ≡ set lasts line (getD order k 0))
   where
     z : ℕ
     z = getD order k 0
@@ -165,10 +168,11 @@ module _
         ∙ ap (λ zs. addTrips (tripsOf w) zs (kept .ls)) order-left
         ∙ ap (addTrips (tripsOf w) (drop (suc k) (inOrder (tripsOf w)))) added)
 
-    pub kept-next : Kept w numbers₀ ends₀ numbers′ ends′ (set lasts line (getD order k 0)) count′ (k + 1)
+    pub kept-next : Kept w numbers₀ ends₀ numbers′ ends′ lasts′ count′ (k + 1)
     unfolding next z
     kept-next =
-        record {
+        rw is-set
+        (record {
           ls = next;
           holds = holds-next;
           left = left-next;
@@ -176,7 +180,24 @@ module _
               lasts-after lasts line z count count′ (kept .ls) (kept .is-lasts) (kept .holds .lines) inside
               (omega arith) (holds-next .lines);
           listed = lasts-below (tripCount w) line z (kept .ls) z-listed (kept .listed);
-        }
+        })
+
+    -- as many lines are chained as there are then
+    pub chains-next : (chains : List ℕ) → TakenTo w lasts′ count line chains → OfLasts w lasts′ count′ chains
+    unfolding next
+    chains-next chains taken = elim (ℕ-discrete line count) [ yes d ↦ founds d | no d ↦ joins d ]
+      where
+        founds : line ≡ count → OfLasts w lasts′ count′ chains
+        founds d =
+            let long = length-founds line z (kept .ls) (omega (arith, kept .holds .lines)) in
+            let one-more : suc count ≡ count′ = omega (arith, holds-next .lines, kept .holds .lines) in
+            subst (λ n. OfLasts w lasts′ n chains) one-more (taken .founded d)
+
+        joins : (line ≡ count → ⊥) → OfLasts w lasts′ count′ chains
+        joins d =
+            let long = length-joins line z (kept .ls) (omega (arith, kept .holds .lines)) in
+            let as-many : count ≡ count′ = omega (arith, holds-next .lines, kept .holds .lines) in
+            subst (λ n. OfLasts w lasts′ n chains) as-many (taken .joined (omega arith))
 
 -- ---- what the calls of a turn ask for, and what is answered at the end
 module _ (w numbers₀ ends₀ numbers ends lasts : List ℕ) (count k : ℕ)

@@ -3,3 +3,5 @@ pub mod TripLaws
 pub mod OrderLaws
 pub mod JoinLaws
 pub mod GroupLaws
+pub mod WalkLaws
+pub mod GlanceLaws

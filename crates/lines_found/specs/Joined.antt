@@ -61,6 +61,18 @@ length-join i z [] = omega arith
 length-join zero z (x ∷ ls) = omega arith
 length-join (suc i) z (x ∷ ls) = omega (arith, length-join i z ls)
 
+pub length-joins : (i z : ℕ) (ls : List (List ℕ)) → i < length ls → length (joinAt i z ls) ≡ length ls
+unfolding joinAt
+length-joins i z [] h = absurd (omega arith)
+length-joins zero z (x ∷ ls) h = refl
+length-joins (suc i) z (x ∷ ls) h = ap suc (length-joins i z ls (omega arith))
+
+pub length-founds : (i z : ℕ) (ls : List (List ℕ)) → length ls ≤ i → length (joinAt i z ls) ≡ suc (length ls)
+unfolding joinAt
+length-founds i z [] h = refl
+length-founds zero z (x ∷ ls) h = absurd (omega arith)
+length-founds (suc i) z (x ∷ ls) h = ap suc (length-founds i z ls (omega arith))
+
 -- ---- the trips of all lines
 pub numbers-join : (i z : ℕ) (ls : List (List ℕ)) → onLines (joinAt i z ls) ≡ inserted (endAt i ls) z (onLines ls)
 unfolding joinAt endAt inserted

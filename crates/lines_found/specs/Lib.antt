@@ -4,3 +4,6 @@ pub mod Bounds
 pub mod Steps
 pub mod Order
 pub mod Joined
+pub mod Glance
+pub mod Chains
+pub mod Taken
