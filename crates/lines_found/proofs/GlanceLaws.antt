@@ -1,45 +1,41 @@
--- The loops that look at a trip and open the chains, and the words that chain a line.
+-- What is seen of a trip, the loop that opens the chains, and the words that chain a line.
 use mathlib.Core.Path.{_≡_, refl, sym, ap, _∙_}
 use mathlib.Core.List.{List}
-use Prim.Native.Nat.{ℕ, _+_, _≤_, _<_, min}
+use Prim.Native.Nat.{ℕ, _+_, _-_, _≤_, _<_, min}
 use native.Mathlib.Decide.{ℕ-discrete}
 use native.Mathlib.Omega.{arith}
 use lib.ListN.{length, getD, set, length-set}
 use lib.Seq.{getD-set-same, getD-set-other}
 use Rattle.timetable.specs.Timetable.{Stop}
 use Rattle.timetable.specs.Words.{stopAt, startAt, tripAt}
-use Rattle.timetable.specs.Check.{stopsAt, between-more, between-none}
-use Rattle.lines_found.specs.Glance.{mixed, courseFrom, arrivalFrom, courseOf, lastArrival}
+use Rattle.timetable.specs.Access.{trip-long, stop-is}
+use Rattle.connections.specs.Rides.{noStop}
+use Rattle.lines_found.specs.Glance.{mixed, courseOf, lastArrival}
 use Rattle.lines_found.specs.Chains.{endOf, floorOf}
 use Rattle.lines_found.specs.Taken.{OpenedTo, Chosen}
-use Rattle.lines_found.proofs.TripLaws.{trip-from}
 
--- ---- a trip, by the stops that are left of it
-module _ (w : List ℕ) (z first end : ℕ) (is-first : first ≡ startAt w z) (is-end : end ≡ startAt w (z + 1)) where
-  pub course-starts : courseOf (tripAt w z) ≡ courseFrom 0 (stopsAt w first end)
-  course-starts = ap courseOf (trip-from w z first end is-first is-end)
+-- ---- what a trip shows, by its first stop and its last
+module _ (w : List ℕ) (z first end : ℕ) (is-first : first ≡ startAt w z) (is-end : end ≡ startAt w (z + 1))
+    (some : first < end) (last : Stop) (is-last : last ≡ stopAt w (end - 1)) where
+  long : length (tripAt w z) ≡ end - first
+  long = trip-long w z ∙ rw (is-first, is-end)
 
-  pub arrival-starts : lastArrival (tripAt w z) ≡ arrivalFrom 0 (stopsAt w first end)
-  arrival-starts = ap lastArrival (trip-from w z first end is-first is-end)
+  at-last : getD (tripAt w z) (length (tripAt w z) - 1) noStop ≡ last
+  at-last =
+      let place : startAt w z + (length (tripAt w z) - 1) ≡ end - 1 = omega (arith, long) in
+      stop-is w z (length (tripAt w z) - 1) noStop (omega (arith, long)) ∙ ap (stopAt w) place ∙ sym is-last
 
-module _ (w : List ℕ) (whole course i end : ℕ) (left : whole ≡ courseFrom course (stopsAt w i end)) where
-  pub course-more : i < end → (s : Stop) → s ≡ stopAt w i → (next : ℕ) → next ≡ mixed course s
-      → whole ≡ courseFrom next (stopsAt w (i + 1) end)
-  unfolding courseFrom
-  course-more h s is next mix = left ∙ rw (between-more (stopAt w) i end h, mix, is)
+  pub is-course : (s : Stop) → s ≡ stopAt w first → (r : ℕ) → r ≡ mixed (end - first) (s .station) (last .station)
+      → r ≡ courseOf (tripAt w z)
+  unfolding courseOf
+  is-course s is-s r is =
+      let at-first : getD (tripAt w z) 0 noStop ≡ s =
+      stop-is w z 0 noStop (omega (arith, long)) ∙ ap (stopAt w) (omega arith) ∙ sym is-s in
+      is ∙ sym (rw (at-last, at-first, long))
 
-  pub course-ends : end ≤ i → course ≡ whole
-  unfolding courseFrom
-  course-ends h = sym (left ∙ rw (between-none (stopAt w) i end h))
-
-module _ (w : List ℕ) (whole arrive i end : ℕ) (left : whole ≡ arrivalFrom arrive (stopsAt w i end)) where
-  pub arrival-more : i < end → (s : Stop) → s ≡ stopAt w i → whole ≡ arrivalFrom (s .arrive) (stopsAt w (i + 1) end)
-  unfolding arrivalFrom
-  arrival-more h s is = left ∙ rw (between-more (stopAt w) i end h, is)
-
-  pub arrival-ends : end ≤ i → arrive ≡ whole
-  unfolding arrivalFrom
-  arrival-ends h = sym (left ∙ rw (between-none (stopAt w) i end h))
+  pub is-arrival : last .arrive ≡ lastArrival (tripAt w z)
+  unfolding lastArrival
+  is-arrival = sym (ap (λ (s : Stop). s .arrive) at-last)
 
 -- ---- the words of no line, place by place
 module _ (c : List ℕ) (b : ℕ) (h : b < 256) (long : length c ≡ 1024) (o : OpenedTo b c) where

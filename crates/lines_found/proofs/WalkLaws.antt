@@ -34,7 +34,7 @@ module _ (w lasts : List ℕ) (z b : ℕ) (is-course : b ≡ courseOf (tripAt w 
   other-course j d =
       either
       (runs j)
-      (λ t. absurd (d (behind-course 0 (tripAt w (getD lasts j 0)) (tripAt w z) t ∙ sym is-course)))
+      (λ t. absurd (d (behind-course (tripAt w (getD lasts j 0)) (tripAt w z) t ∙ sym is-course)))
       (T-false (runs j))
 
   pub none-early : (c : List ℕ) (n a : ℕ) → a < floorOf c b → OfLasts w lasts n c → n ≤ length lasts
@@ -49,7 +49,7 @@ module _ (w lasts : List ℕ) (z b : ℕ) (is-course : b ≡ courseOf (tripAt w 
                 either
                 (runs j)
                 (λ t.
-                let on = behind-arrives 0 0 (tripAt w (getD lasts j 0)) (tripAt w z) (omega arith) t in
+                let on = behind-arrives (tripAt w (getD lasts j 0)) (tripAt w z) t in
                 let at : floorOf c (courseAt w lasts j) ≡ floorOf c b = ap (floorOf c) e in
                 absurd (omega (arith, k .floor j g)))
                 (T-false (runs j))

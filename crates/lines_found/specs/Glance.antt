@@ -1,66 +1,51 @@
 -- What a trip shows at a glance: a number that trips of one course have alike, and when it arrives at its last stop. A
 -- trip that can run behind another has the same number and arrives no earlier, so that most lines need not be tried
 -- stop by stop.
-use mathlib.Core.Path.{_≡_, refl}
-use mathlib.Core.List.{[], _∷_}
-use Prim.Native.Nat.{ℕ, _+_, _*_, _%_, _≤_, _<_}
+use mathlib.Core.Path.{_≡_, ap}
+use Prim.Native.Nat.{ℕ, _+_, _-_, _*_, _%_, _≤_, _<_}
 use native.Mathlib.Nat.{mod-lt}
 use native.Mathlib.Omega.{arith}
 use lib.Dec.{T}
-use Rattle.timetable.specs.Timetable.{Stop, Trip}
-use Rattle.lists.specs.Tests.{T-right, reads}
+use lib.ListN.{length, getD}
+use Rattle.timetable.specs.Timetable.{Trip}
+use Rattle.connections.specs.Rides.{noStop}
 use Rattle.lines.specs.Lines.{behind}
+use Rattle.lines.specs.Behind.{behind-length, behind-at}
 
 -- numbers of courses are below this; unlike courses may have the same
 abbrev pub courses : ℕ
 courses = 256
 
-unfoldable pub mixed : (course : ℕ) → Stop → ℕ
-mixed course s = (33 * course + s .station % courses + s .points % courses) % courses
+-- the number of a course of so many stops, from its first station and its last
+unfoldable pub mixed : (stops first last : ℕ) → ℕ
+mixed stops first last = (stops % courses + 5 * (first % courses) + 33 * (last % courses)) % courses
 
--- the number of a course that goes on with these stops
-unfoldable pub courseFrom : (course : ℕ) → Trip → ℕ
-courseFrom course [] = course
-courseFrom course (s ∷ l) = courseFrom (mixed course s) l
+unfoldable pub courseOf : Trip → ℕ
+courseOf t = mixed (length t) ((getD t 0 noStop) .station) ((getD t (length t - 1) noStop) .station)
 
--- the last arrival where these stops are left
-unfoldable pub arrivalFrom : (arrive : ℕ) → Trip → ℕ
-arrivalFrom arrive [] = arrive
-arrivalFrom arrive (s ∷ l) = arrivalFrom (s .arrive) l
+unfoldable pub lastArrival : Trip → ℕ
+lastArrival t = (getD t (length t - 1) noStop) .arrive
 
-abbrev pub courseOf : Trip → ℕ
-courseOf t = courseFrom 0 t
-
-abbrev pub lastArrival : Trip → ℕ
-lastArrival t = arrivalFrom 0 t
-
-pub mixed-few : (course : ℕ) (s : Stop) → mixed course s < courses
+pub mixed-few : (stops first last : ℕ) → mixed stops first last < courses
 unfolding mixed
-mixed-few course s = mod-lt (33 * course + s .station % courses + s .points % courses) (omega arith)
+mixed-few stops first last =
+    mod-lt (stops % courses + 5 * (first % courses) + 33 * (last % courses)) (omega arith)
 
-pub course-few : (course : ℕ) (t : Trip) → course < courses → courseFrom course t < courses
-unfolding courseFrom
-course-few course [] h = h
-course-few course (s ∷ l) h = course-few (mixed course s) l (mixed-few course s)
+pub course-few : (t : Trip) → courseOf t < courses
+unfolding courseOf
+course-few t = mixed-few (length t) ((getD t 0 noStop) .station) ((getD t (length t - 1) noStop) .station)
 
 -- ---- a trip behind another
-pub behind-course : (course : ℕ) (u v : Trip) → T (behind u v) → courseFrom course u ≡ courseFrom course v
-unfolding courseFrom mixed
-behind-course course [] [] t = refl
-behind-course course [] (y ∷ v) t = absurd t
-behind-course course (x ∷ u) [] t = absurd t
-behind-course course (x ∷ u) (y ∷ v) t =
-    let station : x .station ≡ y .station = search reads in
-    let points : x .points ≡ y .points = search reads in
-    let rest : T (behind u v) = search T-right in
-    rw (station, points) (behind-course (mixed course y) u v rest)
+module _ (u v : Trip) (t : T (behind u v)) where
+  pub behind-course : courseOf u ≡ courseOf v
+  unfolding courseOf
+  behind-course =
+      rw (behind-length u v t, behind-at u v t 0 .station, behind-at u v t (length v - 1) .station)
 
-pub behind-arrives : (a b : ℕ) (u v : Trip) → a ≤ b → T (behind u v) → arrivalFrom a u ≤ arrivalFrom b v
-unfolding arrivalFrom
-behind-arrives a b [] [] h t = h
-behind-arrives a b [] (y ∷ v) h t = absurd t
-behind-arrives a b (x ∷ u) [] h t = absurd t
-behind-arrives a b (x ∷ u) (y ∷ v) h t =
-    let arrive : x .arrive ≤ y .arrive = search reads in
-    let rest : T (behind u v) = search T-right in
-    behind-arrives (x .arrive) (y .arrive) u v arrive rest
+  pub behind-arrives : lastArrival u ≤ lastArrival v
+  unfolding lastArrival
+  behind-arrives =
+      let same : length u - 1 ≡ length v - 1 = omega (arith, behind-length u v t) in
+      let place : (getD u (length u - 1) noStop) .arrive ≡ (getD u (length v - 1) noStop) .arrive =
+      ap (λ i. (getD u i noStop) .arrive) same in
+      omega (arith, behind-at u v t (length v - 1) .arrive)

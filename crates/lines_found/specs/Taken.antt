@@ -87,7 +87,7 @@ module _ (w lasts : List ℕ) (line z : ℕ) (inside : line < length lasts) wher
             elim (ℕ-discrete j line) [
               | yes d ↦ (
                   rw (d, last-here)
-                  (sym (behind-course 0 (tripAt w (getD lasts line 0)) (tripAt w z) t))
+                  (sym (behind-course (tripAt w (getD lasts line 0)) (tripAt w z) t))
                   )
               | no d ↦ course-else j d
             ]
@@ -97,7 +97,7 @@ module _ (w lasts : List ℕ) (line z : ℕ) (inside : line < length lasts) wher
             elim (ℕ-discrete j line) [
               | yes d ↦ (
                   rw (d, last-here)
-                  (behind-arrives 0 0 (tripAt w (getD lasts line 0)) (tripAt w z) (omega arith) t)
+                  (behind-arrives (tripAt w (getD lasts line 0)) (tripAt w z) t)
                   )
               | no d ↦ omega (arith, arrival-else j d)
             ]
@@ -109,7 +109,7 @@ module _ (w lasts : List ℕ) (line z : ℕ) (inside : line < length lasts) wher
     founded-chains long is room b a is-course is-arrive =
         rw is
         (chained-founds (courseAt w lasts) (arrivalAt w lasts) (courseAt w (set lasts n z))
-        (arrivalAt w (set lasts n z)) n c k long room b few (λ j. course-few 0 (tripAt w (getD lasts j 0)) (omega arith))
+        (arrivalAt w (set lasts n z)) n c k long room b few (λ j. course-few (tripAt w (getD lasts j 0)))
         (λ j h. rw (← is) (course-else j (λ d. omega arith)))
         (rw (← is, last-here) (sym is-course))
         (λ j h. rw (← is) (omega (arith, arrival-else j (λ d. omega arith))))
@@ -117,7 +117,7 @@ module _ (w lasts : List ℕ) (line z : ℕ) (inside : line < length lasts) wher
         (rw (← is, last-here, ← is-arrive) (min-le-right (floorOf c b) a)))
       where
         few : b < 256
-        few = rw is-course (course-few 0 (tripAt w z) (omega arith))
+        few = rw is-course (course-few (tripAt w z))
 
 pub taken-to : (w lasts c c′ : List ℕ) (n line z b a : ℕ) → Chosen c c′ n line b a → OfLasts w lasts n c
     → line ≡ firstPlace (runsBefore w z) (take n lasts) → line ≤ n → n < 256 → length lasts ≡ 256 → length c ≡ 1024

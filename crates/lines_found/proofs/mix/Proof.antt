@@ -9,4 +9,12 @@ unfolding mixed
 returns c = (refl, search mixed-few)
 
 pub mix-spec : {M : Type 1} → statement M
-mix-spec = tie.close (tie.spec (λ c. search needs) (λ c. search needs) (λ c. search needs) returns)
+mix-spec =
+    tie.close
+    (tie.spec
+    (λ c. search needs)
+    (λ c. search needs)
+    (λ c. search needs)
+    (λ c. search needs)
+    (λ c. search needs)
+    returns)
