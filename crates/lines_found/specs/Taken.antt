@@ -30,8 +30,8 @@ pub record TakenTo (w lasts : List ℕ) (n line : ℕ) (chains : List ℕ) : Typ
   pub joined : line < n → OfLasts w lasts n chains
   pub founded : line ≡ n → OfLasts w lasts (suc n) chains
 
--- the chains after a trip of course b, which arrives at its last stop at minute a, was taken to a line: as they were, or
--- with one line more
+-- the chains after a trip of course b, which arrives at its last stop at minute a, was taken to a line: as they were,
+-- or with one line more
 pub record Chosen (c c′ : List ℕ) (n line b a : ℕ) : Type 0 where
   pub joined : line < n → c′ ≡ c
   pub founded : line ≡ n → c′ ≡ linked c (endOf c b) line b (min (floorOf c b) a)
