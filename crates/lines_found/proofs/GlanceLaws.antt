@@ -1,7 +1,7 @@
 -- What is seen of a trip, the loop that opens the chains, and the words that chain a line.
 use mathlib.Core.Path.{_≡_, refl, sym, ap, _∙_}
 use mathlib.Core.List.{List}
-use Prim.Native.Nat.{ℕ, _+_, _-_, _≤_, _<_, min}
+use Prim.Native.Nat.{ℕ, _+_, _-_, _/_, _≤_, _<_, min}
 use native.Mathlib.Decide.{ℕ-discrete}
 use native.Mathlib.Omega.{arith}
 use lib.ListN.{length, getD, set, length-set}
@@ -25,13 +25,16 @@ module _ (w : List ℕ) (z first end : ℕ) (is-first : first ≡ startAt w z) (
       let place : startAt w z + (length (tripAt w z) - 1) ≡ end - 1 = omega (arith, long) in
       stop-is w z (length (tripAt w z) - 1) noStop (omega (arith, long)) ∙ ap (stopAt w) place ∙ sym is-last
 
-  pub is-course : (s : Stop) → s ≡ stopAt w first → (r : ℕ) → r ≡ mixed (end - first) (s .station) (last .station)
-      → r ≡ courseOf (tripAt w z)
+  pub is-course : (s m : Stop) → s ≡ stopAt w first → m ≡ stopAt w (first + (end - first) / 2) → (r : ℕ)
+      → r ≡ mixed (end - first) (s .station) (m .station) (last .station) → r ≡ courseOf (tripAt w z)
   unfolding courseOf
-  is-course s is-s r is =
+  is-course s m is-s is-m r is =
       let at-first : getD (tripAt w z) 0 noStop ≡ s =
       stop-is w z 0 noStop (omega (arith, long)) ∙ ap (stopAt w) (omega arith) ∙ sym is-s in
-      is ∙ sym (rw (at-last, at-first, long))
+      let place : startAt w z + length (tripAt w z) / 2 ≡ first + (end - first) / 2 = omega (arith, long) in
+      let at-middle : getD (tripAt w z) (length (tripAt w z) / 2) noStop ≡ m =
+      stop-is w z (length (tripAt w z) / 2) noStop (omega (arith, long)) ∙ ap (stopAt w) place ∙ sym is-m in
+      is ∙ sym (λ i. mixed (long i) ((at-first i) .station) ((at-middle i) .station) ((at-last i) .station))
 
   pub is-arrival : last .arrive ≡ lastArrival (tripAt w z)
   unfolding lastArrival

@@ -2,7 +2,7 @@
 -- trip that can run behind another has the same number and arrives no earlier, so that most lines need not be tried
 -- stop by stop.
 use mathlib.Core.Path.{_≡_, ap}
-use Prim.Native.Nat.{ℕ, _+_, _-_, _*_, _%_, _≤_, _<_}
+use Prim.Native.Nat.{ℕ, _+_, _-_, _*_, _/_, _%_, _≤_, _<_}
 use native.Mathlib.Nat.{mod-lt}
 use native.Mathlib.Omega.{arith}
 use lib.Dec.{T}
@@ -16,31 +16,41 @@ use Rattle.lines.specs.Behind.{behind-length, behind-at}
 abbrev pub courses : ℕ
 courses = 256
 
--- the number of a course of so many stops, from its first station and its last
-unfoldable pub mixed : (stops first last : ℕ) → ℕ
-mixed stops first last = (stops % courses + 5 * (first % courses) + 33 * (last % courses)) % courses
+-- the number of a course of so many stops, from its first station, one in the middle and its last
+unfoldable pub mixed : (stops first middle last : ℕ) → ℕ
+mixed stops first middle last =
+    (stops % courses + 17 * (middle % courses) + (5 * (first % courses) + 33 * (last % courses))) % courses
+
+-- the station at place p
+abbrev pub stationAt : Trip → (p : ℕ) → ℕ
+stationAt t p = (getD t p noStop) .station
 
 unfoldable pub courseOf : Trip → ℕ
-courseOf t = mixed (length t) ((getD t 0 noStop) .station) ((getD t (length t - 1) noStop) .station)
+courseOf t = mixed (length t) (stationAt t 0) (stationAt t (length t / 2)) (stationAt t (length t - 1))
 
 unfoldable pub lastArrival : Trip → ℕ
 lastArrival t = (getD t (length t - 1) noStop) .arrive
 
-pub mixed-few : (stops first last : ℕ) → mixed stops first last < courses
+pub mixed-few : (stops first middle last : ℕ) → mixed stops first middle last < courses
 unfolding mixed
-mixed-few stops first last =
-    mod-lt (stops % courses + 5 * (first % courses) + 33 * (last % courses)) (omega arith)
+mixed-few stops first middle last =
+    mod-lt (stops % courses + 17 * (middle % courses) + (5 * (first % courses) + 33 * (last % courses))) (omega arith)
 
 pub course-few : (t : Trip) → courseOf t < courses
 unfolding courseOf
-course-few t = mixed-few (length t) ((getD t 0 noStop) .station) ((getD t (length t - 1) noStop) .station)
+course-few t = mixed-few (length t) (stationAt t 0) (stationAt t (length t / 2)) (stationAt t (length t - 1))
 
 -- ---- a trip behind another
 module _ (u v : Trip) (t : T (behind u v)) where
   pub behind-course : courseOf u ≡ courseOf v
   unfolding courseOf
   behind-course =
-      rw (behind-length u v t, behind-at u v t 0 .station, behind-at u v t (length v - 1) .station)
+      rw (
+        behind-length u v t,
+        behind-at u v t 0 .station,
+        behind-at u v t (length v / 2) .station,
+        behind-at u v t (length v - 1) .station,
+      )
 
   pub behind-arrives : lastArrival u ≤ lastArrival v
   unfolding lastArrival
