@@ -71,19 +71,19 @@ extern "C" {
  * The bytes of stack that each call needs at most, those of its own frame among them. A test runs the calls on a stack
  * of its own, over the timetables that take most, and holds these numbers to what was touched.
  */
-#define DAIRYEPOCH_READ_STACK 18432
+#define DAIRYEPOCH_READ_STACK 22528
 #define DAIRYEPOCH_CHECK_TIMETABLE_STACK 1024
-#define DAIRYEPOCH_BUILD_LINES_STACK 4096
-#define DAIRYEPOCH_CHECK_LINES_STACK 4096
-#define DAIRYEPOCH_CHECK_LINES_ALONE_STACK 54272
-#define DAIRYEPOCH_LINE_TRIPS_STACK 54272
-#define DAIRYEPOCH_TIMES_BY_TRIP_STACK 4096
-#define DAIRYEPOCH_TIMES_BY_STOP_STACK 4096
-#define DAIRYEPOCH_DIRECT_STACK 15872
-#define DAIRYEPOCH_MAKE_STORE_STACK 69632
+#define DAIRYEPOCH_BUILD_LINES_STACK 8192
+#define DAIRYEPOCH_CHECK_LINES_STACK 8192
+#define DAIRYEPOCH_CHECK_LINES_ALONE_STACK 63488
+#define DAIRYEPOCH_LINE_TRIPS_STACK 63488
+#define DAIRYEPOCH_TIMES_BY_TRIP_STACK 8192
+#define DAIRYEPOCH_TIMES_BY_STOP_STACK 8192
+#define DAIRYEPOCH_DIRECT_STACK 20480
+#define DAIRYEPOCH_MAKE_STORE_STACK 73728
 #define DAIRYEPOCH_QUERY_STACK 69632
-#define DAIRYEPOCH_CANCEL_TRIP_STACK 24576
-#define DAIRYEPOCH_ADD_TRIP_STACK 57344
+#define DAIRYEPOCH_CANCEL_TRIP_STACK 30720
+#define DAIRYEPOCH_ADD_TRIP_STACK 63488
 
 /*
  * The time of a call, in milliseconds, as `cargo run --release --bin bench` in tests/ measured it on one core of a
@@ -91,13 +91,13 @@ extern "C" {
  *
  *   dairyepoch_read                0.13
  *   dairyepoch_check_timetable     0.004
- *   dairyepoch_build_lines         0.01 for one line, 0.35 for 256; dairyepoch_check_lines likewise
- *   dairyepoch_check_lines_alone   0.07 for one line, 0.46 for 256; dairyepoch_line_trips likewise
- *   dairyepoch_times_by_trip       up to 1.13 times dairyepoch_check_lines; dairyepoch_times_by_stop likewise
- *   dairyepoch_direct              0.02 for one line, 0.34 for 256, 0.05 for an answer of 507 rows
+ *   dairyepoch_build_lines         0.02 for one line and for 256; dairyepoch_check_lines likewise
+ *   dairyepoch_check_lines_alone   0.03 for one line, 0.04 for 256; dairyepoch_line_trips likewise
+ *   dairyepoch_times_by_trip       up to 1.2 times dairyepoch_check_lines; dairyepoch_times_by_stop likewise
+ *   dairyepoch_direct              0.02 for one line, 0.04 for 256 and for an answer of 507 rows
  *   dairyepoch_make_store          3 on a rural timetable, 9 on random trips, 37 at worst
- *   dairyepoch_query               0.1 on a rural timetable, 0.4 on random trips; up to 90 for a hundred rows or more
- *   dairyepoch_cancel_trip         0.03 for one line, 0.07 on a rural timetable, 0.65 for 256 lines
+ *   dairyepoch_query               0.05 on a rural timetable; up to 90 for a hundred rows or more
+ *   dairyepoch_cancel_trip         0.03 for one line, 0.04 on a rural timetable and for 256 lines
  *   dairyepoch_add_trip            likewise, and 0.05 for each thousand lines of its text
  */
 
@@ -179,7 +179,8 @@ static inline const char *dairyepoch_words(uint32_t number)
 
 /*
  * Reads a timetable text (docs/FORMAT.md) and writes its words (docs/LAYOUT.md) to the start of the timetable slice.
- * The text writes arrive and depart as hh:mm; the words hold minutes, as a query's minute does. The words past them
+ * The text writes arrive and depart as hh:mm; the words hold minutes, as a query's minute does. Each stop has a mark:
+ * 0 for both, 1 for boarding only, 2 for setting down only; any other number is refused with 3. The words past them
  * keep their values. The text needs no byte 0 at its end.
  *
  * Reply: 0 and the number of the text's lines; or a refusal: 8, then 1, then 2 to 6 for the first line that has one,
@@ -200,7 +201,7 @@ uint64_t dairyepoch_check_timetable(const uint16_t *timetable, size_t timetable_
  * Builds the line tables of timetable words (docs/LAYOUT.md) and writes them to the start of the lines slice. Words
  * past the tables keep their values. Each of the three slices has at least 16,384 words: the timetable and the lines
  * of 16 bits, the working space of 32; after the call the working space may hold anything. The count is the number of
- * lines. Refusals: 8, 9.
+ * lines: trips of one line agree in stations, ride penalties and marks. Refusals: 8, 9.
  */
 uint64_t dairyepoch_build_lines(const uint16_t *timetable, size_t timetable_len, uint16_t *lines, size_t lines_len,
                                 uint32_t *work, size_t work_len);
@@ -258,8 +259,9 @@ uint64_t dairyepoch_times_by_stop(const uint16_t *timetable, size_t timetable_le
                                   size_t lines_len);
 
 /*
- * The direct rides from one station to another at a minute, or later. Writes a row of 6 words for each cost that no
- * direct ride's cost dominates, in rising duration, to the start of the answer slice:
+ * The direct rides from one station to another at a minute, or later: a ride boards where the mark of the stop is 0 or
+ * 1, and alights where it is 0 or 2, here and in every connection of the calls below. Writes a row of 6 words for each
+ * cost that no direct ride's cost dominates, in rising duration, to the start of the answer slice:
  *
  *   duration in minutes, penalty in points, 1, trip, boarding stop, alighting stop
  *
@@ -327,11 +329,11 @@ uint64_t dairyepoch_cancel_trip(uint16_t *timetable, size_t timetable_len, uint1
                                 uint32_t *work, size_t work_len, uint32_t trip);
 
 /*
- * Adds an extra trip, by its T lines (docs/FORMAT.md): afterwards both tables are those built afresh from the trips
- * that run now, this one among them, in rising number. The number is free: any from 1 to 9,999 that no running trip
- * has, also that of a cancelled one. The text has the lines of this trip and no others; it may have any number of bytes
- * and needs no byte 0 at its end. The limits count what runs: 256 trips, 2,048 stops. Words past the new tables keep
- * their values, and after a refusal all words of both slices do. Slices as for building.
+ * Adds an extra trip, by its T lines with their marks (docs/FORMAT.md): afterwards both tables are those built afresh
+ * from the trips that run now, this one among them, in rising number. The number is free: any from 1 to 9,999 that no
+ * running trip has, also that of a cancelled one. The text has the lines of this trip and no others; it may have any
+ * number of bytes and needs no byte 0 at its end. The limits count what runs: 256 trips, 2,048 stops. Words past the
+ * new tables keep their values, and after a refusal all words of both slices do. Slices as for building.
  *
  * Reply: 0 and the number of lines that the tables have now; or a refusal: 8, then 9, then 10, then 19, then 2 to 6 for
  * the first line of the extra trip's text that has one, with that line, then 7.

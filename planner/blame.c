@@ -57,6 +57,9 @@ static void blame_range(const struct line *line, struct blame *blame)
     put_wrong(blame, at, "%s is %.*s", shape->form[at].name, (int)line->field[at].length, line->field[at].begin);
     if (shape->form[at].time) {
         put_right(blame, "a time from 00:00 to 47:59, with minutes to 59");
+    } else if (shape == &stop_shape && at == MARK) {
+        put_right(blame, "%d for both, %d for boarding only, %d for setting down only", BOTH, BOARDING_ONLY,
+                  SETTING_DOWN_ONLY);
     } else {
         put_right(blame, "%d to %d", shape->form[at].least, shape->form[at].most);
     }

@@ -41,7 +41,7 @@ static bool blame_form(const struct shape *shape, const struct line *line, struc
     for (at = 1; at < shape->fields; at++) {
         const struct form *form = &shape->form[at];
         const struct field *field = &line->field[at];
-        bool may_be_empty = shape == &stop_shape && at >= ARRIVE;
+        bool may_be_empty = shape == &stop_shape && ARRIVE <= at && at <= RIDE_PENALTY;
         if (field->length == 0 && may_be_empty) {
             continue;
         }

@@ -17,7 +17,7 @@ const struct shape station_shape = {
 
 const struct shape stop_shape = {
     "T",
-    "T,trip,stop,station,arrive,depart,ride penalty",
+    "T,trip,stop,station,arrive,depart,ride penalty,mark",
     STOP_FIELDS,
     {
         {"T", false, NO_RANGE},
@@ -27,6 +27,7 @@ const struct shape stop_shape = {
         {"arrive", true, 0, LAST_MINUTE},
         {"depart", true, 0, LAST_MINUTE},
         {"ride penalty", false, 0, 100},
+        {"mark", false, BOTH, SETTING_DOWN_ONLY},
     },
 };
 

@@ -9,7 +9,7 @@
 #define EMPTY (-1)
 
 /* As many fields are cut out of a line; the last of them has the rest of the line, with its commas. */
-#define FIELDS_MOST 8
+#define FIELDS_MOST 9
 
 /* "hh:mm" and its end. */
 #define TIME_BYTES 6

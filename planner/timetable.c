@@ -21,6 +21,7 @@ static void take_stop(struct timetable *timetable, const struct line *line)
     stop->arrive = minute_of(&line->field[ARRIVE]);
     stop->depart = minute_of(&line->field[DEPART]);
     stop->penalty = number_of(&line->field[RIDE_PENALTY]);
+    stop->mark = number_of(&line->field[MARK]);
 }
 
 void take_lines(struct timetable *timetable, const char *text, size_t bytes, int lines)
@@ -62,6 +63,23 @@ bool is_open(const struct timetable *timetable)
     return last != NULL && last->depart != EMPTY;
 }
 
+/* Whether a ride begins at a stop: one may board there, and alight at a later stop of the trip. */
+static bool begins_ride(const struct stop *stop)
+{
+    const struct stop *later = stop;
+
+    if (stop->mark == SETTING_DOWN_ONLY) {
+        return false;
+    }
+    while (later->depart != EMPTY) {
+        later++;
+        if (later->mark != BOARDING_ONLY) {
+            return true;
+        }
+    }
+    return false;
+}
+
 int departures(const struct timetable *timetable, int station, int minutes[DAIRYEPOCH_MINUTES])
 {
     bool leaves[DAIRYEPOCH_MINUTES] = {false};
@@ -69,7 +87,7 @@ int departures(const struct timetable *timetable, int station, int minutes[DAIRY
 
     for (stop = 1; stop <= timetable->stops; stop++) {
         const struct stop *left = &timetable->stop[stop];
-        if (left->station == station && left->depart != EMPTY) {
+        if (left->station == station && begins_ride(left)) {
             leaves[left->depart] = true;
         }
     }

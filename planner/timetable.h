@@ -7,7 +7,10 @@
 
 /* The fields of an S line and of a T line, after their letter. */
 enum { STATION_NUMBER = 1, CHANGE_MINUTES, CHANGE_PENALTY, STATION_FIELDS };
-enum { TRIP_NUMBER = 1, STOP_NUMBER, STOP_STATION, ARRIVE, DEPART, RIDE_PENALTY, STOP_FIELDS };
+enum { TRIP_NUMBER = 1, STOP_NUMBER, STOP_STATION, ARRIVE, DEPART, RIDE_PENALTY, MARK, STOP_FIELDS };
+
+/* The mark of a stop: what riders may do there. */
+enum mark { BOTH, BOARDING_ONLY, SETTING_DOWN_ONLY };
 
 struct station {
     int change_minutes;
@@ -20,6 +23,7 @@ struct stop {
     int arrive;
     int depart;
     int penalty;
+    int mark;
 };
 
 /* Stations, trips and the stops of a trip count from 1, and so do the arrays. */
@@ -46,7 +50,7 @@ const struct stop *last_stop(const struct timetable *timetable);
 /* Whether the last trip so far has not ended. */
 bool is_open(const struct timetable *timetable);
 
-/* The minutes at which something leaves a station. Returns how many they are: rising, each once. */
+/* The minutes at which a ride begins at a station. Returns how many they are: rising, each once. */
 int departures(const struct timetable *timetable, int station, int minutes[DAIRYEPOCH_MINUTES]);
 
 #endif

@@ -15,9 +15,10 @@ NUMBER = "(0|[1-9][0-9]{0,3})"
 EMPTY = "(|0|[1-9][0-9]{0,3})"
 TIME = "(|[0-9]{2}:[0-9]{2})"
 STATION = re.compile(",".join(["S"] + 3 * [NUMBER]).encode() + rb"\Z")
-STOP = re.compile(",".join(["T"] + 3 * [NUMBER] + 2 * [TIME] + [EMPTY]).encode() + rb"\Z")
+STOP = re.compile(",".join(["T"] + 3 * [NUMBER] + 2 * [TIME] + [EMPTY, NUMBER]).encode() + rb"\Z")
 QUERY = re.compile(",".join(["Q"] + 3 * [NUMBER]).encode() + rb"\Z")
 STORE_WORDS, ANSWER_WORDS = 32768, 16384
+BOTH, BOARDING, DOWN = 0, 1, 2
 
 
 class Refused(Exception):
@@ -33,7 +34,7 @@ def value(field):
 
 
 def read(text):
-    """Stations as (change minutes, change penalty), trips as lists of (station, arrive, depart, ride penalty)."""
+    """Stations as (change minutes, change penalty), trips as lists of (station, arrive, depart, ride penalty, mark)."""
     if len(text) > 65536:
         raise Refused(1, 0)
     stations, trips, ended = [], [], True
@@ -52,12 +53,12 @@ def read(text):
                 raise Refused(5, at)
             stations.append((minutes, points))
             continue
-        trip, number, place, arrive, depart, points = map(value, stop.groups())
+        trip, number, place, arrive, depart, points, mark = map(value, stop.groups())
         if (arrive is None) != (number == 1) or (depart is None) != (points is None):
             raise Refused(2, at)
         if depart is None and number == 1:
             raise Refused(2, at)
-        if (arrive or 0) > 2879 or (depart or 0) > 2879 or (points or 0) > 100:
+        if (arrive or 0) > 2879 or (depart or 0) > 2879 or (points or 0) > 100 or mark not in (BOTH, BOARDING, DOWN):
             raise Refused(3, at)
         if (trip, number) != ((len(trips) + 1, 1) if ended else (len(trips), len(trips[-1]) + 1)):
             raise Refused(4, at)
@@ -71,7 +72,7 @@ def read(text):
                 raise Refused(6, at)
         else:
             trips.append([])
-        trips[-1].append((place, arrive, depart, points))
+        trips[-1].append((place, arrive, depart, points, mark))
         ended = depart is None
     if not stations or not ended:
         raise Refused(7, len(lines))
@@ -79,13 +80,15 @@ def read(text):
 
 
 def rides_from(trips, station, minute):
+    """Every ride as its numbers, where it ends, when, and for how many points: none uses a stop against its mark."""
     for t, stops in enumerate(trips):
         for board in range(len(stops) - 1):
-            if stops[board][0] == station and stops[board][2] >= minute:
+            if stops[board][0] == station and stops[board][2] >= minute and stops[board][4] != DOWN:
                 points = 0
                 for alight in range(board + 1, len(stops)):
                     points += stops[alight - 1][3]
-                    yield (t + 1, board + 1, alight + 1), stops[alight][0], stops[alight][1], points
+                    if stops[alight][4] != BOARDING:
+                        yield (t + 1, board + 1, alight + 1), stops[alight][0], stops[alight][1], points
 
 
 def connections(stations, trips, source, minute):

@@ -39,7 +39,7 @@ pub fn dominates(one: (u32, u32), other: (u32, u32)) -> bool {
     !larger && smaller
 }
 
-/// A trip, a stop to board at and a later stop to alight at.
+/// A trip, a stop to board at and a later stop to alight at, both as their marks allow it.
 struct Ride {
     numbers: [u32; 3],
     from: u16,
@@ -52,8 +52,8 @@ struct Ride {
 fn rides(timetable: &Timetable) -> Vec<Ride> {
     let mut rides = Vec::new();
     for (&trip, stops) in &timetable.trips {
-        for board in 0..stops.len() - 1 {
-            for alight in board + 1..stops.len() {
+        for board in (0..stops.len() - 1).filter(|&board| stops[board].may_board()) {
+            for alight in (board + 1..stops.len()).filter(|&alight| stops[alight].may_alight()) {
                 let onward = |stop: &Stop| stop.onward.expect("a stop ridden from is not its trip's last");
                 let penalty = stops[board..alight].iter().map(|stop| u32::from(onward(stop).penalty)).sum();
                 rides.push(Ride {

@@ -35,6 +35,9 @@ pub const DAMAGES: &[Damage] = &[
     put_an_edge_in_a_time,
     misspell_a_time,
     write_a_time_as_its_minute,
+    set_a_mark,
+    misspell_a_mark,
+    drop_a_mark,
     swap_two_fields,
     add_a_comma,
     drop_a_comma,
@@ -60,6 +63,11 @@ const NEARLY_TIMES: &[&str] = &[
     "8:00", "08:0", "008:00", "08:000", "08:00:00", "0800", "480", "08-00", "08.00", "08;00", ":", " 8:00", "08: 0",
     "0a:00", "08:0/", "/8:00", "08::0", "::::;", "-8:00", "08:+1", "08:00 ",
 ];
+
+/// Marks, numbers that are none, and fields that are no number.
+const MARK_EDGES: &[&str] = &["0", "1", "2", "3", "4", "9", "10", "12", "128", "255", "256", "9999"];
+const NEARLY_MARKS: &[&str] =
+    &["", "00", "01", "02", "x", "-1", "+1", " 1", "1 ", "1.", "10000", "65536", "1,", "00:01"];
 
 /// Does up to three damages to a copy of the text.
 pub fn damaged(random: &mut Random, text: &[u8]) -> Vec<u8> {
@@ -243,11 +251,20 @@ fn put_an_edge_in_a_field(random: &mut Random, text: &mut Vec<u8>) {
     change_a_field(random, text, |random, field| *field = random.pick(EDGES).as_bytes().to_vec());
 }
 
+/// Changes the fields of a line that has as many as a stop's.
+fn change_a_stop(random: &mut Random, text: &mut Vec<u8>, change: impl FnOnce(&mut Random, &mut Vec<Vec<u8>>)) {
+    change_fields(random, text, |random, fields| {
+        if fields.len() == 8 {
+            change(random, fields);
+        }
+    });
+}
+
 /// Changes a stop's arrive or depart, where it has one.
 fn change_a_time(random: &mut Random, text: &mut Vec<u8>, change: impl FnOnce(&mut Random, &mut Vec<u8>)) {
-    change_fields(random, text, |random, fields| {
+    change_a_stop(random, text, |random, fields| {
         let at = random.within(4..=5);
-        if fields.len() == 7 && !fields[at].is_empty() {
+        if !fields[at].is_empty() {
             change(random, &mut fields[at]);
         }
     });
@@ -280,6 +297,19 @@ fn write_a_time_as_its_minute(random: &mut Random, text: &mut Vec<u8>) {
             *field = (600 * a + 60 * b + 10 * c + d).to_string().into_bytes();
         }
     });
+}
+
+fn set_a_mark(random: &mut Random, text: &mut Vec<u8>) {
+    change_a_stop(random, text, |random, fields| fields[7] = random.pick(MARK_EDGES).as_bytes().to_vec());
+}
+
+fn misspell_a_mark(random: &mut Random, text: &mut Vec<u8>) {
+    change_a_stop(random, text, |random, fields| fields[7] = random.pick(NEARLY_MARKS).as_bytes().to_vec());
+}
+
+/// The form of a stop's line before it had a mark.
+fn drop_a_mark(random: &mut Random, text: &mut Vec<u8>) {
+    change_a_stop(random, text, |_, fields| drop(fields.pop()));
 }
 
 fn swap_two_fields(random: &mut Random, text: &mut Vec<u8>) {
@@ -320,14 +350,14 @@ fn add_a_station(_: &mut Random, text: &mut Vec<u8>) {
 /// Adds a trip at the end: a fault only where the trips or stops are full, or the last trip is open.
 fn add_a_trip(_: &mut Random, text: &mut Vec<u8>) {
     let trip = last_number(text, 1) + 1;
-    text.extend(format!("T,{trip},1,1,,00:00,0\nT,{trip},2,2,00:01,,\n").bytes());
+    text.extend(format!("T,{trip},1,1,,00:00,0,0\nT,{trip},2,2,00:01,,,0\n").bytes());
 }
 
 /// Adds a stop to the last trip: a fault, since that trip has ended, unless something opened it.
 fn add_a_stop(random: &mut Random, text: &mut Vec<u8>) {
     let (trip, stop) = (last_number(text, 1), last_number(text, 2) + 1);
     let station = random.within(1..=3);
-    text.extend(format!("T,{trip},{stop},{station},47:59,,\n").bytes());
+    text.extend(format!("T,{trip},{stop},{station},47:59,,,0\n").bytes());
 }
 
 /// The number in a field of the last line, if that is a stop.

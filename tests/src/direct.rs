@@ -3,7 +3,8 @@
 
 use std::cmp::Reverse;
 
-use crate::timetable::{Stop, Timetable};
+use crate::timetable::{Stop, Timetable, BOARDING_ONLY, SETTING_DOWN_ONLY};
+use crate::words::STOP_WORDS;
 
 /// The words of a row.
 pub const ROW_WORDS: usize = 6;
@@ -46,13 +47,16 @@ impl Ride {
     }
 }
 
-/// All single rides that are feasible for the query: "it boards at A at t or later, alights at B".
+/// All single rides that are feasible for the query: "it boards at A at t or later, alights at B", and uses no stop
+/// against its mark.
 pub fn rides(timetable: &Timetable, query: Query) -> Vec<Ride> {
     let mut rides = Vec::new();
     for (&trip, stops) in &timetable.trips {
         let meets = |place: &usize, station: u32| u32::from(stops[*place].station) == station;
-        for board in (0..stops.len()).filter(|place| meets(place, query.from)) {
-            for alight in (board + 1..stops.len()).filter(|place| meets(place, query.to)) {
+        let boards = |place: &usize| meets(place, query.from) && stops[*place].may_board();
+        let alights = |place: &usize| meets(place, query.to) && stops[*place].may_alight();
+        for board in (0..stops.len()).filter(boards) {
+            for alight in (board + 1..stops.len()).filter(alights) {
                 let (depart, arrive, penalty) = ridden(&stops[board..=alight]);
                 if depart >= query.minute {
                     let duration = arrive - query.minute;
@@ -100,23 +104,23 @@ pub fn to_words(rows: &[Ride]) -> Vec<u32> {
 /// As `rows`, but quickly: in one pass over the words of a timetable with a yes to question 9.
 ///
 /// Of the rides of a trip that alight at one stop, only the one that boards last counts: it departs later than the
-/// others, and its penalty is not above theirs.
+/// others, and its penalty is not above theirs. A stop where nobody may board, or nobody alight, is ridden through.
 pub fn scan(timetable: &[u16], query: Query, rows: &mut Vec<Ride>) {
     rows.clear();
     let [stations, trips, stops] = [0, 1, 2].map(|at| usize::from(timetable[at]));
-    let (stops, firsts) = timetable[3 + 2 * stations..].split_at(4 * stops);
+    let (stops, firsts) = timetable[3 + 2 * stations..].split_at(STOP_WORDS * stops);
     let (firsts, numbers) = firsts.split_at(trips + 1);
     for (&trip, ends) in numbers.iter().zip(firsts.windows(2)) {
-        let stops = &stops[4 * usize::from(ends[0])..4 * usize::from(ends[1])];
+        let stops = &stops[STOP_WORDS * usize::from(ends[0])..STOP_WORDS * usize::from(ends[1])];
         let mut boarded = None;
-        for (number, stop) in (1..).zip(stops.chunks_exact(4)) {
-            let [station, arrive, depart, penalty] = [0, 1, 2, 3].map(|at| u32::from(stop[at]));
-            if station == query.from && depart >= query.minute {
+        for (number, stop) in (1..).zip(stops.chunks_exact(STOP_WORDS)) {
+            let [station, arrive, depart, penalty, mark] = [0, 1, 2, 3, 4].map(|at| u32::from(stop[at]));
+            if station == query.from && depart >= query.minute && mark != SETTING_DOWN_ONLY.into() {
                 boarded = Some((number, depart, penalty));
                 continue;
             }
             let Some((board, boarded_at, ridden)) = &mut boarded else { continue };
-            if station == query.to {
+            if station == query.to && mark != BOARDING_ONLY.into() {
                 let duration = arrive - query.minute;
                 let (board, depart, penalty) = (*board, *boarded_at, *ridden);
                 add(rows, Ride { duration, penalty, depart, trip: trip.into(), board, alight: number });
@@ -206,9 +210,11 @@ mod tests {
     #[test]
     fn both_ways_to_find_rows_agree_and_fit_the_description() {
         let mut random = Random::new(1);
-        let mut most = 0;
+        let (mut most, mut marked) = (0, 0);
         for _ in 0..300 {
-            most = most.max(compare(&crowded(&mut random, &CROWDED), &mut random));
+            let crowded = crowded(&mut random, &CROWDED);
+            marked += usize::from(crowded.is_marked());
+            most = most.max(compare(&crowded, &mut random));
             compare(&with_shared_ways(&mut random, &SMALL), &mut random);
             compare(&timetable(&mut random, &SMALL), &mut random);
         }
@@ -216,6 +222,6 @@ mod tests {
             compare(&with_shared_ways(&mut random, &MIDDLING), &mut random);
             compare(&timetable(&mut random, &MIDDLING), &mut random);
         }
-        assert!(most > 2, "no query had more than {most} rows");
+        assert!(most > 2 && marked > 80, "no query had more than {most} rows; {marked} have marks");
     }
 }

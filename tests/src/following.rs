@@ -80,7 +80,7 @@ impl Follower<'_> {
         let (mut seen, mut best) = (0, None);
         for (at, hop) in network.hops.iter().enumerate() {
             let mut aboard = hop.before().and_then(|before| arrived[before]);
-            if hop.from == station {
+            if hop.from == station && hop.boards {
                 let boarded = match ready {
                     None if hop.depart < self.query.minute => None,
                     None => Some(self.labels.begin(hop)),
@@ -110,7 +110,7 @@ mod tests {
     #[test]
     fn following_finds_what_the_list_keeps() {
         let mut random = Random::new(1);
-        let (mut whole, mut struck, mut found) = (0, 0, 0);
+        let (mut whole, mut struck, mut found, mut marked) = (0, 0, 0, 0);
         for at in 0..600 {
             let timetable = if at % 2 == 0 { changing(&mut random, &CHANGING) } else { crowded(&mut random, &CROWDED) };
             let network = Network::new(&timetable);
@@ -134,10 +134,12 @@ mod tests {
                         let listed = rows(kept(&list, &sequences, query), minute);
                         assert_eq!(guide.rows(&network, query), listed, "{query:?} of\n{timetable}");
                         found += listed.len();
+                        marked += if timetable.is_marked() { listed.len() } else { 0 };
                     }
                 }
             }
         }
-        assert!(whole > 500 && struck > 500 && found > 5_000, "{whole}, {struck}, {found}");
+        let counts = [whole, struck, marked];
+        assert!(counts.iter().all(|&count| count > 500) && found > 5_000, "{counts:?}, {found}");
     }
 }

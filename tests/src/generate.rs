@@ -1,11 +1,13 @@
 //! Timetables that are right by their making: every choice is open that document 01 leaves open.
 
+use std::collections::BTreeMap;
 use std::ops::RangeInclusive;
 
 use crate::random::Random;
 use crate::timetable::{
-    Onward, Station, Stop, Timetable, CHANGE_MINUTES_MOST, CHANGE_PENALTY_LEAST, CHANGE_PENALTY_MOST, LAST_MINUTE,
-    RIDE_PENALTY_MOST, STATIONS_MOST, STOPS_MOST, TRIPS_MOST, TRIP_NUMBER_MOST,
+    Onward, Station, Stop, Timetable, BOARDING_ONLY, BOTH, CHANGE_MINUTES_MOST, CHANGE_PENALTY_LEAST,
+    CHANGE_PENALTY_MOST, LAST_MINUTE, MARKS, RIDE_PENALTY_MOST, SETTING_DOWN_ONLY, STATIONS_MOST, STOPS_MOST,
+    TRIPS_MOST, TRIP_NUMBER_MOST,
 };
 
 /// How large a timetable is to be. The count of stops in all is kept in any case.
@@ -35,10 +37,11 @@ pub fn timetable(random: &mut Random, size: &Size) -> Timetable {
         lengths.push(stops);
         stops_left -= stops;
     }
-    with_trips(random, stations, &lengths)
+    let unmarked = with_trips(random, stations, &lengths);
+    marked_or_not(random, unmarked)
 }
 
-/// 64 stations, 256 trips, 2,048 stops; one trip may have most of the stops.
+/// 64 stations, 256 trips, 2,048 stops; one trip may have most of the stops. Every stop has mark 0.
 pub fn largest(random: &mut Random) -> Timetable {
     let mut lengths = [2; TRIPS_MOST];
     let favourites = random.within(1..=TRIPS_MOST);
@@ -56,11 +59,12 @@ pub fn long_lines() -> Timetable {
         station: 60 + place % 2,
         arrive: (place > 0).then_some(1_000 + 200 * place),
         onward: (place < 7).then_some(Onward { depart: 1_100 + 200 * place, penalty: RIDE_PENALTY_MOST }),
+        mark: BOTH,
     });
     Timetable::new(stations, vec![trip.collect(); TRIPS_MOST])
 }
 
-/// A timetable with trips of the given numbers of stops, which are at least 2.
+/// A timetable with trips of the given numbers of stops, which are at least 2 and have mark 0.
 pub fn with_trips(random: &mut Random, stations: usize, lengths: &[usize]) -> Timetable {
     let values = (0..stations).map(|_| station(random)).collect();
     Timetable::new(values, lengths.iter().map(|&stops| trip(random, stations, stops)))
@@ -74,6 +78,7 @@ pub fn overtaking() -> Timetable {
             arrive: (place > 0).then_some(if place < 7 { 300 * place } else { LAST_MINUTE - late }),
             onward: (place < 7)
                 .then_some(Onward { depart: if place > 0 { 300 * place } else { late }, penalty: place }),
+            mark: BOTH,
         };
         (0..8).map(stop).collect()
     };
@@ -148,7 +153,8 @@ pub fn with_shared_ways(random: &mut Random, size: &Size) -> Timetable {
             days[chosen] = moments;
         }
     }
-    Timetable::new((0..stations).map(|_| station(random)).collect(), trips)
+    let unmarked = Timetable::new((0..stations).map(|_| station(random)).collect(), trips);
+    marked_or_not(random, unmarked)
 }
 
 /// A timetable whose trips all run within a few minutes, by a few ways of small penalties: many rides cost the same.
@@ -165,7 +171,8 @@ pub fn crowded(random: &mut Random, size: &Size) -> Timetable {
         moments.sort_unstable();
         trips.push(trip_on(way, &rides_at(&moments)));
     }
-    Timetable::new((0..stations).map(|_| station(random)).collect(), trips)
+    let unmarked = Timetable::new((0..stations).map(|_| station(random)).collect(), trips);
+    marked_or_not(random, unmarked)
 }
 
 /// A timetable in which changing often pays: its trips run within a few minutes, by ways of their own and small
@@ -184,7 +191,8 @@ pub fn changing(random: &mut Random, size: &Size) -> Timetable {
     }
     let quick =
         |_| Station { change_minutes: random.pick(&[0, 0, 0, 1, 2]), change_penalty: random.pick(&[1, 1, 2, 3]) };
-    Timetable::new((0..stations).map(quick).collect(), trips)
+    let unmarked = Timetable::new((0..stations).map(quick).collect(), trips);
+    marked_or_not(random, unmarked)
 }
 
 /// 64 stations and 16 routes of 8 stops between four towns and the villages, each with so many trips out and back in a
@@ -270,7 +278,7 @@ impl Diamonds {
     }
 }
 
-/// Every trip of so many stops over so many stations, with times from 0 to `last` and penalties 0 and 1.
+/// Every trip of so many stops over so many stations, with times from 0 to `last`, penalties 0 and 1, and mark 0.
 pub fn every_trip(stations: u16, stops: usize, last: u16) -> Vec<Vec<Stop>> {
     let mut trips = vec![Vec::new()];
     for place in 0..stops {
@@ -286,7 +294,8 @@ pub fn every_trip(stations: u16, stops: usize, last: u16) -> Vec<Vec<Stop>> {
                 let leaves =
                     (arrive.unwrap_or(0)..=last).flat_map(|depart| [0, 1].map(|penalty| Onward { depart, penalty }));
                 let onwards: Vec<Option<Onward>> = if ends { vec![None] } else { leaves.map(Some).collect() };
-                longer.extend(onwards.iter().map(|&onward| [&trip[..], &[Stop { station, arrive, onward }]].concat()));
+                let stop = |&onward: &Option<Onward>| Stop { station, arrive, onward, mark: BOTH };
+                longer.extend(onwards.iter().map(|onward| [&trip[..], &[stop(onward)]].concat()));
             }
         }
         trips = longer;
@@ -308,6 +317,79 @@ pub fn every_timetable<'a>(
         }
         Timetable::new(stations.to_vec(), chosen)
     })
+}
+
+/// Every timetable of the same trips, with any marks at their stops: three for each stop.
+pub fn every_marking(timetable: &Timetable) -> impl Iterator<Item = Timetable> + '_ {
+    (0..MARKS.len().pow(timetable.stops() as u32)).map(|mut choice| {
+        let mut marked = timetable.clone();
+        for stop in marked.trips.values_mut().flatten() {
+            stop.mark = MARKS[choice % MARKS.len()];
+            choice /= MARKS.len();
+        }
+        marked
+    })
+}
+
+/// Where marks other than 0 stand.
+#[derive(Clone, Copy)]
+enum Marking {
+    Few,
+    Many,
+    /// Nobody may board at this station.
+    NoBoardingAt(u16),
+    /// Nobody may alight there.
+    NoAlightingAt(u16),
+    /// A trip takes riders in until it sets them down.
+    InThenOut,
+}
+
+/// The same trips with marks at their stops. Trips alike have marks alike, but for a stop here and there, which makes
+/// another line of its trip.
+pub fn marked(random: &mut Random, timetable: &Timetable) -> Timetable {
+    let station = random.within(1..=timetable.stations.len()) as u16;
+    let marking = random.pick(&[
+        Marking::Few,
+        Marking::Many,
+        Marking::NoBoardingAt(station),
+        Marking::NoAlightingAt(station),
+        Marking::InThenOut,
+    ]);
+    let mut marks_of_ways = BTreeMap::new();
+    let mut marked = timetable.clone();
+    for stops in marked.trips.values_mut() {
+        let way: Vec<(u16, Option<u16>)> =
+            stops.iter().map(|stop| (stop.station, stop.onward.map(|onward| onward.penalty))).collect();
+        let marks = marks_of_ways.entry(way).or_insert_with(|| marks(random, marking, stops));
+        stops.iter_mut().zip(marks).for_each(|(stop, mark)| stop.mark = *mark);
+        if random.one_in(6) {
+            let place = random.below(stops.len());
+            stops[place].mark = random.pick(&MARKS);
+        }
+    }
+    marked
+}
+
+fn marked_or_not(random: &mut Random, unmarked: Timetable) -> Timetable {
+    if random.one_in(2) {
+        marked(random, &unmarked)
+    } else {
+        unmarked
+    }
+}
+
+fn marks(random: &mut Random, marking: Marking, stops: &[Stop]) -> Vec<u16> {
+    let turn = random.within(0..=stops.len());
+    let mut mark = |(place, stop): (usize, &Stop)| match marking {
+        Marking::Many => random.pick(&MARKS),
+        Marking::NoBoardingAt(station) if stop.station == station => SETTING_DOWN_ONLY,
+        Marking::NoAlightingAt(station) if stop.station == station => BOARDING_ONLY,
+        Marking::InThenOut if place < turn => BOARDING_ONLY,
+        Marking::InThenOut => SETTING_DOWN_ONLY,
+        _ if random.one_in(6) => random.pick(&MARKS),
+        _ => BOTH,
+    };
+    stops.iter().enumerate().map(&mut mark).collect()
 }
 
 /// The same trips under other numbers, in another order: with few gaps, with many, or with none.
@@ -376,6 +458,7 @@ fn trip_on(way: &[(usize, u16)], rides: &[(u16, u16)]) -> Vec<Stop> {
         station: station as u16,
         arrive: (place > 0).then(|| rides[place - 1].1),
         onward: rides.get(place).map(|&(depart, _)| Onward { depart, penalty }),
+        mark: BOTH,
     };
     way.iter().enumerate().map(stop).collect()
 }
@@ -404,11 +487,11 @@ fn trip(random: &mut Random, stations: usize, stops: usize) -> Vec<Stop> {
     let mut trip = Vec::new();
     for (depart, next_arrive) in rides(random, stops - 1) {
         let onward = Some(Onward { depart, penalty: value(random, 0, RIDE_PENALTY_MOST) });
-        trip.push(Stop { station: station as u16, arrive, onward });
+        trip.push(Stop { station: station as u16, arrive, onward, mark: BOTH });
         arrive = Some(next_arrive);
         station = another(random, stations, station);
     }
-    trip.push(Stop { station: station as u16, arrive, onward: None });
+    trip.push(Stop { station: station as u16, arrive, onward: None, mark: BOTH });
     trip
 }
 
@@ -459,7 +542,10 @@ fn span(random: &mut Random, spare: u16) -> (u16, u16) {
 
 #[cfg(test)]
 mod tests {
+    use std::collections::BTreeSet;
+
     use super::*;
+    use crate::lines::lines;
     use crate::reference::{led_to, read};
     use crate::timetable::trip_text;
 
@@ -515,6 +601,41 @@ mod tests {
             highest = highest.max(last);
         }
         assert!(gaps > 200 && highest > 9_000, "{gaps}, {highest}");
+    }
+
+    #[test]
+    fn marks_of_all_kinds() {
+        let mut random = Random::new(5);
+        let (mut met, mut shared, mut split) = ([0; 3], 0, 0);
+        let (mut no_boarding, mut no_alighting) = (0, 0);
+        for _ in 0..500 {
+            let unmarked = crowded(&mut random, &CROWDED);
+            let marked = marked(&mut random, &unmarked);
+            assert_eq!(read(&marked.to_text()).as_ref(), Ok(&marked));
+            marked.trips.values().flatten().for_each(|stop| met[usize::from(stop.mark)] += 1);
+            let mut bare = marked.clone();
+            bare.trips.values_mut().flatten().for_each(|stop| stop.mark = BOTH);
+            let [lines, bare_lines] = [&marked, &bare].map(lines);
+            shared += usize::from(lines.iter().any(|line| line.len() > 1));
+            split += usize::from(lines.len() > bare_lines.len());
+            for station in 1..=marked.stations.len() as u16 {
+                let calls: Vec<&Stop> =
+                    marked.trips.values().flatten().filter(|stop| stop.station == station).collect();
+                no_boarding += usize::from(calls.len() > 1 && !calls.iter().any(|stop| stop.may_board()));
+                no_alighting += usize::from(calls.len() > 1 && !calls.iter().any(|stop| stop.may_alight()));
+            }
+        }
+        let counts = [met[0], met[1], met[2], shared, split, no_boarding, no_alighting];
+        assert!(counts.iter().all(|&count| count > 50), "{counts:?}");
+    }
+
+    #[test]
+    fn every_marking_once() {
+        let mut random = Random::new(6);
+        let timetable = with_trips(&mut random, 3, &[2, 3]);
+        let every: BTreeSet<String> = every_marking(&timetable).map(|marked| marked.to_string()).collect();
+        assert_eq!(every.len(), 243);
+        assert!(every.iter().all(|text| read(text.as_bytes()).is_ok()));
     }
 
     #[test]

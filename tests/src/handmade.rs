@@ -1,6 +1,6 @@
 //! Texts of timetables that a test writes down number by number.
 
-use crate::timetable::{Onward, Station, Stop, Timetable, RIDE_PENALTY_MOST};
+use crate::timetable::{Onward, Station, Stop, Timetable, BOTH, RIDE_PENALTY_MOST};
 
 /// Station, arrival, departure and ride penalty of a stop. No arrival counts at a trip's first stop, and neither of the
 /// others at its last.
@@ -15,6 +15,7 @@ pub fn text(stations: &[(u16, u16)], trips: &[&[Numbers]]) -> String {
             station,
             arrive: (place > 0).then_some(arrive),
             onward: (place + 1 < stops.len()).then_some(Onward { depart, penalty }),
+            mark: BOTH,
         }
     };
     let trips = trips.iter().map(|stops| (0..stops.len()).map(|place| stop(stops, place)).collect());

@@ -1,5 +1,5 @@
 //! A host of the exported calls that believes none of them: whatever a call replies and writes is held against a
-//! reader written from document 01 alone.
+//! reader written from documents 01 and 02 alone.
 //!
 //! A further call needs three things: its declaration and a safe wrapper in [`ffi`], what it must answer in a module
 //! like [`reference`], put together in [`expected`], and a method of [`host::Host`] that compares the two. What the

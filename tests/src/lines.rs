@@ -9,6 +9,8 @@ pub const LINE_WORDS: usize = 16_384;
 pub const WORK_WORDS: usize = 16_384;
 /// No line tables have more words than these, by docs/LAYOUT.md.
 pub const LINE_WORDS_MOST: usize = 15_429;
+/// A position's first word holds its station and its mark, which counts so much.
+pub const MARK_UNIT: u16 = 128;
 
 /// For each line the numbers of its trips, as they joined it.
 pub fn lines(timetable: &Timetable) -> Vec<Vec<u16>> {
@@ -29,10 +31,12 @@ pub fn lines(timetable: &Timetable) -> Vec<Vec<u16>> {
     lines
 }
 
-/// "The same stations and ride penalties."
+/// "The same stations and ride penalties", and "trips of a line must agree in" the mark of each stop.
 pub fn same_way(one: &[Stop], other: &[Stop]) -> bool {
-    one.len() == other.len()
-        && one.iter().zip(other).all(|(one, other)| one.station == other.station && penalty(one) == penalty(other))
+    let same_stop = |(one, other): (&Stop, &Stop)| {
+        one.station == other.station && penalty(one) == penalty(other) && one.mark == other.mark
+    };
+    one.len() == other.len() && one.iter().zip(other).all(same_stop)
 }
 
 /// "Nowhere later than it, in any arrival or departure", of two trips of the same way.
@@ -98,7 +102,7 @@ fn line_words(timetable: &Timetable, line: &[u16], times: fn(&[&[Stop]]) -> Vec<
     words.extend(line);
     let mut total = 0;
     for stop in way {
-        words.push(stop.station);
+        words.push(stop.station + MARK_UNIT * stop.mark);
         words.extend(total_words(total));
         total += penalty(stop).map_or(0, u32::from);
     }
@@ -127,7 +131,7 @@ pub fn total_words(total: u32) -> [u16; 2] {
     [total % 65_536, total / 65_536].map(|part| word(part as usize))
 }
 
-/// Line and position wherever a line meets the station.
+/// Line and position wherever a line meets the station, whatever the mark.
 fn list_words(timetable: &Timetable, lines: &[Vec<u16>], station: u16) -> Vec<u16> {
     let mut words = Vec::new();
     for (number, line) in (1..).zip(lines) {

@@ -3,7 +3,7 @@
 
 use crate::timetable::{
     trip_text, Onward, Station, Stop, Timetable, CHANGE_MINUTES_MOST, CHANGE_PENALTY_LEAST, CHANGE_PENALTY_MOST,
-    LAST_MINUTE, RIDE_PENALTY_MOST, STATIONS_MOST, STOPS_MOST, TEXT_BYTES_MOST, TRIPS_MOST,
+    LAST_MINUTE, MARKS, RIDE_PENALTY_MOST, STATIONS_MOST, STOPS_MOST, TEXT_BYTES_MOST, TRIPS_MOST,
 };
 
 #[derive(Clone, Copy, Debug, PartialEq, Eq)]
@@ -178,6 +178,7 @@ fn stop_line<'a>(fields: &mut impl Iterator<Item = &'a [u8]>) -> Option<Line> {
     let arrive = if_filled(fields.next()?, minute)?;
     let depart = if_filled(fields.next()?, minute)?;
     let penalty = if_filled(fields.next()?, decimal)?;
+    let mark = decimal(fields.next()?)?;
     let onward = match (depart, penalty) {
         (Some(depart), Some(penalty)) => Some(Onward { depart, penalty }),
         (None, None) => None,
@@ -185,7 +186,7 @@ fn stop_line<'a>(fields: &mut impl Iterator<Item = &'a [u8]>) -> Option<Line> {
     };
     let first = number == 1;
     let filled_rightly = arrive.is_none() == first && (onward.is_some() || !first);
-    filled_rightly.then_some(Line::Stop { trip, number, stop: Stop { station, arrive, onward } })
+    filled_rightly.then_some(Line::Stop { trip, number, stop: Stop { station, arrive, onward, mark } })
 }
 
 /// No value for an empty field; else what the field spells, if it spells something.
@@ -231,6 +232,7 @@ fn in_range(line: &Line) -> bool {
         Line::Stop { stop, .. } => {
             let is_time = |minute: u16| minute <= LAST_MINUTE;
             stop.arrive.is_none_or(is_time)
+                && MARKS.contains(&stop.mark)
                 && stop.onward.is_none_or(|onward| is_time(onward.depart) && onward.penalty <= RIDE_PENALTY_MOST)
         }
     }

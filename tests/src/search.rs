@@ -20,11 +20,14 @@ pub struct Hop {
     pub depart: u32,
     pub arrive: u32,
     pub penalty: u32,
+    /// Whether one may board it, and whether one may alight from it. Who is aboard may stay in any case.
+    pub boards: bool,
+    alights: bool,
     /// The trip's hop before this one.
     before: Option<usize>,
     /// How many of the arrivals where it departs are early enough to change to it.
     early: usize,
-    /// Its place among the arrivals where it arrives.
+    /// Its place among the arrivals where it arrives, if one may alight from it.
     place: usize,
 }
 
@@ -37,7 +40,7 @@ impl Hop {
 /// The hops of a timetable by departure. A hop takes a minute or more, so that all ways to a departure come before it.
 pub struct Network {
     pub hops: Vec<Hop>,
-    /// For each station, counted from 1, the hops that arrive there, by arrival.
+    /// For each station, counted from 1, the hops from which one may alight there, by arrival.
     arrivals: Vec<Vec<usize>>,
     change_penalty: Vec<u32>,
 }
@@ -56,6 +59,8 @@ impl Network {
                     depart: onward.depart.into(),
                     arrive: ends[1].arrive.expect("only a trip's first stop has no arrival").into(),
                     penalty: onward.penalty.into(),
+                    boards: ends[0].may_board(),
+                    alights: ends[1].may_alight(),
                     before: None,
                     early: 0,
                     place: 0,
@@ -67,7 +72,9 @@ impl Network {
         let mut arrivals = vec![Vec::new(); timetable.stations.len() + 1];
         for (at, hop) in hops.iter_mut().enumerate() {
             hop.before = places.get(&(hop.trip, hop.stop - 1)).copied();
-            arrivals[hop.to].push(at);
+            if hop.alights {
+                arrivals[hop.to].push(at);
+            }
         }
         let with_root = |value: fn(&crate::timetable::Station) -> u16| {
             [0].into_iter().chain(timetable.stations.iter().map(|station| value(station).into())).collect::<Vec<u32>>()
@@ -92,7 +99,7 @@ impl Network {
         self.arrivals.len() - 1
     }
 
-    /// The hops that arrive at a station, by arrival.
+    /// The hops from which one may alight at a station, by arrival.
     pub fn arrivals(&self, station: usize) -> &[usize] {
         &self.arrivals[station]
     }
@@ -106,9 +113,9 @@ impl Network {
         self.change_penalty[station]
     }
 
-    /// The minutes at which something departs from a station.
+    /// The minutes at which something departs from a station that may be boarded there.
     pub fn minutes(&self, station: u32) -> BTreeSet<u32> {
-        self.hops.iter().filter(|hop| hop.from == station as usize).map(|hop| hop.depart).collect()
+        self.hops.iter().filter(|hop| hop.from == station as usize && hop.boards).map(|hop| hop.depart).collect()
     }
 }
 
@@ -161,8 +168,8 @@ impl Minute {
                 *least = (*least).min(self.least[other]);
             }
             *seen = hop.early;
-            self.boarding[at] = least.saturating_add(network.change_penalty[hop.from]);
-            let aboard = if hop.from == source as usize && hop.depart >= minute {
+            self.boarding[at] = if hop.boards { least.saturating_add(network.change_penalty[hop.from]) } else { NONE };
+            let aboard = if hop.from == source as usize && hop.depart >= minute && hop.boards {
                 0
             } else {
                 self.boarding[at].min(hop.before.map_or(NONE, |before| self.least[before]))
@@ -189,14 +196,15 @@ impl Minute {
     }
 
     /// From the last departure to the first: a hop is useful if its arrival is optimal, or if its trip's next hop is
-    /// and the rider stays aboard, or if a change to a useful hop is as good as any.
+    /// and the rider stays aboard, or if one may alight from it and a change to a useful hop is as good as any.
     fn find_useful(&mut self, network: &Network) {
         self.useful.copy_from_slice(&self.optimal);
         // for each station the useful hops that are boarded there: early arrivals, and the penalty of those that count
         let mut boarded: Vec<Vec<(usize, u32)>> = vec![Vec::new(); network.arrivals.len()];
         for (at, hop) in network.hops.iter().enumerate().rev() {
             let next = boarded[hop.to].partition_point(|&(early, _)| early > hop.place);
-            if next > 0 && boarded[hop.to][next - 1].1 == self.least[at] && self.least[at] != NONE {
+            let as_good = next > 0 && boarded[hop.to][next - 1].1 == self.least[at] && self.least[at] != NONE;
+            if hop.alights && as_good {
                 self.useful[at] = true;
             }
             if !self.useful[at] {
@@ -220,7 +228,7 @@ impl Minute {
         for (at, hop) in network.hops.iter().enumerate().filter(|&(at, _)| self.useful[at]) {
             let least = self.least[at] - hop.penalty;
             let mut nodes = Vec::new();
-            if hop.from == source as usize && hop.depart >= minute {
+            if hop.from == source as usize && hop.depart >= minute && hop.boards {
                 nodes.push(0);
             }
             if let Some(before) = hop.before.filter(|&before| self.least[before] == least) {
@@ -430,14 +438,17 @@ pub fn whole(network: &Network, query: Query) -> Vec<Connection> {
         }
         *seen = hop.early;
         let stay = hop.before.and_then(|before| arrived[before]);
-        let begun = (hop.from == query.from as usize).then(|| labels.begin(hop));
-        let changed = best.map(|best| labels.change(best, hop, network.change_penalty[hop.from]));
+        let begun = (hop.boards && hop.from == query.from as usize).then(|| labels.begin(hop));
+        let changed = best.filter(|_| hop.boards).map(|best| {
+            let penalty = network.change_penalty[hop.from];
+            labels.change(best, hop, penalty)
+        });
         let aboard = [begun, changed].into_iter().fold(stay, |best, next| better(&labels, best, next));
         arrived[at] = aboard.map(|arrival| arrival.ride(hop));
     }
-    let at_target = |&at: &usize| network.hops[at].to == query.to as usize;
-    let ends = (0..network.hops.len()).filter(at_target).filter_map(|at| arrived[at].map(|arrival| (at, arrival)));
-    result(network, &labels, ends.collect())
+    let ends = network.arrivals(query.to as usize).iter();
+    let ended = |&at: &usize| arrived[at].map(|arrival| (at, arrival));
+    result(network, &labels, ends.filter_map(ended).collect())
 }
 
 #[cfg(test)]
@@ -478,8 +489,7 @@ mod tests {
     #[test]
     fn the_search_finds_what_the_list_has() {
         let mut random = Random::new(1);
-        let mut changed = 0;
-        let mut compared = 0;
+        let (mut changed, mut compared, mut marked) = (0, 0, 0);
         for _ in 0..400 {
             for timetable in
                 [changing(&mut random, &CHANGING), crowded(&mut random, &CROWDED), timetable(&mut random, &SMALL)]
@@ -487,10 +497,11 @@ mod tests {
                 if let Some(more) = compare(&timetable) {
                     changed += more;
                     compared += 1;
+                    marked += usize::from(timetable.is_marked());
                 }
             }
         }
-        assert!(compared > 900 && changed > 1_000, "{compared} compared, {changed} patterns with changes");
+        assert!(compared > 900 && changed > 1_000 && marked > 300, "{compared}, {changed}, {marked}");
     }
 
     #[test]

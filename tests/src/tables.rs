@@ -3,7 +3,7 @@
 use std::collections::BTreeMap;
 use std::ops::Range;
 
-use crate::lines;
+use crate::lines::{self, MARK_UNIT};
 use crate::reference;
 use crate::timetable::{Onward, Station, Stop, Timetable, STATIONS_MOST, TRIPS_MOST};
 use crate::words::take;
@@ -48,9 +48,10 @@ fn line_from_words(words: &[u16]) -> Option<Vec<(u16, Vec<Stop>)>> {
         let (arrivals, departures) = times[2 * trips * position..][..2 * trips].split_at(trips);
         let onward = |&penalty: &u16| Onward { depart: departures[place], penalty };
         Stop {
-            station: course[position][0],
+            station: course[position][0] % MARK_UNIT,
             arrive: (position > 0).then_some(arrivals[place]),
             onward: penalties.get(position).map(onward),
+            mark: course[position][0] / MARK_UNIT,
         }
     };
     let stops = |place: usize| (0..positions).map(|position| stop(place, position)).collect();

@@ -16,6 +16,12 @@ pub const CHANGE_PENALTY_MOST: u16 = 1_000;
 pub const LAST_MINUTE: u16 = 2_879;
 pub const RIDE_PENALTY_MOST: u16 = 100;
 
+/// The marks of a stop: "0 both, 1 boarding only, 2 setting down only".
+pub const BOTH: u16 = 0;
+pub const BOARDING_ONLY: u16 = 1;
+pub const SETTING_DOWN_ONLY: u16 = 2;
+pub const MARKS: [u16; 3] = [BOTH, BOARDING_ONLY, SETTING_DOWN_ONLY];
+
 #[derive(Clone, Debug, Default, PartialEq, Eq)]
 pub struct Timetable {
     /// Station 1 is the first.
@@ -37,6 +43,19 @@ pub struct Stop {
     pub arrive: Option<u16>,
     /// Empty where the trip ends.
     pub onward: Option<Onward>,
+    /// One of `MARKS`, also at a first and a last stop. In words that come from no text it may be any number.
+    pub mark: u16,
+}
+
+/// "No ride may use a stop against its mark."
+impl Stop {
+    pub fn may_board(&self) -> bool {
+        matches!(self.mark, BOTH | BOARDING_ONLY)
+    }
+
+    pub fn may_alight(&self) -> bool {
+        matches!(self.mark, BOTH | SETTING_DOWN_ONLY)
+    }
 }
 
 /// The ride to the next stop.
@@ -55,6 +74,11 @@ impl Timetable {
     /// How many stops its trips have in all.
     pub fn stops(&self) -> usize {
         self.trips.values().map(Vec::len).sum()
+    }
+
+    /// Whether a stop has a mark other than 0.
+    pub fn is_marked(&self) -> bool {
+        self.trips.values().flatten().any(|stop| stop.mark != BOTH)
     }
 
     /// The timetable's text, where its trips are 1, 2, 3.. It is the only one: a number and a time have one form, and
@@ -79,7 +103,7 @@ pub fn trip_text(trip: u32, stops: &[Stop]) -> String {
         let arrive = stop.arrive.map(clock).unwrap_or_default();
         let depart = stop.onward.map(|onward| clock(onward.depart)).unwrap_or_default();
         let penalty = stop.onward.map(|onward| onward.penalty.to_string()).unwrap_or_default();
-        format!("T,{trip},{number},{},{arrive},{depart},{penalty}\n", stop.station)
+        format!("T,{trip},{number},{},{arrive},{depart},{penalty},{}\n", stop.station, stop.mark)
     };
     (1..).zip(stops).map(line).collect()
 }

@@ -7,6 +7,10 @@ use crate::timetable::{Onward, Station, Stop, Timetable};
 
 /// What a lent timetable slice must have room for: question 8.
 pub const TIMETABLE_WORDS: usize = 16_384;
+/// The words of a stop: station, arrive, depart, ride penalty, mark.
+pub const STOP_WORDS: usize = 5;
+/// No timetable has more words than these, by docs/LAYOUT.md.
+pub const TIMETABLE_WORDS_MOST: usize = 10_884;
 
 pub fn to_words(timetable: &Timetable) -> Vec<u16> {
     let mut words = [timetable.stations.len(), timetable.trips.len(), timetable.stops()].map(word).to_vec();
@@ -15,7 +19,7 @@ pub fn to_words(timetable: &Timetable) -> Vec<u16> {
     }
     for stop in timetable.trips.values().flatten() {
         let (depart, penalty) = stop.onward.map_or((0, 0), |onward| (onward.depart, onward.penalty));
-        words.extend([stop.station, stop.arrive.unwrap_or(0), depart, penalty]);
+        words.extend([stop.station, stop.arrive.unwrap_or(0), depart, penalty, stop.mark]);
     }
     let mut first = 0;
     for trip in timetable.trips.values() {
@@ -43,7 +47,7 @@ pub fn timetable_of(words: &[u16]) -> Option<Timetable> {
 fn from_words(words: &[u16]) -> Option<Timetable> {
     let (&[stations, trips, stops], mut rest) = words.split_first_chunk()?;
     let stations = take(&mut rest, 2 * usize::from(stations))?;
-    let stops: Vec<&[u16]> = take(&mut rest, 4 * usize::from(stops))?.chunks(4).collect();
+    let stops: Vec<&[u16]> = take(&mut rest, STOP_WORDS * usize::from(stops))?.chunks(STOP_WORDS).collect();
     let firsts = take(&mut rest, usize::from(trips) + 1)?;
     let numbers = take(&mut rest, usize::from(trips))?;
     let trip = |ends: &[u16]| stops.get(usize::from(ends[0])..usize::from(ends[1])).map(trip_from_words);
@@ -67,6 +71,7 @@ fn trip_from_words(stops: &[&[u16]]) -> Vec<Stop> {
         station: words[0],
         arrive: (place > 0).then_some(words[1]),
         onward: (place + 1 < stops.len()).then_some(Onward { depart: words[2], penalty: words[3] }),
+        mark: words[4],
     };
     stops.iter().enumerate().map(stop).collect()
 }

@@ -67,7 +67,7 @@ fn text_lines(text: &str) -> Vec<Vec<u16>> {
 /// Trips from station 1 to 2, by departure and arrival.
 fn shuttles(times: &[(u16, u16)]) -> String {
     let trip = |(trip, &(depart, arrive)): (usize, &(u16, u16))| {
-        format!("T,{trip},1,1,,{},0\nT,{trip},2,2,{},,\n", clock(depart), clock(arrive))
+        format!("T,{trip},1,1,,{},0,0\nT,{trip},2,2,{},,,0\n", clock(depart), clock(arrive))
     };
     "S,1,0,1\nS,2,0,1\n".to_string() + &(1..).zip(times).map(trip).collect::<String>()
 }
@@ -75,7 +75,7 @@ fn shuttles(times: &[(u16, u16)]) -> String {
 /// Two trips over stations 1, 2, 1, each by the rest of its lines.
 fn two_trips(trips: [[&str; 3]; 2]) -> String {
     let trip = |(trip, rests): (usize, [&str; 3])| {
-        format!("T,{trip},1,1,{}\nT,{trip},2,2,{}\nT,{trip},3,1,{}\n", rests[0], rests[1], rests[2])
+        format!("T,{trip},1,1,{},0\nT,{trip},2,2,{},0\nT,{trip},3,1,{},0\n", rests[0], rests[1], rests[2])
     };
     "S,1,0,1\nS,2,0,1\n".to_string() + &(1..).zip(trips).map(trip).collect::<String>()
 }
@@ -162,7 +162,7 @@ fn each_penalty_and_station_counts() {
     {
         let trip = |trip: usize, way: [usize; 3]| {
             format!(
-                "T,{trip},1,{},,00:00,0\nT,{trip},2,{},00:01,00:01,0\nT,{trip},3,{},00:02,,\n",
+                "T,{trip},1,{},,00:00,0,0\nT,{trip},2,{},00:01,00:01,0,0\nT,{trip},3,{},00:02,,,0\n",
                 way[0], way[1], way[2]
             )
         };
@@ -174,8 +174,8 @@ fn each_penalty_and_station_counts() {
 
 #[test]
 fn a_trip_that_goes_on_is_on_another_line() {
-    let short = "T,1,1,1,,00:00,0\nT,1,2,2,00:01,,\n";
-    let long = "T,2,1,1,,00:00,0\nT,2,2,2,00:01,00:01,0\nT,2,3,1,00:02,,\n";
+    let short = "T,1,1,1,,00:00,0,0\nT,1,2,2,00:01,,,0\n";
+    let long = "T,2,1,1,,00:00,0,0\nT,2,2,2,00:01,00:01,0,0\nT,2,3,1,00:02,,,0\n";
     assert_eq!(text_lines(&format!("S,1,0,1\nS,2,0,1\n{short}{long}")), [[1], [2]]);
     let long = long.replace("T,2,", "T,1,");
     let short = short.replace("T,1,", "T,2,");
@@ -387,7 +387,7 @@ fn a_slice_too_short_gives_8_before_9() {
     const ENOUGH: usize = 16_384;
     for words in &whole {
         for words in [words.clone(), damaged(words.clone())] {
-            for short in [0, 1, 44, 56, 15_429, 16_383] {
+            for short in [0, 1, 51, 56, 15_429, 16_383] {
                 Host::new(16).expect_lines(&words[..short], 8, 0);
                 Host::lending_both(short, ENOUGH, 17).expect_lines(&words, 8, 0);
                 Host::lending_both(ENOUGH, short, 18).expect_lines(&words, 8, 0);
@@ -434,14 +434,14 @@ fn each_word_changed_gives_9_or_other_tables() {
     let table = lent_text(M);
     let edges =
         [0, 1, 2, 3, 4, 64, 65, 100, 101, 241, 256, 257, 502, 515, 2_049, 2_880, 16_383, 16_384, 0x8000, 0xffff];
-    for at in 0..44 {
+    for at in 0..51 {
         for value in edges.into_iter().chain([random.word(), table[at] ^ 1, table[at].wrapping_add(1)]) {
             let mut words = table.clone();
             words[at] = value;
             tally[host.build_lines(&words).number as usize] += 1;
         }
     }
-    assert!(tally[0] > 50 && tally[9] > 500 && tally[0] + tally[9] == 44 * 23, "by reply number: {tally:?}");
+    assert!(tally[0] > 50 && tally[9] > 500 && tally[0] + tally[9] == 51 * 23, "by reply number: {tally:?}");
 }
 
 #[test]

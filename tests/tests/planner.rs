@@ -16,7 +16,7 @@ use dairyepoch_tests::random::Random;
 use dairyepoch_tests::reference;
 use dairyepoch_tests::search::{patterns, whole, Network};
 use dairyepoch_tests::store::{self, Sequence, Store};
-use dairyepoch_tests::timetable::{clock, Stop, Timetable};
+use dairyepoch_tests::timetable::{clock, Stop, Timetable, MARKS};
 
 const PROGRAM: &str = concat!(env!("CARGO_MANIFEST_DIR"), "/../target/planner");
 /// A list of more connections is not looked through.
@@ -176,6 +176,7 @@ fn check_rides(timetable: &Timetable, query: Query, cost: (u32, u32), line: &[St
         let [trip, board, alight] = numbers[..] else { panic!("{ride} is no ride") };
         assert!(board < alight);
         let boarded = stop(timetable, trip, board);
+        assert!(boarded.may_board() && stop(timetable, trip, alight).may_alight());
         assert_eq!(&boarded.station.to_string(), &way[number]);
         assert!(u32::from(boarded.onward.expect("a departure").depart) >= ready);
         penalty += (board..alight)
@@ -198,7 +199,7 @@ fn each_sequence_has_a_reason() {
     let folder = Folder::new("reasons");
     let mut random = Random::new(2);
     let mut count = 0;
-    for _ in 0..40 {
+    for _ in 0..70 {
         let timetable = generated(&mut random);
         count += stations(&timetable).map(|source| check_reasons(&folder, &timetable, source)).sum::<usize>();
     }
@@ -332,16 +333,24 @@ fn mistakes_are_those_of_the_list() {
     assert!(tally.iter().all(|&count| count > 50), "pairs that lose a row: {tally:?}");
 }
 
-/// A timetable with one trip left out, or with one station quicker to change at.
+/// A timetable with one trip left out, with another mark at a stop, or with one station quicker to change at.
 fn varied(random: &mut Random, timetable: &Timetable) -> Timetable {
     let mut varied = timetable.clone();
-    if random.one_in(2) && !varied.trips.is_empty() {
-        varied.trips.remove(&(random.within(1..=timetable.trips.len()) as u16));
-        varied = Timetable::new(varied.stations, varied.trips.into_values());
-    } else {
-        let station = random.below(timetable.stations.len());
-        varied.stations[station].change_minutes = 0;
-        varied.stations[station].change_penalty = 1;
+    match random.below(4) {
+        0 | 1 if !varied.trips.is_empty() => {
+            varied.trips.remove(&(random.within(1..=timetable.trips.len()) as u16));
+            varied = Timetable::new(varied.stations, varied.trips.into_values());
+        }
+        2 if !varied.trips.is_empty() => {
+            let mut stops: Vec<&mut Stop> = varied.trips.values_mut().flatten().collect();
+            let at = random.below(stops.len());
+            stops[at].mark = random.pick(&MARKS);
+        }
+        _ => {
+            let station = random.below(timetable.stations.len());
+            varied.stations[station].change_minutes = 0;
+            varied.stations[station].change_penalty = 1;
+        }
     }
     varied
 }
@@ -395,7 +404,7 @@ fn differences_are_those_of_the_reference() {
     let folder = Folder::new("compare");
     let mut random = Random::new(6);
     let mut tally = [0; 3];
-    for _ in 0..200 {
+    for _ in 0..350 {
         let mut old = generated(&mut random);
         let mut new = varied(&mut random, &old);
         if random.one_in(2) {

@@ -418,7 +418,7 @@ fn reordered(random: &mut Random, store: &Store) -> Store {
 
 #[test]
 fn queries_from_reordered_stores() {
-    let met = all_queries_from(10, 150, |random, _, sequences| {
+    let met = all_queries_from(10, 250, |random, _, sequences| {
         let words = store::to_words(&sequences).expect("not too many");
         let store = Store::from_words(&words).expect("all its words");
         reordered(random, &store).to_words()

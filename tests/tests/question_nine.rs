@@ -2,11 +2,13 @@
 //! of words that were damaged.
 
 use dairyepoch_tests::ffi;
-use dairyepoch_tests::generate::{largest, long_lines, timetable, with_gaps, with_trips, Size, LARGE, MIDDLING, SMALL};
+use dairyepoch_tests::generate::{
+    largest, long_lines, marked, timetable, with_gaps, with_trips, Size, LARGE, MIDDLING, SMALL,
+};
 use dairyepoch_tests::host::{lent, Host};
 use dairyepoch_tests::random::Random;
-use dairyepoch_tests::timetable::{Onward, Station, Stop, Timetable};
-use dairyepoch_tests::words::{to_words, TIMETABLE_WORDS};
+use dairyepoch_tests::timetable::{Onward, Station, Stop, Timetable, BOTH};
+use dairyepoch_tests::words::{to_words, STOP_WORDS, TIMETABLE_WORDS, TIMETABLE_WORDS_MOST};
 
 /// A timetable of the fewest words that have every kind of stop: a first, a middle and a last one.
 fn smallest_whole() -> Timetable {
@@ -64,6 +66,12 @@ fn words_of_the_largest_texts_have_a_yes() {
     for timetable in (0..50).map(|_| largest(&mut random)).chain([long_lines()]).collect::<Vec<_>>() {
         assert_eq!(host.check_timetable(&lent(to_words(&timetable), &mut random)), 0);
     }
+}
+
+#[test]
+fn the_largest_timetable_has_10884_words() {
+    assert_eq!(to_words(&long_lines()).len(), TIMETABLE_WORDS_MOST);
+    assert_eq!(TIMETABLE_WORDS_MOST, 10_884);
 }
 
 #[test]
@@ -158,7 +166,7 @@ fn a_slice_below_16384_words_gives_8_before_9() {
     let mut random = Random::new(6);
     let whole = lent(to_words(&smallest_whole()), &mut random);
     let zeros = vec![0; TIMETABLE_WORDS];
-    for length in [0, 1, 2, 3, 31, 32, 8_836, 16_382, 16_383] {
+    for length in [0, 1, 2, 3, 36, 37, 10_884, 16_382, 16_383] {
         assert_eq!(host.check_timetable(&whole[..length]), 8);
         assert_eq!(host.check_timetable(&zeros[..length]), 8);
     }
@@ -289,21 +297,81 @@ fn every_filling(host: &mut Host, start: &[u16], values: &[u16], free: usize, en
 
 #[test]
 fn every_trip_of_two_stops_over_small_values() {
-    let tally = every_filling(&mut Host::new(23), &[2, 1, 2, 0, 1, 0, 1], &[0, 1, 2, 3], 8, &[0, 2, 1]);
-    // two orders of the stations; 0 < 1, 2, 3 and 1 < 2, 3 and 2 < 3; four ride penalties
-    assert_eq!(tally[0], 2 * 6 * 4);
+    let tally = every_filling(&mut Host::new(23), &[2, 1, 2, 0, 1, 0, 1], &[0, 1, 2, 3], 9, &[2, 0, 2, 1]);
+    // two orders of the stations; 0 < 1, 2, 3 and 1 < 2, 3 and 2 < 3; four ride penalties; three marks
+    assert_eq!(tally[0], 2 * 6 * 4 * 3);
 }
 
 #[test]
 fn every_trip_of_three_stops_over_small_values() {
-    let tally = every_filling(&mut Host::new(24), &[2, 1, 3, 0, 1, 0, 1], &[0, 1, 2], 11, &[0, 0, 3, 1]);
-    // stations 1, 2, 1 or 2, 1, 2; minutes 0, 1, 1, 2; three ride penalties twice
-    assert_eq!(tally[0], 2 * 9);
+    let tally = every_filling(&mut Host::new(24), &[2, 1, 3, 0, 1, 0, 1], &[0, 1, 2], 11, &[2, 0, 0, 1, 0, 3, 1]);
+    // stations 1, 2, 1 or 2, 1, 2; minutes 0, 1, 1, 2; three ride penalties twice; three marks twice
+    assert_eq!(tally[0], 2 * 9 * 9);
+}
+
+/// Where the mark of a stop stands in the words of a timetable; stops count from 0, over all trips.
+fn mark_at(table: &[u16], stop: usize) -> usize {
+    3 + 2 * usize::from(table[0]) + STOP_WORDS * stop + 4
+}
+
+#[test]
+fn every_value_in_each_mark() {
+    let mut host = Host::new(39);
+    let mut random = Random::new(40);
+    let unmarked = smallest_whole();
+    for timetable in [marked(&mut random, &unmarked), unmarked] {
+        let table = to_words(&timetable);
+        let mut words = lent(table.clone(), &mut random);
+        for stop in 0..timetable.stops() {
+            let at = mark_at(&table, stop);
+            for value in (0..=300).chain((301..=u16::MAX).step_by(61)).chain(edges()) {
+                words[at] = value;
+                assert_eq!(host.check_timetable(&words), if value <= 2 { 0 } else { 9 }, "mark {value} of stop {stop}");
+            }
+            words[at] = table[at];
+        }
+    }
+}
+
+#[test]
+fn marks_above_2_at_the_limits_have_a_no() {
+    let mut host = Host::new(41);
+    let mut random = Random::new(42);
+    for unmarked in [long_lines(), largest(&mut random), with_trips(&mut random, 64, &[2_048])] {
+        let table = to_words(&marked(&mut random, &unmarked));
+        let mut words = lent(table.clone(), &mut random);
+        assert_eq!(host.check_timetable(&words), 0);
+        for stop in [0, 1, 7, 8, 1_023, 2_046, 2_047] {
+            let at = mark_at(&table, stop);
+            for (value, number) in [(0, 0), (1, 0), (2, 0), (3, 9), (4, 9), (128, 9), (256, 9), (65_535, 9)] {
+                words[at] = value;
+                assert_eq!(host.check_timetable(&words), number, "mark {value} of stop {stop}");
+            }
+            words[at] = table[at];
+        }
+    }
+}
+
+/// The words of M before stops had marks: four for each stop.
+#[rustfmt::skip]
+const FORMER_M: [u16; 44] = [
+    3, 3, 7,
+    2, 10,  3, 10,  5, 10,
+    1, 0, 480, 0,  2, 500, 501, 0,  3, 560, 0, 0,
+    2, 0, 503, 0,  3, 520, 0, 0,
+    2, 0, 502, 0,  3, 515, 0, 0,
+    0, 3, 5, 7,
+    1, 2, 3,
+];
+
+#[test]
+fn words_without_marks_have_a_no() {
+    assert_eq!(Host::new(43).check_timetable(&lent(FORMER_M.to_vec(), &mut Random::new(44))), 9);
 }
 
 #[test]
 fn every_place_of_first_stops_over_small_values() {
-    let stop = |station, arrive, depart| [station, arrive, depart, 0];
+    let stop = |station, arrive, depart| [station, arrive, depart, 0, 0];
     let trip = [stop(1, 0, 5), stop(2, 6, 0)].concat();
     let start = [&[2, 2, 4, 0, 1, 0, 1][..], &trip, &trip].concat();
     let tally = every_filling(&mut Host::new(25), &start, &[0, 1, 2, 3, 4, 5, 8, 65_535], 3, &[1, 2]);
@@ -326,6 +394,7 @@ fn trip_of(stops: usize) -> Vec<Stop> {
         station: (place % 2 + 1) as u16,
         arrive: (place > 0).then_some(place as u16),
         onward: (place + 1 < stops).then_some(Onward { depart: place as u16, penalty: 0 }),
+        mark: BOTH,
     };
     (0..stops).map(stop).collect()
 }

@@ -5,8 +5,8 @@
 use dairyepoch_tests::examples::M;
 use dairyepoch_tests::ffi::{self, Reply};
 use dairyepoch_tests::generate::{
-    crowded, every_trip, largest, long_lines, one_way, overtaking, timetable, with_gaps, with_shared_ways, with_trips,
-    Size, CROWDED, LARGE, MIDDLING, SMALL,
+    crowded, every_marking, every_trip, largest, long_lines, one_way, overtaking, timetable, with_gaps,
+    with_shared_ways, with_trips, Size, CROWDED, LARGE, MIDDLING, SMALL,
 };
 use dairyepoch_tests::host::{lent, Host};
 use dairyepoch_tests::lent::{damaged, Lent};
@@ -431,11 +431,12 @@ fn tables_of_almost_the_same_timetable() {
         let Some(stops) = other.trips.get_mut(&random.pick(&numbers)) else { continue };
         let place = random.below(stops.len());
         let stop = &mut stops[place];
-        match (random.below(4), &mut stop.arrive, &mut stop.onward) {
+        match (random.below(5), &mut stop.arrive, &mut stop.onward) {
             (0, Some(arrive), _) => *arrive = (*arrive + 1).min(LAST_MINUTE),
             (1, _, Some(onward)) => onward.depart = onward.depart.saturating_sub(1),
             (2, _, Some(onward)) => onward.penalty += 1,
             (3, ..) => stop.station = random.within(1..=other.stations.len()) as u16,
+            (4, ..) => stop.mark = random.below(4) as u16,
             _ => drop(other.trips.pop_last()),
         }
         let words = lent(to_words(&other), &mut random);
@@ -541,7 +542,8 @@ fn other_numbers_in_the_tables() {
 #[test]
 fn numbers_of_trips_that_leave_together() {
     let mut host = Host::new(57);
-    let together = accepted("S,1,0,1\nS,2,0,1\nT,1,1,1,,00:10,0\nT,1,2,2,00:20,,\nT,2,1,1,,00:10,0\nT,2,2,2,00:20,,\n");
+    let trips = [1, 2].map(|trip| format!("T,{trip},1,1,,00:10,0,0\nT,{trip},2,2,00:20,,,0\n")).concat();
+    let together = accepted(&format!("S,1,0,1\nS,2,0,1\n{trips}"));
     let Lent { timetable: words, lines: mut tables } = Lent::new(&together, &mut Random::new(58));
     for (numbers, number) in [([1, 2], 0), ([2, 1], 10), ([1, 9_999], 0), ([9_999, 1], 10), ([7, 7], 10), ([6, 7], 0)] {
         tables[7..9].copy_from_slice(&numbers);
@@ -628,8 +630,13 @@ fn every_two_tiny_timetables() {
     let mut random = Random::new(44);
     let one_trip = [every_trip(3, 2, 2), every_trip(2, 3, 3)].concat();
     let shuttles = every_trip(2, 2, 2);
+    let marked_trips: Vec<Vec<Vec<Stop>>> = (shuttles[..6].iter())
+        .flat_map(|trip| every_marking(&Timetable::new(Vec::new(), [trip.clone()])).collect::<Vec<_>>())
+        .map(|marked| marked.trips.into_values().collect())
+        .collect();
     let two_trips = shuttles.iter().flat_map(|one| shuttles.iter().map(move |other| vec![one.clone(), other.clone()]));
-    for family in [one_trip.into_iter().map(|trip| vec![trip]).collect::<Vec<_>>(), two_trips.collect()] {
+    let one_trip: Vec<Vec<Vec<Stop>>> = one_trip.into_iter().map(|trip| vec![trip]).collect();
+    for family in [one_trip, two_trips.collect(), marked_trips] {
         let timetable =
             |trips: Vec<Vec<Stop>>| Timetable::new(vec![Station { change_minutes: 3, change_penalty: 2 }; 3], trips);
         let lent: Vec<_> = family.into_iter().map(|trips| Lent::new(&timetable(trips), &mut random)).collect();

@@ -10,7 +10,9 @@ use dairyepoch_tests::lines::{LINE_WORDS, WORK_WORDS};
 use dairyepoch_tests::random::Random;
 use dairyepoch_tests::stack::touched;
 use dairyepoch_tests::store::STORE_WORDS_MOST;
-use dairyepoch_tests::timetable::{trip_text, Onward, Station, Stop, Timetable, CHANGE_PENALTY_LEAST, STATIONS_MOST};
+use dairyepoch_tests::timetable::{
+    trip_text, Onward, Station, Stop, Timetable, BOTH, CHANGE_PENALTY_LEAST, STATIONS_MOST,
+};
 use dairyepoch_tests::words::TIMETABLE_WORDS;
 
 const CALLS: [&str; 13] = [
@@ -78,8 +80,8 @@ fn chain_with_a_tie() -> Timetable {
 
 /// A trip of two stops, which leaves and arrives at the minutes that its stations number.
 fn hop(from: u16, to: u16, penalty: u16) -> Vec<Stop> {
-    let board = Stop { station: from, arrive: None, onward: Some(Onward { depart: from, penalty }) };
-    vec![board, Stop { station: to, arrive: Some(to), onward: None }]
+    let board = Stop { station: from, arrive: None, onward: Some(Onward { depart: from, penalty }), mark: BOTH };
+    vec![board, Stop { station: to, arrive: Some(to), onward: None, mark: BOTH }]
 }
 
 /// Local arrays are the same for all timetables; how deep calls go is not: where one reads a sequence of stations from

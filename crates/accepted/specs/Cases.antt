@@ -1,6 +1,6 @@
 -- Case k and timetable M of document 01, its "run only" cases of reading, and the edges of times, by computation. "M
--- and the cases are rewritten in it, with 47:59 and 48:00 for 2,879 and 2,880." At the end stand cases of document 02,
--- Eleven: cancelled and extra trips. For a reader.
+-- and the cases are rewritten in it, with 47:59 and 48:00 for 2,879 and 2,880." "M's T lines each gain a 0, and its
+-- cases stay." Then come marks, and at the end cases of document 02, Eleven: cancelled and extra trips. For a reader.
 use mathlib.Core.Path.{_≡_, refl}
 use mathlib.Core.List.{List, [], _∷_, _++_}
 use Prim.Native.Nat.{ℕ, zero, suc, _+_}
@@ -11,11 +11,13 @@ use Rattle.text.specs.Number.{digitValue, decimal, fieldValue}
 use Rattle.text.specs.Time.{pairValue, isTime, minuteOf, timeValue}
 use Rattle.text.specs.Piece.{pieces}
 use Rattle.text.specs.Range.{inRange}
-use Rattle.text.specs.Shape.{stationOf, stationShape, arriveFits, departFits, filled, stopOf, stopShape, shapeBy}
+use Rattle.text.specs.Shape.{stationOf, stationShape, arriveFits, departFits, filled, stopFits as stopFitsShape, stopOf}
+use Rattle.text.specs.Shape.{stopShape, shapeBy}
 use Rattle.timetable.specs.Worked.{station, stop, variant, M}
 use Rattle.timetable.specs.Words.{stationWords, stopWords, startWords, words}
 use Rattle.timetable.specs.Changes.{placeOf, cancelled, added}
-use Rattle.reading.specs.Draft.{stationNumber, comesAfter, stopFits, stopNumber, extraStation, extraStop}
+use Rattle.reading.specs.Draft.{stationNumber, stopInRange, comesAfter, stopFits, stopNumber}
+use Rattle.reading.specs.Draft.{extraStation, extraStop}
 use Rattle.reading.specs.Reading.{Outcome, Accepted, Refused, ended, readUnder, readLines, reading}
 use Rattle.reading.specs.Reading.{readExtra}
 use Rattle.accepted.specs.Marks.{lined, fielded}
@@ -44,6 +46,7 @@ unfolding
     stationOf
     stopShape
     stopOf
+    stopFitsShape
     arriveFits
     departFits
     filled
@@ -56,6 +59,7 @@ unfolding
     digitValue
     stationNumber
     stopNumber
+    stopInRange
     stopFits
     comesAfter
     inRange
@@ -70,9 +74,9 @@ case-k = refl
 unfoldable pub textM : List ℕ
 textM =
     bytes "S,1,2,10\nS,2,3,10\nS,3,5,10\n"
-    ++ bytes "T,1,1,1,,08:00,0\nT,1,2,2,08:20,08:21,0\nT,1,3,3,09:20,,\n"
-    ++ bytes "T,2,1,2,,08:23,0\nT,2,2,3,08:40,,\n"
-    ++ bytes "T,3,1,2,,08:22,0\nT,3,2,3,08:35,,\n"
+    ++ bytes "T,1,1,1,,08:00,0,0\nT,1,2,2,08:20,08:21,0,0\nT,1,3,3,09:20,,,0\n"
+    ++ bytes "T,2,1,2,,08:23,0,0\nT,2,2,3,08:40,,,0\n"
+    ++ bytes "T,3,1,2,,08:22,0,0\nT,3,2,3,08:35,,,0\n"
 
 pub M-accepted : reading textM ≡ Accepted M 10
 unfolding readAll bytes textM M variant
@@ -83,9 +87,9 @@ M-accepted = refl
 pub M-words : words M
     ≡ (3 ∷ 3 ∷ 7 ∷ [])
     ++ (2 ∷ 10 ∷ 3 ∷ 10 ∷ 5 ∷ 10 ∷ [])
-    ++ (1 ∷ 0 ∷ 480 ∷ 0 ∷ 2 ∷ 500 ∷ 501 ∷ 0 ∷ 3 ∷ 560 ∷ 0 ∷ 0 ∷ [])
-    ++ (2 ∷ 0 ∷ 503 ∷ 0 ∷ 3 ∷ 520 ∷ 0 ∷ 0 ∷ [])
-    ++ (2 ∷ 0 ∷ 502 ∷ 0 ∷ 3 ∷ 515 ∷ 0 ∷ 0 ∷ [])
+    ++ (1 ∷ 0 ∷ 480 ∷ 0 ∷ 0 ∷ 2 ∷ 500 ∷ 501 ∷ 0 ∷ 0 ∷ 3 ∷ 560 ∷ 0 ∷ 0 ∷ 0 ∷ [])
+    ++ (2 ∷ 0 ∷ 503 ∷ 0 ∷ 0 ∷ 3 ∷ 520 ∷ 0 ∷ 0 ∷ 0 ∷ [])
+    ++ (2 ∷ 0 ∷ 502 ∷ 0 ∷ 0 ∷ 3 ∷ 515 ∷ 0 ∷ 0 ∷ 0 ∷ [])
     ++ (0 ∷ 3 ∷ 5 ∷ 7 ∷ [])
     ++ (1 ∷ 2 ∷ 3 ∷ [])
 unfolding words stationWords stopWords startWords M variant
@@ -94,7 +98,7 @@ M-words = refl
 -- ---- "Run only": time 2,879 passes, 2,880 gives 3
 -- a text whose fourth line is the last stop of a trip, with the arrival given
 unfoldable pub arrivingAt : String → List ℕ
-arrivingAt arrive = bytes "S,1,2,10\nS,2,3,10\nT,1,1,1,,08:00,0\nT,1,2,2," ++ bytes arrive ++ bytes ",,\n"
+arrivingAt arrive = bytes "S,1,2,10\nS,2,3,10\nT,1,1,1,,08:00,0,0\nT,1,2,2," ++ bytes arrive ++ bytes ",,,0\n"
 
 pub last-minute-passes : reading (arrivingAt "47:59")
     ≡ Accepted (record {
@@ -142,12 +146,38 @@ pub station-past-count : reading (lined (stationLines 1 (replicate 65 (station 2
 unfolding readAll lined fielded stationLines stationLine digits
 station-past-count = refl
 
+-- ---- marks: "0 both, 1 boarding only, 2 setting down only, any other number 3"
+-- a text whose third line is the first stop of a trip, with the end of the line given
+unfoldable pub ending : String → List ℕ
+ending end = bytes "S,1,2,10\nS,2,3,10\nT,1,1,1,,08:00,0" ++ bytes end ++ bytes "\nT,1,2,2,08:20,,,0\n"
+
+pub boarding-only : reading (ending ",1")
+    ≡ Accepted (record {
+      stations = station 2 10 ∷ station 3 10 ∷ [];
+      numbers = 1 ∷ [];
+      trips = (record { station = 1; arrive = 0; depart = 480; points = 0; mark = 1 } ∷ stop 2 500 0 0 ∷ []) ∷ [];
+    }) 4
+unfolding readAll bytes ending
+boarding-only = refl
+
+pub mark-past-range : (reading (ending ",3") ≡ Refused 3 3) × (reading (ending ",9999") ≡ Refused 3 3)
+unfolding readAll bytes ending
+mark-past-range = (refl, refl)
+
+-- "Old seven-field lines give 2", and so does a mark that is no number
+pub no-mark : (reading (ending "") ≡ Refused 2 3)
+    × (reading (ending ",") ≡ Refused 2 3)
+    × (reading (ending ",00") ≡ Refused 2 3)
+    × (reading (ending ",0,0") ≡ Refused 2 3)
+unfolding readAll bytes ending
+no-mark = (refl, refl, refl, refl)
+
 -- ---- cancelled and extra trips: "Trip numbers may have gaps"
 pub two-cancelled : words (cancelled M 2)
     ≡ (3 ∷ 2 ∷ 5 ∷ [])
     ++ (2 ∷ 10 ∷ 3 ∷ 10 ∷ 5 ∷ 10 ∷ [])
-    ++ (1 ∷ 0 ∷ 480 ∷ 0 ∷ 2 ∷ 500 ∷ 501 ∷ 0 ∷ 3 ∷ 560 ∷ 0 ∷ 0 ∷ [])
-    ++ (2 ∷ 0 ∷ 502 ∷ 0 ∷ 3 ∷ 515 ∷ 0 ∷ 0 ∷ [])
+    ++ (1 ∷ 0 ∷ 480 ∷ 0 ∷ 0 ∷ 2 ∷ 500 ∷ 501 ∷ 0 ∷ 0 ∷ 3 ∷ 560 ∷ 0 ∷ 0 ∷ 0 ∷ [])
+    ++ (2 ∷ 0 ∷ 502 ∷ 0 ∷ 0 ∷ 3 ∷ 515 ∷ 0 ∷ 0 ∷ 0 ∷ [])
     ++ (0 ∷ 3 ∷ 5 ∷ [])
     ++ (1 ∷ 3 ∷ [])
 unfolding words stationWords stopWords startWords cancelled placeOf M variant
@@ -158,7 +188,7 @@ pub two-added : added (cancelled M 2) 2 (getD (M .trips) 1 []) ≡ M
 unfolding cancelled added placeOf M variant
 two-added = refl
 
-pub extra-accepted : readExtra M 9999 (bytes "T,9999,1,1,,08:05,0\nT,9999,2,3,08:45,,\n")
+pub extra-accepted : readExtra M 9999 (bytes "T,9999,1,1,,08:05,0,0\nT,9999,2,3,08:45,,,0\n")
     ≡ Accepted (record {
       stations = M .stations;
       numbers = 9999 ∷ [];
@@ -168,16 +198,16 @@ unfolding readAll readExtra extraStop bytes M variant
 extra-accepted = refl
 
 -- "(0 in a line gives 3). A line of another number gives 4, no line at all 7"
-pub extra-refused : (readExtra M 0 (bytes "T,0,1,1,,08:05,0\n") ≡ Refused 3 1)
-    × (readExtra M 7 (bytes "T,8,1,1,,08:05,0\n") ≡ Refused 4 1)
+pub extra-refused : (readExtra M 0 (bytes "T,0,1,1,,08:05,0,0\n") ≡ Refused 3 1)
+    × (readExtra M 7 (bytes "T,8,1,1,,08:05,0,0\n") ≡ Refused 4 1)
     × (readExtra M 7 [] ≡ Refused 7 1)
 unfolding readAll readExtra extraStop bytes M variant
 extra-refused = (refl, refl, refl)
 
 -- a station, a line after the trip's end, a trip that has not ended, a number of five digits
 pub extra-misplaced : (readExtra M 7 (bytes "S,4,2,10\n") ≡ Refused 4 1)
-    × (readExtra M 7 (bytes "T,7,1,1,,08:05,0\nT,7,2,3,08:45,,\nT,7,1,1,,08:05,0\n") ≡ Refused 4 3)
-    × (readExtra M 7 (bytes "T,7,1,1,,08:05,0\n") ≡ Refused 7 2)
-    × (readExtra M 10000 (bytes "T,10000,1,1,,08:05,0\n") ≡ Refused 2 1)
+    × (readExtra M 7 (bytes "T,7,1,1,,08:05,0,0\nT,7,2,3,08:45,,,0\nT,7,1,1,,08:05,0,0\n") ≡ Refused 4 3)
+    × (readExtra M 7 (bytes "T,7,1,1,,08:05,0,0\n") ≡ Refused 7 2)
+    × (readExtra M 10000 (bytes "T,10000,1,1,,08:05,0,0\n") ≡ Refused 2 1)
 unfolding readAll readExtra extraStop extraStation bytes M variant
 extra-misplaced = (refl, refl, refl, refl)

@@ -12,9 +12,9 @@ use Rattle.accepted.specs.Valid.{is-valid}
 
 -- the words of so many stations, trips and stops
 abbrev pub wordsCount : (stations trips stops : ℕ) → ℕ
-wordsCount stations trips stops = 3 + 2 * stations + 4 * stops + suc trips + trips
+wordsCount stations trips stops = 3 + 2 * stations + 5 * stops + suc trips + trips
 
--- 8,836
+-- 10,884
 abbrev pub wordsMost : ℕ
 wordsMost = wordsCount stationsMost tripsMost stopsMost
 

@@ -10,8 +10,8 @@ use native.Mathlib.Omega.{arith}
 use borrow.Author.Tests.{le-leb, eqb-true, ne-eqb}
 use Rattle.text.specs.Number.{fieldValue, emptyField}
 use Rattle.text.specs.Time.{timeValue}
-use Rattle.text.specs.Shape.{stationOf, stationShape, arriveFits, departFits, filled, stopOf, stopShape, shapeBy}
-use Rattle.text.specs.Shape.{shapeOf}
+use Rattle.text.specs.Shape.{stationOf, stationShape, arriveFits, departFits, filled, stopFits, stopOf}
+use Rattle.text.specs.Shape.{stopShape, shapeBy, shapeOf}
 use Rattle.text.specs.declared.Line.{Line}
 use Rattle.text.specs.declared.Line.the-variants.{Station as StationIn, Stop as StopIn}
 use Rattle.timetable.specs.Timetable.{stationsMost, stopsMost, numberMost, lastMinute, Station, Stop}
@@ -35,6 +35,7 @@ stopRead trip k s last =
       arrive = s .arrive;
       depart = s .depart;
       points = s .points;
+      mark = s .mark;
       last = last;
     })
 
@@ -147,10 +148,11 @@ module _ (trip k : ℕ) (s : Stop) (last : Bool) (w : Writable trip k s last) wh
         field-above (eqb k 1) (clock (s .arrive)) (clock-above (s .arrive) (omega arith)),
         field-above last (clock (s .depart)) (clock-above (s .depart) (omega arith)),
         field-above last (digits (s .points)) (digits-above (s .points) (omega arith)),
+        digits-above (s .mark) (omega arith),
       )
 
   pub stop-shape : shapeOf (stopLine trip k s last) ≡ stopRead trip k s last
-  unfolding shapeBy stopLine stopShape stopOf
+  unfolding shapeBy stopLine stopShape stopOf stopFits
   stop-shape =
       rw (pieces-fielded _ _ (all-free 44 _ stop-fields))
       (simp (
@@ -160,9 +162,11 @@ module _ (trip k : ℕ) (s : Stop) (last : Bool) (w : Writable trip k s last) wh
         time-value (eqb k 1) (s .arrive) (omega arith),
         time-value last (s .depart) (omega arith),
         field-value last (s .points) (omega arith),
+        digits-value (s .mark) (omega arith),
         le-leb trip 9999 (omega arith),
         le-leb k 9999 (omega arith),
         le-leb (s .station) 9999 (omega arith),
+        le-leb (s .mark) 9999 (omega arith),
         arrive-fits k (s .arrive) (omega arith),
         depart-fits k (s .depart) (s .points) last (omega arith) (omega arith) (w .inner),
         filled-back (eqb k 1) (s .arrive) (omega arith) (λ e. w .first (eqb-true k 1 e)),

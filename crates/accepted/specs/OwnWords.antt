@@ -20,6 +20,7 @@ use Rattle.timetable.specs.Words.{stationWords, stopWords, startWords, words, s
 use Rattle.timetable.specs.Words.{stopCount, stationAt, stopPlace, stopAt, startAt, tripAt, numberAt, timetableOf}
 use Rattle.timetable.specs.Words.{rise, chained, isTimetable}
 use Rattle.timetable.specs.Check.{rise-most}
+use Rattle.timetable.specs.Parts.{stops-back}
 use Rattle.timetable.specs.Access.{spelled-valid, is-chained}
 use Rattle.accepted.specs.Valid.{is-valid}
 use Rattle.accepted.specs.Fits.{wordsCount, wordsMost}
@@ -67,29 +68,6 @@ module _ (w : List ℕ) where
       let place : at + 1 + 1 ≡ 3 + 2 * suc k = omega arith in
       rw (count, take-one w at (suc (2 * n)) (omega arith), take-one w (at + 1) (2 * n) (omega arith), place)
       (ap (λ r. getD w at 0 ∷ getD w (at + 1) 0 ∷ r) (stations-back (suc k) n (omega arith)))
-
-  stops-back : (k n : ℕ) → stopPlace w (k + n) ≤ length w
-      → stopWords (map (stopAt w) (range k n)) ≡ take (4 * n) (drop (stopPlace w k) w)
-  unfolding stopWords stopAt
-  stops-back k zero h = refl
-  stops-back k (suc n) h =
-      let at = stopPlace w k in
-      let count : 4 * suc n ≡ suc (suc (suc (suc (4 * n)))) = omega arith in
-      let two : at + 1 + 1 ≡ at + 2 = omega arith in
-      let three : at + 2 + 1 ≡ at + 3 = omega arith in
-      let place : at + 3 + 1 ≡ stopPlace w (suc k) = omega arith in
-      rw (
-        count,
-        take-one w at (suc (suc (suc (4 * n)))) (omega arith),
-        take-one w (at + 1) (suc (suc (4 * n))) (omega arith),
-        two,
-        take-one w (at + 2) (suc (4 * n)) (omega arith),
-        three,
-        take-one w (at + 3) (4 * n) (omega arith),
-        place,
-      )
-      (ap (λ r. getD w at 0 ∷ getD w (at + 1) 0 ∷ getD w (at + 2) 0 ∷ getD w (at + 3) 0 ∷ r)
-      (stops-back (suc k) n (omega arith)))
 
   -- ---- trips that follow one another, from trip j on, n of them
   trip-between : (j : ℕ)
@@ -199,23 +177,23 @@ module _ (w : List ℕ) (c : chained w ≡ true) where
     station-part = stations-back w 0 (stationCount w) (omega arith)
 
     stop-part : stopWords (stopsOf (timetableOf w .trips))
-        ≡ take (4 * stopCount w) (drop (3 + 2 * stationCount w) w)
+        ≡ take (5 * stopCount w) (drop (3 + 2 * stationCount w) w)
     stop-part =
         let place : stopPlace w 0 ≡ 3 + 2 * stationCount w = omega arith in
         rw (all-stops, ← place) (stops-back w 0 (stopCount w) (omega arith))
 
     start-part : startWords 0 (timetableOf w .trips)
-        ≡ take (suc (tripCount w)) (drop (3 + 2 * stationCount w + 4 * stopCount w) w)
+        ≡ take (suc (tripCount w)) (drop (3 + 2 * stationCount w + 5 * stopCount w) w)
     unfolding timetableOf
     start-part =
         let starts = starts-chained w 0 (tripCount w) rises (omega arith) in
         rw (first-start, add-zero) at starts
 
     number-part : timetableOf w .numbers
-        ≡ take (tripCount w) (drop (3 + 2 * stationCount w + 4 * stopCount w + suc (tripCount w)) w)
+        ≡ take (tripCount w) (drop (3 + 2 * stationCount w + 5 * stopCount w + suc (tripCount w)) w)
     unfolding timetableOf
     number-part =
-        let place : numbersPlace w + 0 ≡ 3 + 2 * stationCount w + 4 * stopCount w + suc (tripCount w) = omega arith in
+        let place : numbersPlace w + 0 ≡ 3 + 2 * stationCount w + 5 * stopCount w + suc (tripCount w) = omega arith in
         rw (← place) (numbers-back w 0 (tripCount w) (omega arith))
 
     pub own-words : words (timetableOf w) ≡ take (wordsCount (stationCount w) (tripCount w) (stopCount w)) w
@@ -229,7 +207,7 @@ module _ (w : List ℕ) (c : chained w ≡ true) where
           stop-part,
           start-part,
           number-part,
-          take-parts w 3 (2 * stationCount w) (4 * stopCount w) (suc (tripCount w)) (tripCount w),
+          take-parts w 3 (2 * stationCount w) (5 * stopCount w) (suc (tripCount w)) (tripCount w),
           take-three w (omega arith),
         )
 

@@ -13,7 +13,7 @@ use Rattle.text.specs.declared.StationLine.{StationLine}
 use Rattle.text.specs.declared.StopLine.{StopLine}
 use Rattle.timetable.specs.Timetable.{lastMinute, stationsMost, tripsMost, stopsMost}
 use Rattle.reading.specs.Draft.{Draft, Rules, textRules, withLine}
-use Rattle.reading.specs.Draft.{extraStation}
+use Rattle.reading.specs.Draft.{stopInRange, extraStation}
 use Rattle.reading.specs.Progress.{progress, stationNumberAt, stopFitsAt, stopNumberAt, extraStopAt, lineNumberAt}
 use Rattle.reading.specs.Progress.{same-number}
 use Rattle.reading.specs.Reading.{Refused, readUnder}
@@ -33,6 +33,7 @@ pub record StopPasses (r : Rules) (p : Progress) (l : StopLine) : Type 0 where
   pub arrive : l .arrive ≤ lastMinute
   pub depart : l .depart ≤ lastMinute
   pub points : l .points ≤ 100
+  pub mark : l .mark ≤ 2
   pub stop : l .stop ≡ p .begun + 1
   pub trips : r .trips + p .trips < tripsMost
   pub stops : r .stops + p .stops < stopsMost
@@ -82,7 +83,7 @@ station-refused l e = let no : false ≡ true = search (later-yes 2, this-yes 3)
 -- ---- a stop line
 module _ (p : Progress) (l : StopLine) where
   pub stop-passed : stopNumberAt p l ≡ 0 → StopPasses textRules p l
-  unfolding stopNumberAt inRange
+  unfolding stopNumberAt stopInRange inRange
   stop-passed e =
       let room : ltb (p .trips) tripsMost && ltb (p .stops) stopsMost ≡ true =
       search (later-yes 2, later-yes 3, this-yes 4) in
@@ -91,7 +92,8 @@ module _ (p : Progress) (l : StopLine) where
       record {
         arrive = search (this-yes 2, and-left, and-right, leb-true);
         depart = search (this-yes 2, and-left, and-right, leb-true);
-        points = search (this-yes 2, and-right, leb-true);
+        points = search (this-yes 2, and-left, and-right, leb-true);
+        mark = search (this-yes 2, and-right, leb-true);
         stop = search (later-yes 2, this-yes 3, and-right, eqb-true);
         trips = omega arith;
         stops = omega arith;
@@ -101,7 +103,7 @@ module _ (p : Progress) (l : StopLine) where
 -- ---- a stop line of an extra trip
 module _ (r : Rules) (p : Progress) (l : StopLine) where
   pub extra-passes : ExtraPasses r p l → extraStopAt r p l ≡ 0
-  unfolding extraStopAt inRange
+  unfolding extraStopAt stopInRange inRange
   extra-passes h =
       let s = h .passes in
       simp (
@@ -110,6 +112,7 @@ module _ (r : Rules) (p : Progress) (l : StopLine) where
         le-leb (l .arrive) lastMinute (s .arrive),
         le-leb (l .depart) lastMinute (s .depart),
         le-leb (l .points) 100 (s .points),
+        le-leb (l .mark) 2 (s .mark),
         eq-eqb (l .trip) (r .number) (h .trip),
         eq-eqb (p .trips) 0 (h .alone),
         eq-eqb (l .stop) (p .begun + 1) (s .stop),
@@ -119,7 +122,7 @@ module _ (r : Rules) (p : Progress) (l : StopLine) where
       )
 
   pub extra-passed : extraStopAt r p l ≡ 0 → ExtraPasses r p l
-  unfolding extraStopAt inRange
+  unfolding extraStopAt stopInRange inRange
   extra-passed e =
       search (
         this-yes 2,

@@ -7,8 +7,9 @@ use Prim.Native.Nat.{ℕ, _≤_}
 use lib.Dec.{eqb}
 use borrow.Author.Tests.{leb-true, eq-eqb, eqb-false, not-true}
 use Rattle.lists.specs.Tests.{and-left, and-right}
-use Rattle.text.specs.Number.{emptyField, isNumber}
-use Rattle.text.specs.Shape.{stationOf, stationShape, arriveFits, departFits, filled, stopOf, stopShape, shapeBy}
+use Rattle.text.specs.Number.{emptyField}
+use Rattle.text.specs.Shape.{stationOf, stationShape, arriveFits, departFits, filled, stopFits, stopOf}
+use Rattle.text.specs.Shape.{stopShape, shapeBy}
 use Rattle.text.specs.declared.Line.{Line}
 use Rattle.text.specs.declared.Line.the-variants.{Station as StationIn, Stop as StopIn, Shapeless}
 use Rattle.text.specs.declared.StationLine.{StationLine}
@@ -48,13 +49,8 @@ module _ (stop depart points : ℕ) (e : departFits stop depart points ≡ true)
   points-empty : filled points ≡ 0
   points-empty = let w = depart-empty in filled-empty points (search (and-right))
 
-fields-shaped : (trip stop station arrive depart points : ℕ)
-    → (isNumber trip
-    && isNumber stop
-    && isNumber station
-    && arriveFits stop arrive
-    && departFits stop depart points)
-    ≡ true
+fields-shaped : (trip stop station arrive depart points mark : ℕ)
+    → stopFits trip stop station arrive depart points mark ≡ true
     → ShapedStop (record {
       trip = trip;
       stop = stop;
@@ -62,9 +58,11 @@ fields-shaped : (trip stop station arrive depart points : ℕ)
       arrive = filled arrive;
       depart = filled depart;
       points = filled points;
+      mark = mark;
       last = eqb depart emptyField;
     })
-fields-shaped trip stop station arrive depart points e =
+unfolding stopFits
+fields-shaped trip stop station arrive depart points mark e =
     record {
       trip = search (and-left, leb-true);
       first = arrive-empty stop arrive (search (and-left, and-right));
@@ -94,9 +92,11 @@ station-shaped : (number minutes points : ℕ) → Shaped (stationOf number minu
 unfolding stationOf
 station-shaped number minutes points = search (either-shaped, a-station, shapeless)
 
-stop-shaped : (trip stop station arrive depart points : ℕ) → Shaped (stopOf trip stop station arrive depart points)
+stop-shaped : (trip stop station arrive depart points mark : ℕ)
+    → Shaped (stopOf trip stop station arrive depart points mark)
 unfolding stopOf
-stop-shaped trip stop station arrive depart points = search (either-shaped, a-stop, shapeless, fields-shaped)
+stop-shaped trip stop station arrive depart points mark =
+    search (either-shaped, a-stop, shapeless, fields-shaped)
 
 pub shaped : (time : List ℕ → ℕ) (s : List ℕ) → Shaped (shapeBy time s)
 unfolding shapeBy stationShape stopShape

@@ -86,11 +86,21 @@ module _ (r : Rules) (d : Draft) (l : StopLine) (passes : StopPasses r (progress
 
     stop-leaves : leaves (stopOfLine l) ≡ true
     unfolding leaves
-    stop-leaves = simp (le-leb (l .depart) lastMinute (passes .depart), le-leb (l .points) 100 (passes .points))
+    stop-leaves =
+        simp (
+          le-leb (l .depart) lastMinute (passes .depart),
+          le-leb (l .points) 100 (passes .points),
+          le-leb (l .mark) 2 (passes .mark),
+        )
 
     stop-ends : l .last ≡ true → ends (stopOfLine l) ≡ true
     unfolding ends
-    stop-ends last = simp (eq-eqb (l .depart) 0 (shape .depart last), eq-eqb (l .points) 0 (shape .points last))
+    stop-ends last =
+        simp (
+          eq-eqb (l .depart) 0 (shape .depart last),
+          eq-eqb (l .points) 0 (shape .points last),
+          le-leb (l .mark) 2 (passes .mark),
+        )
 
     -- no trip has begun: this is a stop 1
     starts : length (d .begun) ≡ 0 → l .stop ≡ 1

@@ -14,7 +14,7 @@ use Rattle.lists.specs.Lists.{range}
 use Rattle.lists.specs.Tests.{and-both}
 use Rattle.timetable.specs.Timetable.{Station, Stop, Trip, Timetable, stopsOf}
 use Rattle.timetable.specs.Words.{stationWords, stopWords, startWords, words, stopCount, stationAt}
-use Rattle.timetable.specs.Words.{stopPlace, tripCount, stopAt, startAt, tripAt, numberAt, timetableOf, rise}
+use Rattle.timetable.specs.Words.{stopIn, stopPlace, tripCount, stopAt, startAt, tripAt, numberAt, timetableOf, rise}
 use Rattle.timetable.specs.Words.{chained}
 use Rattle.timetable.specs.WordLaws.{length-stationWords, length-stopWords, length-startWords, stopWords-append}
 use Rattle.accepted.specs.Lists.{head-at, past-at}
@@ -47,22 +47,24 @@ module _ (w : List ℕ) where
 
   stops-at : (k : ℕ) (l : List Stop) (more : List ℕ) → drop (stopPlace w k) w ≡ stopWords l ++ more
       → map (stopAt w) (range k (length l)) ≡ l
-  unfolding stopWords stopAt
+  unfolding stopWords stopAt stopIn
   stops-at k [] more e = refl
   stops-at k (s ∷ l) more e =
       let at = stopPlace w k in
       let rest = stopWords l ++ more in
-      let one = past-at w at 1 (s .station ∷ []) (s .arrive ∷ s .depart ∷ s .points ∷ rest) refl e in
-      let two = past-at w at 2 (s .station ∷ s .arrive ∷ []) (s .depart ∷ s .points ∷ rest) refl e in
-      let three = past-at w at 3 (s .station ∷ s .arrive ∷ s .depart ∷ []) (s .points ∷ rest) refl e in
-      let four = past-at w at 4 (s .station ∷ s .arrive ∷ s .depart ∷ s .points ∷ []) rest refl e in
-      let place : stopPlace w (suc k) ≡ at + 4 = omega arith in
+      let one = past-at w at 1 (s .station ∷ []) (s .arrive ∷ s .depart ∷ s .points ∷ s .mark ∷ rest) refl e in
+      let two = past-at w at 2 (s .station ∷ s .arrive ∷ []) (s .depart ∷ s .points ∷ s .mark ∷ rest) refl e in
+      let three = past-at w at 3 (s .station ∷ s .arrive ∷ s .depart ∷ []) (s .points ∷ s .mark ∷ rest) refl e in
+      let four = past-at w at 4 (s .station ∷ s .arrive ∷ s .depart ∷ s .points ∷ []) (s .mark ∷ rest) refl e in
+      let all = past-at w at 5 (s .station ∷ s .arrive ∷ s .depart ∷ s .points ∷ s .mark ∷ []) rest refl e in
+      let place : stopPlace w (suc k) ≡ at + 5 = omega arith in
       λ i. record {
-        station = head-at w at (s .station) (s .arrive ∷ s .depart ∷ s .points ∷ rest) e i;
-        arrive = head-at w (at + 1) (s .arrive) (s .depart ∷ s .points ∷ rest) one i;
-        depart = head-at w (at + 2) (s .depart) (s .points ∷ rest) two i;
-        points = head-at w (at + 3) (s .points) rest three i;
-      } ∷ stops-at (suc k) l more (ap (λ n. drop n w) place ∙ four) i
+        station = head-at w at (s .station) (s .arrive ∷ s .depart ∷ s .points ∷ s .mark ∷ rest) e i;
+        arrive = head-at w (at + 1) (s .arrive) (s .depart ∷ s .points ∷ s .mark ∷ rest) one i;
+        depart = head-at w (at + 2) (s .depart) (s .points ∷ s .mark ∷ rest) two i;
+        points = head-at w (at + 3) (s .points) (s .mark ∷ rest) three i;
+        mark = head-at w (at + 4) (s .mark) rest four i;
+      } ∷ stops-at (suc k) l more (ap (λ n. drop n w) place ∙ all) i
 
   -- where the starts stand
   abbrev startsPlace : ℕ
@@ -97,9 +99,9 @@ module _ (w : List ℕ) where
   stops-past : (k : ℕ) (t : Trip) (more : List ℕ) → drop (stopPlace w k) w ≡ stopWords t ++ more
       → drop (stopPlace w (k + length t)) w ≡ more
   stops-past k t more e =
-      let place : stopPlace w (k + length t) ≡ stopPlace w k + 4 * length t = omega arith in
+      let place : stopPlace w (k + length t) ≡ stopPlace w k + 5 * length t = omega arith in
       ap (λ n. drop n w) place
-      ∙ past-at w (stopPlace w k) (4 * length t) (stopWords t) more (length-stopWords t) e
+      ∙ past-at w (stopPlace w k) (5 * length t) (stopWords t) more (length-stopWords t) e
 
   first-start : (j k : ℕ) (l : List Trip) (past : List ℕ) → drop (startsPlace + j) w ≡ startWords k l ++ past
       → startAt w j ≡ k

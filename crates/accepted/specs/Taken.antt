@@ -127,9 +127,9 @@ module _ (stations : List Station) (n trips stops : ℕ) (least : 1 ≤ n) (few 
   -- stop s, which comes after those begun
   stop-taken : (begun : Trip) (k : ℕ) (s : Stop) (last : Bool) → k ≡ length begun + 1 → 0 < length begun
       → stops + length begun < stopsMost → follows (length stations) (final begun) s ≡ true
-      → s .depart ≤ lastMinute → s .points ≤ 100 → (last || leb (s .arrive) (s .depart)) ≡ true
+      → s .depart ≤ lastMinute → s .points ≤ 100 → s .mark ≤ 2 → (last || leb (s .arrive) (s .depart)) ≡ true
       → lineNumberAt own (progress (draft stations [] begun)) (stopRead n k s last) ≡ 0
-  stop-taken begun k s last e h g f d p w =
+  stop-taken begun k s last e h g f d p m w =
       let came = it-follows _ _ s f in
       let at = is-listed _ s (came .station) in
       extra-passes own _ _ (record {
@@ -141,6 +141,7 @@ module _ (stations : List Station) (n trips stops : ℕ) (least : 1 ≤ n) (few 
               arrive = came .arrive;
               depart = d;
               points = p;
+              mark = m;
               stop = e;
               trips = omega arith;
               stops = g;
@@ -158,12 +159,12 @@ module _ (stations : List Station) (n trips stops : ℕ) (least : 1 ≤ n) (few 
   later-taken begun k (s ∷ []) e h g v =
       let r = runs-last _ _ s v in
       let gone = it-ends s (r .1) in
-      (stop-taken begun k s true e h (omega arith) (r .0) (omega arith) (omega arith) refl, refl)
+      (stop-taken begun k s true e h (omega arith) (r .0) (omega arith) (omega arith) (gone .mark) refl, refl)
   later-taken begun k (s ∷ u ∷ l) e h g v =
       let r = runs-on _ _ s u l v in
       let goes = it-leaves s (r .leaves) in
       let more = snoc-length begun s in (
-        stop-taken begun k s false e h (omega arith) (r .follows) (goes .depart) (goes .points)
+        stop-taken begun k s false e h (omega arith) (r .follows) (goes .depart) (goes .points) (goes .mark)
             (le-leb (s .arrive) (s .depart) (r .waits)),
         rw (← append-snoc begun s (u ∷ l))
             (later-taken (begun ++ (s ∷ [])) (k + 1) (u ∷ l) (omega arith) (omega arith) (omega arith)
@@ -188,6 +189,7 @@ module _ (stations : List Station) (n trips stops : ℕ) (least : 1 ≤ n) (few 
                 arrive = omega arith;
                 depart = goes .depart;
                 points = goes .points;
+                mark = goes .mark;
                 stop = refl;
                 trips = omega arith;
                 stops = omega arith;

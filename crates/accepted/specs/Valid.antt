@@ -26,10 +26,12 @@ pub record Listed (n : ℕ) (s : Stop) : Type 0 where
 pub record Leaves (s : Stop) : Type 0 where
   pub depart : s .depart ≤ lastMinute
   pub points : s .points ≤ 100
+  pub mark : s .mark ≤ 2
 
 pub record Ends (s : Stop) : Type 0 where
   pub depart : s .depart ≡ 0
   pub points : s .points ≡ 0
+  pub mark : s .mark ≤ 2
 
 pub record Follows (n : ℕ) (b s : Stop) : Type 0 where
   pub station : listed n s ≡ true
@@ -75,7 +77,7 @@ it-leaves s v = search (and-left, and-right, leb-true)
 
 pub it-ends : (s : Stop) → ends s ≡ true → Ends s
 unfolding ends
-it-ends s v = search (and-left, and-right, eqb-true)
+it-ends s v = search (and-left, and-right, eqb-true, leb-true)
 
 pub it-follows : (n : ℕ) (b s : Stop) → follows n b s ≡ true → Follows n b s
 unfolding follows
@@ -143,6 +145,7 @@ pub record StopRanges (n : ℕ) (s : Stop) : Type 0 where
   pub arrive : s .arrive ≤ lastMinute
   pub depart : s .depart ≤ lastMinute
   pub points : s .points ≤ 100
+  pub mark : s .mark ≤ 2
 
 pub first-ranges : (n : ℕ) (b : Stop) (l : List Stop) → Begins n b l → StopRanges n b
 first-ranges n b l v = omega (arith, is-listed n b (v .station), it-leaves b (v .leaves))

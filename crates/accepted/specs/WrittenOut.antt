@@ -1,5 +1,6 @@
 -- Lines written out from a timetable: a line for each station, and a line for each stop of a trip.
--- "Station: `S,station,change minutes,change penalty`", "Stop: `T,trip,stop,station,arrive,depart,ride penalty`".
+-- "Station: `S,station,change minutes,change penalty`", "Stop: `T,trip,stop,station,arrive,depart,ride penalty`",
+-- "Each T line gains a last field".
 -- "Exports write arrive and depart as `hh:mm`".
 -- "Arrive is empty exactly at stop 1. Depart and ride penalty are empty together, only at a trip's last stop".
 use mathlib.Core.Bool.{Bool, true, false, cond}
@@ -30,6 +31,7 @@ stopFields trip k s last =
     ∷ emptyOr (eqb k 1) (clock (s .arrive))
     ∷ emptyOr last (clock (s .depart))
     ∷ emptyOr last (digits (s .points))
+    ∷ digits (s .mark)
     ∷ []
 
 -- stop k of a trip

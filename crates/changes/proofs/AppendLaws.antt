@@ -1,12 +1,11 @@
 -- Trips put behind those that stand in the three arrays.
 use mathlib.Core.Path.{_≡_, refl, sym, ap, _∙_}
 use mathlib.Core.Bool.{true}
-use mathlib.Core.List.{List, [], _∷_, _++_, append-assoc, append-nil}
-use Prim.Native.Nat.{ℕ, zero, suc, _+_, _-_, _*_, _≤_, _<_}
-use native.Mathlib.Nat.{zero-add}
+use mathlib.Core.List.{List, _∷_, _++_, append-assoc}
+use Prim.Native.Nat.{ℕ, _+_, _-_, _*_, _≤_}
 use native.Mathlib.Omega.{arith}
-use lib.ListN.{length, getD, set, length-append}
-use Rattle.words.specs.Put.{put, put-one, put-over, put-append}
+use lib.ListN.{length, getD, length-append}
+use Rattle.words.specs.Put.{put, put-append}
 use Rattle.timetable.specs.Timetable.{Station, Trip, stopsOf}
 use Rattle.timetable.specs.Words.{
   stationWords,
@@ -27,10 +26,10 @@ use Rattle.timetable.specs.WordLaws.{
   stopWords-append,
   stopsOf-append,
 }
-use Rattle.timetable.specs.Check.{stationsAt, tripsAt, stopsAt, numbersAt}
+use Rattle.timetable.specs.Check.{tripsAt, stopsAt, numbersAt}
 use Rattle.timetable.specs.Access.{stations-few, trips-few, stops-few, start-most}
 use Rattle.changes.specs.Appended.{endsAt, Held, Extends}
-use Rattle.changes.specs.Runs.{between-long, starts-up, stops-run, ends-run, length-endsAt, starts-join}
+use Rattle.changes.specs.Runs.{between-long, starts-up, stops-run, ends-run, starts-join}
 use Rattle.changes.specs.declared.Counts.{Counts}
 
 pub place-most : (w : List ℕ) (from to : ℕ) → isTimetable w ≡ true → from ≤ to → to ≤ tripCount w → from ≤ 256
@@ -48,7 +47,7 @@ module _ (w : List ℕ) (okay : isTimetable w ≡ true) (from to first end : ℕ
   run-few = omega (arith, start-most w okay to g, stops-few w okay)
 
   module _ (p : Counts) (few : p .stops + (startAt w to - startAt w from) ≤ 2048) where
-    pub run-room : (s : ℕ) → s ≡ getD w 0 0 → 2 * s + 4 * p .stops + 4 * (end - first) ≤ 8320
+    pub run-room : (s : ℕ) → s ≡ getD w 0 0 → 2 * s + 5 * p .stops + 5 * (end - first) ≤ 10368
     run-room s is = omega (arith, stations-few w okay)
 
     pub run-sum : p .stops + (end - first) ≡ p .stops + (startAt w to - startAt w from)
@@ -61,7 +60,7 @@ module _ (w : List ℕ) (okay : isTimetable w ≡ true) (from to first end s : �
     (fit : p .trips + (to - from) ≤ 256)
     (few : p .stops + (startAt w to - startAt w from) ≤ 2048)
     (is-first : first ≡ startAt w from) (is-end : end ≡ startAt w to) (is-s : s ≡ getD w 0 0)
-    (wrote-body : body′ ≡ put (2 * s + 4 * p .stops) (stopWords (stopsAt w first end)) body)
+    (wrote-body : body′ ≡ put (2 * s + 5 * p .stops) (stopWords (stopsAt w first end)) body)
     (wrote-numbers : numbers′ ≡ put (p .trips) (numbersAt w from to) numbers)
     (wrote-starts : starts′ ≡ put (p .trips + 1) (endsAt w from to (p .stops)) starts)
     (is-trips : q .trips ≡ p .trips + (to - from)) (is-stops : q .stops ≡ p .stops + (end - first))
@@ -88,12 +87,12 @@ module _ (w : List ℕ) (okay : isTimetable w ≡ true) (from to first end s : �
 
     module _ (st : List Station) (ts : List Trip) (ns body₀ starts₀ numbers₀ : List ℕ)
         (stations : length st ≡ stationCount w)
-        (body-room : length body₀ ≡ 8320) (starts-room : length starts₀ ≡ 257) (numbers-room : length numbers₀ ≡ 256)
+        (body-room : length body₀ ≡ 10368) (starts-room : length starts₀ ≡ 257) (numbers-room : length numbers₀ ≡ 256)
         (held : Held st ts ns p body starts numbers body₀ starts₀ numbers₀) where
       abbrev front : List ℕ
       front = stationWords st ++ stopWords (stopsOf ts)
 
-      front-long : length front ≡ 2 * s + 4 * p .stops
+      front-long : length front ≡ 2 * s + 5 * p .stops
       front-long =
           omega (
             arith,
@@ -107,7 +106,7 @@ module _ (w : List ℕ) (okay : isTimetable w ≡ true) (from to first end s : �
 
       body-is : body′ ≡ put 0 (stationWords st ++ stopWords (stopsOf (ts ++ us))) body₀
       body-is =
-          let at : 2 * s + 4 * p .stops ≡ 0 + length front = omega (arith, front-long) in
+          let at : 2 * s + 5 * p .stops ≡ 0 + length front = omega (arith, front-long) in
           let all : front ++ stopWords (stopsAt w first end) ≡ stationWords st ++ stopWords (stopsOf (ts ++ us)) =
           append-assoc (stationWords st) (stopWords (stopsOf ts)) (stopWords (stopsAt w first end))
           ∙ ap (λ l. stationWords st ++ l)

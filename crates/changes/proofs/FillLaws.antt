@@ -8,7 +8,7 @@ use native.Mathlib.Omega.{arith}
 use lib.ListN.{length, getD, take, drop, set}
 use Rattle.lists.specs.Lists.{range}
 use Rattle.words.specs.Put.{put, put-none, put-one}
-use Rattle.timetable.specs.Timetable.{Trip, Timetable}
+use Rattle.timetable.specs.Timetable.{Timetable}
 use Rattle.timetable.specs.Words.{
   stationWords,
   stopWords,
@@ -79,7 +79,7 @@ module _ (w : List ℕ) (okay : isTimetable w ≡ true) (place : ℕ) (inside : 
     front-starts e = omega (arith, start-first w okay)
 
 pub filled-front : (w : List ℕ) (place : ℕ) (p : Counts)
-    (body starts numbers body₁ starts₁ body₂ starts₂ numbers₂ : List ℕ) → length body ≡ 8320 → length starts ≡ 257
+    (body starts numbers body₁ starts₁ body₂ starts₂ numbers₂ : List ℕ) → length body ≡ 10368 → length starts ≡ 257
     → length numbers ≡ 256
     → body₁ ≡ put 0 (stationWords (stationsAt w 0 (stationCount w))) body → starts₁ ≡ put 0 (0 ∷ []) starts
     → Extends w 0 place (record { trips = 0; stops = 0 }) p body₁ starts₁ numbers body₂ starts₂ numbers₂
@@ -125,7 +125,7 @@ module _ (w : List ℕ) (okay : isTimetable w ≡ true) (place trips : ℕ) (is 
         without-stops e = omega (arith, after-stops)
 
         pub filled-without : (body starts numbers body₂ starts₂ numbers₂ body₃ starts₃ numbers₃ : List ℕ)
-            → length body ≡ 8320 → length starts ≡ 257 → length numbers ≡ 256
+            → length body ≡ 10368 → length starts ≡ 257 → length numbers ≡ 256
             → Front w place p body₂ starts₂ numbers₂ body starts numbers
             → Extends w (place + 1) trips p q body₂ starts₂ numbers₂ body₃ starts₃ numbers₃
             → Filled (leftOut (timetableOf w) place) q body₃ starts₃ numbers₃ body starts numbers
@@ -183,7 +183,7 @@ module _ (w : List ℕ) (okay : isTimetable w ≡ true) (place : ℕ) (inside : 
       middle-stops h = omega (arith, extra-stops)
 
       pub filled-middle : (body starts numbers body₂ starts₂ numbers₂ body₃ starts₃ numbers₃ : List ℕ)
-          → length body ≡ 8320 → length starts ≡ 257 → length numbers ≡ 256
+          → length body ≡ 10368 → length starts ≡ 257 → length numbers ≡ 256
           → Front w place p body₂ starts₂ numbers₂ body starts numbers
           → Extends e 0 1 p o body₂ starts₂ numbers₂ body₃ starts₃ numbers₃
           → Middle w place e o body₃ starts₃ numbers₃ body starts numbers
@@ -211,7 +211,7 @@ module _ (w : List ℕ) (okay : isTimetable w ≡ true) (place : ℕ) (inside : 
       with-stops h = omega (arith, rest-stops)
 
       pub filled-with : (body starts numbers body₂ starts₂ numbers₂ body₃ starts₃ numbers₃ : List ℕ)
-          → length body ≡ 8320 → length starts ≡ 257 → length numbers ≡ 256
+          → length body ≡ 10368 → length starts ≡ 257 → length numbers ≡ 256
           → Middle w place e o body₂ starts₂ numbers₂ body starts numbers
           → Extends w place trips o q body₂ starts₂ numbers₂ body₃ starts₃ numbers₃
           → Filled (putIn (timetableOf w) place (timetableOf e)) q body₃ starts₃ numbers₃ body starts numbers

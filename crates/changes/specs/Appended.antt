@@ -38,7 +38,7 @@ pub record Held (st : List Station) (ts : List Trip) (ns : List ℕ) (p : Counts
 pub record Extends (w : List ℕ) (from to : ℕ) (p q : Counts) (body starts numbers body′ starts′ numbers′ : List ℕ)
     : Type 0 where
   pub holds : (st : List Station) (ts : List Trip) (ns body₀ starts₀ numbers₀ : List ℕ)
-      → length st ≡ stationCount w → length body₀ ≡ 8320 → length starts₀ ≡ 257 → length numbers₀ ≡ 256
+      → length st ≡ stationCount w → length body₀ ≡ 10368 → length starts₀ ≡ 257 → length numbers₀ ≡ 256
       → Held st ts ns p body starts numbers body₀ starts₀ numbers₀
       → Held st (ts ++ tripsAt w from to) (ns ++ numbersAt w from to) q body′ starts′ numbers′ body₀ starts₀ numbers₀
 

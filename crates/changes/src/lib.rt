@@ -107,7 +107,7 @@ fn append(
         × (isTimetable (now words) ≡ true)
         × (from ≤ to)
         × (to ≤ tripCount (now words))
-        × (length (now body) ≡ 8320)
+        × (length (now body) ≡ 10368)
         × (length (now starts) ≡ 257)
         × (length (now numbers) ≡ 256)
         × (p .trips + (to - from) ≤ 256)
@@ -122,7 +122,7 @@ fn append(
 {
     let first = timetable::start_at(words, from);
     let end = timetable::start_at(words, to);
-    let at = 2 * words::word(words, 0) as usize + 4 * p.stops;
+    let at = 2 * words::word(words, 0) as usize + 5 * p.stops;
     timetable::copy_stops(words, first, end, body, at);
     timetable::copy_numbers(words, from, to, numbers, p.trips);
     shift_starts(words, from, to, starts, p);
@@ -152,7 +152,7 @@ fn fill_front(
     requires { ⌜ (16384 ≤ length (now words))
         × (isTimetable (now words) ≡ true)
         × (place ≤ tripCount (now words))
-        × (length (now body) ≡ 8320)
+        × (length (now body) ≡ 10368)
         × (length (now starts) ≡ 257)
         × (length (now numbers) ≡ 256) ⌝ }
     ensures { λ r. ⌜ Front (now (words .entry)) place r (now (body .exit)) (now (starts .exit)) (now (numbers .exit))
@@ -180,7 +180,7 @@ fn fill_without(
     requires { ⌜ (16384 ≤ length (now words))
         × (isTimetable (now words) ≡ true)
         × (place < tripCount (now words))
-        × (length (now body) ≡ 8320)
+        × (length (now body) ≡ 10368)
         × (length (now starts) ≡ 257)
         × (length (now numbers) ≡ 256) ⌝ }
     ensures { λ r. ⌜ Filled (leftOut (timetableOf (now (words .entry))) place) r (now (body .exit)) (now (starts .exit))
@@ -235,7 +235,7 @@ fn fill_middle(
         × (isTimetable (now words) ≡ true)
         × (place ≤ tripCount (now words))
         × Fitting (now words) (now extra)
-        × (length (now body) ≡ 8320)
+        × (length (now body) ≡ 10368)
         × (length (now starts) ≡ 257)
         × (length (now numbers) ≡ 256) ⌝ }
     ensures { λ r. ⌜ Middle (now (words .entry)) place (now (extra .entry)) r (now (body .exit)) (now (starts .exit))
@@ -264,7 +264,7 @@ fn fill_with(
         × (isTimetable (now words) ≡ true)
         × (place ≤ tripCount (now words))
         × Fitting (now words) (now extra)
-        × (length (now body) ≡ 8320)
+        × (length (now body) ≡ 10368)
         × (length (now starts) ≡ 257)
         × (length (now numbers) ≡ 256) ⌝ }
     ensures { λ r. ⌜ Filled (putIn (timetableOf (now (words .entry))) place (timetableOf (now (extra .entry)))) r
@@ -327,7 +327,7 @@ fn read_stops(
     requires { ⌜ (16384 ≤ length (now words))
         × (isTimetable (now words) ≡ true)
         × (runsAs number ((timetableOf (now words)) .numbers) ≡ false)
-        × (length (now body) ≡ 8320)
+        × (length (now body) ≡ 10368)
         × (length (now starts) ≡ 257) ⌝ }
     ensures { λ r. ⌜ StopsRead number (readExtra (timetableOf (now (words .entry))) number (now (text .entry))) r
         (now (body .exit)) (now (starts .exit)) ⌝ }

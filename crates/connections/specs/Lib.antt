@@ -1,6 +1,7 @@
 pub mod Rides
 pub mod Connections
 pub mod Planner
+pub mod Unmarked
 pub mod Worked
 pub mod RideLaws
 pub mod Sound

@@ -1,20 +1,21 @@
 -- The rides and changes of a timetable by their places, and how a ride's penalty is summed stop by stop.
-use mathlib.Core.Path.{_≡_, refl, sym, ap, _∙_}
+use mathlib.Core.Path.{_≡_, refl, sym, ap, subst, _∙_}
+use mathlib.Core.Bool.{not}
 use mathlib.Core.List.{List, [], _∷_, Memᴰ·map, Memᴰ·of-map}
 use Prim.Native.Nat.{ℕ, zero, suc, _+_, _≤_, _<_}
 use native.Mathlib.Omega.{arith}
-use lib.Dec.{T}
+use lib.Dec.{T, eqb}
 use lib.ListN.{length, getD}
 use Rattle.timetable.specs.Timetable.{Station, Stop, Trip, Timetable, numberOf, valid}
 use Rattle.timetable.specs.Numbers.{number-unique}
 use Rattle.lists.specs.Lists.{_∈_, filter, range}
-use Rattle.lists.specs.Tests.{reads, writes}
+use Rattle.lists.specs.Tests.{T-left, T-right, reads, writes}
 use Rattle.lists.specs.Members.{filter-in, filter-out, concatMap-in, concatMap-out, range-in, range-out}
-use Rattle.connections.specs.Rides.{Ride, noStop, ridePoints, rideAt, mayRide, ridesFrom, tripRides}
-use Rattle.connections.specs.Rides.{rideIn, ridesOf}
+use Rattle.connections.specs.Rides.{Ride, noStop, ridePoints, rideAt, mayBoard, mayAlight, mayRide}
+use Rattle.connections.specs.Rides.{ridesFrom, tripRides, rideIn, ridesOf}
 use Rattle.connections.specs.Connections.{Change, changeAt, changesOf}
 
--- a ride of the timetable: a trip, a stop to board at and a later stop to alight at
+-- a ride of the timetable: a trip, a stop to board at and a later stop to alight at, both open to that
 pub record Taken (t : Timetable) (r : Ride) : Type 0 where
   pub z : ℕ
   pub x : ℕ
@@ -22,7 +23,19 @@ pub record Taken (t : Timetable) (r : Ride) : Type 0 where
   pub listed : z < length (t .trips)
   pub later : x < y
   pub inside : y < length (getD (t .trips) z [])
+  pub boards : T (mayBoard (getD (getD (t .trips) z []) x noStop))
+  pub alights : T (mayAlight (getD (getD (t .trips) z []) y noStop))
   pub is : rideIn t z x y ≡ r
+
+-- stops that agree in their mark are open to the same
+module _ (s u : Stop) (same : s .mark ≡ u .mark) where
+  pub board-alike : T (mayBoard s) → T (mayBoard u)
+  unfolding mayBoard
+  board-alike h = subst (λ m. T (not (eqb m 2))) same h
+
+  pub alight-alike : T (mayAlight s) → T (mayAlight u)
+  unfolding mayAlight
+  alight-alike h = subst (λ m. T (not (eqb m 1))) same h
 
 module _ (t : Timetable) where
   abbrev ridesAt : (z : ℕ) → List Ride
@@ -45,13 +58,16 @@ module _ (t : Timetable) where
         listed = omega arith;
         later = search reads;
         inside = search reads;
+        boards = search (T-left, T-right);
+        alights = search (T-left, T-right);
         is = k .2;
       }
 
   pub rides-in : (z x y : ℕ) → z < length (t .trips) → x < y → y < length (getD (t .trips) z [])
+      → T (mayBoard (getD (getD (t .trips) z []) x noStop)) → T (mayAlight (getD (getD (t .trips) z []) y noStop))
       → rideIn t z x y ∈ ridesOf t
   unfolding ridesOf
-  rides-in z x y h g i =
+  rides-in z x y h g i b a =
       let l = getD (t .trips) z [] in
       let n = numberOf t z in
       let may : T (mayRide l x y) = search writes in

@@ -111,6 +111,11 @@ unfolding validTrip leaves
 reach-trip n [] t x y h g = absurd t
 reach-trip n (b ∷ l) t x y h g = reach-at n b l (search reads) (search T-right) x y h g
 
+-- a trip arrives after it departed from any stop before
+pub trip-forward : (n : ℕ) (l : Trip) → T (validTrip n l) → (x y : ℕ) → x < y → y < length l
+    → (getD l x noStop) .depart < (getD l y noStop) .arrive
+trip-forward n l t x y h g = reach-trip n l t x y h g .forward
+
 pub valid-trip : (n : ℕ) (l : List Trip) → T (validTrips n l) → (z : ℕ) → z < length l → T (validTrip n (getD l z []))
 unfolding validTrips
 valid-trip n [] t z h = absurd (omega arith)

@@ -4,11 +4,12 @@ use mathlib.Core.Path.{_≡_, refl}
 use mathlib.Core.List.{List, [], _∷_}
 use Prim.Native.Nat.{ℕ}
 use lib.Dec.{T}
+use lib.ListN.{length, drop}
 use Rattle.timetable.specs.Timetable.{Timetable, validStation, listed, leaves, ends, follows, runs}
 use Rattle.timetable.specs.Timetable.{validTrip, validStations, validTrips, counted, climb, numbered, valid}
 use Rattle.timetable.specs.Worked.{station, stop, variant, M}
 use Rattle.results.specs.Results.{dominates, equal, entries, result}
-use Rattle.connections.specs.Rides.{ridePoints, ridesOf}
+use Rattle.connections.specs.Rides.{mayBoard, mayAlight, ridePoints, ridesOf}
 use Rattle.connections.specs.Connections.{net, changesOf}
 use Rattle.connections.specs.Planner.{connections, plannerList, tieKey, rowsOf}
 
@@ -32,19 +33,22 @@ twoRides d p t x y t′ x′ y′ = d ∷ p ∷ 2 ∷ t ∷ x ∷ y ∷ t′ ∷
 -- Both durations are measured from 470. Trip 1 stays at station 2 for one minute, and who stays aboard needs no change
 -- minutes; who arrives at 500 with 3 change minutes cannot leave at 502, and takes trip 2.
 pub case-a : planned M 1 470 3 ≡ twoRides 50 10 1 1 2 2 1 2 ∷ oneRide 90 0 1 1 3 ∷ []
-unfolding M variant ridesOf ridePoints changesOf plannerList connections entries result dominates equal rowsOf tieKey
+unfolding M variant ridesOf mayBoard mayAlight ridePoints changesOf plannerList connections entries result dominates
+    equal rowsOf tieKey
 case-a = refl
 
 pub case-a-none : plannerList (net M) 1 481 3 ≡ []
-unfolding M variant ridesOf ridePoints changesOf plannerList connections
+unfolding M variant ridesOf mayBoard mayAlight ridePoints changesOf plannerList connections
 case-a-none = refl
 
 pub case-g : planned M 2 501 3 ≡ oneRide 14 0 3 1 2 ∷ []
-unfolding M variant ridesOf ridePoints changesOf plannerList connections entries result dominates equal rowsOf tieKey
+unfolding M variant ridesOf mayBoard mayAlight ridePoints changesOf plannerList connections entries result dominates
+    equal rowsOf tieKey
 case-g = refl
 
 pub case-h : planned M 2 503 3 ≡ oneRide 17 0 2 1 2 ∷ []
-unfolding M variant ridesOf ridePoints changesOf plannerList connections entries result dominates equal rowsOf tieKey
+unfolding M variant ridesOf mayBoard mayAlight ridePoints changesOf plannerList connections entries result dominates
+    equal rowsOf tieKey
 case-h = refl
 
 -- The customer's first exercise: "the 8:00 takes twenty minutes, the 8:05 takes thirty". Whoever reaches the stop at
@@ -58,7 +62,8 @@ valley =
     }
 
 pub late-and-slow : planned valley 1 483 2 ≡ oneRide 32 0 2 1 2 ∷ []
-unfolding valley ridesOf ridePoints changesOf plannerList connections entries result dominates equal rowsOf tieKey
+unfolding valley ridesOf mayBoard mayAlight ridePoints changesOf plannerList connections entries result dominates
+    equal rowsOf tieKey
 late-and-slow = refl
 
 -- "Of connections with equal cost the one shown departs latest."
@@ -71,5 +76,38 @@ alike =
     }
 
 pub latest-shown : planned alike 1 470 2 ≡ oneRide 30 0 2 1 2 ∷ []
-unfolding alike ridesOf ridePoints changesOf plannerList connections entries result dominates equal rowsOf tieKey
+unfolding alike ridesOf mayBoard mayAlight ridePoints changesOf plannerList connections entries result dominates equal
+    rowsOf tieKey
 latest-shown = refl
+
+-- "1 boarding only, 2 setting down only": trip 1 of M sets nobody down at station 2, or takes nobody
+-- in there
+unfoldable pub closed : (mark : ℕ) → Timetable
+unfolding M variant
+closed m =
+    record {
+      stations = M .stations;
+      numbers = M .numbers;
+      trips =
+          (stop 1 0 480 0
+          ∷ record { station = 2; arrive = 500; depart = 501; points = 0; mark = m }
+          ∷ stop 3 560 0 0
+          ∷ [])
+          ∷ drop 1 (M .trips);
+    }
+
+-- who may not alight at station 2 stays aboard
+pub boarding-only : (planned (closed 1) 1 470 3 ≡ oneRide 90 0 1 1 3 ∷ [])
+    × (plannerList (net (closed 1)) 1 470 2 ≡ [])
+    × (planned (closed 1) 2 501 3 ≡ oneRide 14 0 3 1 2 ∷ [])
+unfolding closed M variant ridesOf mayBoard mayAlight ridePoints changesOf plannerList connections entries result
+    dominates equal rowsOf tieKey
+boarding-only = (refl, refl, refl)
+
+-- who may not board there finds the change of case a, and from there one ride fewer
+pub setting-down-only : (planned (closed 2) 1 470 3 ≡ twoRides 50 10 1 1 2 2 1 2 ∷ oneRide 90 0 1 1 3 ∷ [])
+    × (length (plannerList (net M) 2 501 3) ≡ 3)
+    × (length (plannerList (net (closed 2)) 2 501 3) ≡ 2)
+unfolding closed M variant ridesOf mayBoard mayAlight ridePoints changesOf plannerList connections entries result
+    dominates equal rowsOf tieKey
+setting-down-only = (refl, refl, refl)

@@ -9,7 +9,7 @@ use lib.ListN.{length}
 use Rattle.lists.specs.Tests.{and-left, and-right}
 use Rattle.text.specs.Number.{emptyField, isNumber, fieldValue}
 use Rattle.text.specs.Time.{timeValue}
-use Rattle.text.specs.Shape.{arriveFits, departFits, stopOf, field, stopShape}
+use Rattle.text.specs.Shape.{arriveFits, departFits, stopFits, stopOf, field, stopShape}
 use Rattle.text.specs.declared.Line.{Line}
 use Rattle.text.specs.declared.Line.the-variants.{Stop, Shapeless}
 use Rattle.text.specs.declared.StopLine.{StopLine}
@@ -55,16 +55,19 @@ shapeless-no : (test : Bool) (x : Line) → (test ≡ true → ⊥) → cond tes
 shapeless-no true x n = absurd (n refl)
 shapeless-no false x n = refl
 
-values-apart : (trip stop station points : ℕ) (a d : List ℕ) (l : StopLine)
-    → stopOf trip stop station (timeValue a) (timeValue d) points ≡ Stop l
-    → stopOf trip stop station (fieldValue a) (fieldValue d) points ≡ Shapeless
-unfolding stopOf
-values-apart trip stop station points a d l e =
+values-apart : (trip stop station points mark : ℕ) (a d : List ℕ) (l : StopLine)
+    → stopOf trip stop station (timeValue a) (timeValue d) points mark ≡ Stop l
+    → stopOf trip stop station (fieldValue a) (fieldValue d) points mark ≡ Shapeless
+unfolding stopOf stopFits
+values-apart trip stop station points mark a d l e =
     let other : Bool = isNumber trip && isNumber stop && isNumber station in
-    let now = shaped-yes
-    (other && arriveFits stop (timeValue a) && departFits stop (timeValue d) points) _ l e in
-    shapeless-no (other && arriveFits stop (fieldValue a) && departFits stop (fieldValue d) points) _
-    (λ then. never-both stop points a d
+    let now = and-left _ (isNumber mark) (shaped-yes
+    (other && arriveFits stop (timeValue a) && departFits stop (timeValue d) points && isNumber mark) _ l e) in
+    shapeless-no
+    (other && arriveFits stop (fieldValue a) && departFits stop (fieldValue d) points && isNumber mark) _
+    (λ all.
+    let then = and-left _ (isNumber mark) all in
+    never-both stop points a d
     (and-right other _ (and-left (other && arriveFits stop (timeValue a)) _ now))
     (and-right (other && arriveFits stop (timeValue a)) _ now)
     (and-right other _ (and-left (other && arriveFits stop (fieldValue a)) _ then))
@@ -73,11 +76,11 @@ values-apart trip stop station points a d l e =
 -- the fields behind the T
 pub one-shape : (f : List (List ℕ)) (l : StopLine) → stopShape timeValue f ≡ Stop l → stopShape fieldValue f ≡ Shapeless
 unfolding stopShape
-one-shape f l e = go (eqb (length f) 6) refl
+one-shape f l e = go (eqb (length f) 7) refl
   where
-    go : (six : Bool) → eqb (length f) 6 ≡ six → stopShape fieldValue f ≡ Shapeless
+    go : (seven : Bool) → eqb (length f) 7 ≡ seven → stopShape fieldValue f ≡ Shapeless
     go true s =
         rw s
         (values-apart (fieldValue (field f 0)) (fieldValue (field f 1)) (fieldValue (field f 2))
-        (fieldValue (field f 5)) (field f 3) (field f 4) l (rw s at e))
+        (fieldValue (field f 5)) (fieldValue (field f 6)) (field f 3) (field f 4) l (rw s at e))
     go false s = rw s

@@ -1,5 +1,5 @@
--- The old equivalent of M is the text that document 01 has, and it was read to the same timetable; by computation.
--- For a reader.
+-- The old equivalent of M is the text that document 01 has, with its marks, and it was read to the same timetable; by
+-- computation. For a reader.
 use mathlib.Core.Path.{_≡_, refl, sym, _∙_}
 use mathlib.Core.List.{List, _++_}
 use Prim.Native.Nat.{ℕ}
@@ -16,13 +16,13 @@ use Rattle.former.specs.Former.{formerReading, formerText}
 use Rattle.former.specs.Former.{plain, formerField, formerAt, formerFields, formerLine, formerLines}
 use Rattle.former.specs.SameTables.{same-tables}
 
--- "Timetable M" as document 01 has it
+-- "Timetable M" as document 01 has it, where "M's T lines each gain a 0"
 unfoldable pub formerM : List ℕ
 formerM =
     bytes "S,1,2,10\nS,2,3,10\nS,3,5,10\n"
-    ++ bytes "T,1,1,1,,480,0\nT,1,2,2,500,501,0\nT,1,3,3,560,,\n"
-    ++ bytes "T,2,1,2,,503,0\nT,2,2,3,520,,\n"
-    ++ bytes "T,3,1,2,,502,0\nT,3,2,3,515,,\n"
+    ++ bytes "T,1,1,1,,480,0,0\nT,1,2,2,500,501,0,0\nT,1,3,3,560,,,0\n"
+    ++ bytes "T,2,1,2,,503,0,0\nT,2,2,3,520,,,0\n"
+    ++ bytes "T,3,1,2,,502,0,0\nT,3,2,3,515,,,0\n"
 
 pub M-before : formerText textM ≡ formerM
 unfolding

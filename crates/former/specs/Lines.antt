@@ -84,19 +84,25 @@ former-pieces line =
 -- ---- the shape stays
 fields-shape : (f : List (List ℕ)) → stopShape fieldValue (formerFields 0 f) ≡ stopShape timeValue f
 unfolding stopShape formerAt
-fields-shape f = go (eqb (length f) 6) refl
+fields-shape f = go (eqb (length f) 7) refl
   where
-    same-length : eqb (length (formerFields 0 f)) 6 ≡ eqb (length f) 6
-    same-length = ap (λ n. eqb n 6) (length-former 0 f)
+    same-length : eqb (length (formerFields 0 f)) 7 ≡ eqb (length f) 7
+    same-length = ap (λ n. eqb n 7) (length-former 0 f)
 
-    go : (six : Bool) → eqb (length f) 6 ≡ six → stopShape fieldValue (formerFields 0 f) ≡ stopShape timeValue f
+    go : (seven : Bool) → eqb (length f) 7 ≡ seven → stopShape fieldValue (formerFields 0 f) ≡ stopShape timeValue f
     go false e = rw (same-length, e)
     go true e =
-        let six : length f ≡ 6 = eqb-true (length f) 6 e in
-        let at : (i : ℕ) → i < 6 → field (formerFields 0 f) i ≡ formerAt (0 + i) (field f i) =
+        let seven : length f ≡ 7 = eqb-true (length f) 7 e in
+        let at : (i : ℕ) → i < 7 → field (formerFields 0 f) i ≡ formerAt (0 + i) (field f i) =
         (λ i h. field-former 0 i f (omega arith)) in
         rw (same-length, e, at 0 (omega arith), at 1 (omega arith), at 2 (omega arith), at 3 (omega arith))
-        (rw (at 4 (omega arith), at 5 (omega arith), value-stays (field f 3), value-stays (field f 4)))
+        (rw (
+          at 4 (omega arith),
+          at 5 (omega arith),
+          at 6 (omega arith),
+          value-stays (field f 3),
+          value-stays (field f 4),
+        ))
 
 abbrev isStop : List ℕ → Bool
 isStop line = eqb (getD line 0 0) 84 && eqb (getD line 1 0) 44

@@ -15,16 +15,23 @@ use Rattle.lines.specs.Lines.{behind}
 pub record Later (s u : Stop) : Type 0 where
   pub station : s .station ≡ u .station
   pub points : s .points ≡ u .points
+  pub mark : s .mark ≡ u .mark
   pub arrive : s .arrive ≤ u .arrive
   pub depart : s .depart ≤ u .depart
 
 later-refl : (s : Stop) → Later s s
-later-refl s = record { station = refl; points = refl; arrive = omega arith; depart = omega arith }
+later-refl s = record { station = refl; points = refl; mark = refl; arrive = omega arith; depart = omega arith }
 
 module _ (s u : Stop) (k l : Trip) where
   behind-first : T (behind (s ∷ k) (u ∷ l)) → Later s u
   behind-first t =
-      record { station = search reads; points = search reads; arrive = search reads; depart = search reads }
+      record {
+        station = search reads;
+        points = search reads;
+        mark = search reads;
+        arrive = search reads;
+        depart = search reads;
+      }
 
   behind-rest : T (behind (s ∷ k) (u ∷ l)) → T (behind k l)
   behind-rest t = search T-right
@@ -52,6 +59,7 @@ behind-trans (x ∷ u) (y ∷ v) (z ∷ w) p q =
     (record {
       station = a .station ∙ b .station;
       points = a .points ∙ b .points;
+      mark = a .mark ∙ b .mark;
       arrive = omega arith;
       depart = omega arith;
     })
@@ -63,7 +71,8 @@ behind-length [] (y ∷ v) t = absurd t
 behind-length (x ∷ u) [] t = absurd t
 behind-length (x ∷ u) (y ∷ v) t = ap suc (behind-length u v (behind-rest x y u v t))
 
--- no overtaking, at any position, in arrival or departure; and the same stations and ride penalties
+-- no overtaking, at any position, in arrival or departure; and the same stations, ride penalties
+-- and marks
 pub behind-at : (u v : Trip) → T (behind u v) → (i : ℕ) → Later (getD u i noStop) (getD v i noStop)
 behind-at [] [] t i = later-refl noStop
 behind-at [] (y ∷ v) t i = absurd t

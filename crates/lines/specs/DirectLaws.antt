@@ -10,15 +10,15 @@ use lib.Dec.{T, leb, eqb, eqb→eq}
 use lib.ListN.{length, getD}
 use Rattle.timetable.specs.Timetable.{Trip, Timetable}
 use Rattle.lists.specs.Lists.{_∈_, filter, firstOf, range}
-use Rattle.lists.specs.Tests.{reads, writes, eq→eqb}
+use Rattle.lists.specs.Tests.{T-left, T-right, reads, writes, eq→eqb}
 use Rattle.lists.specs.Members.{filter-in, filter-out, first-out, concatMap-in, concatMap-out, range-in}
 use Rattle.results.specs.Results.{costs}
 use Rattle.results.specs.Domination.{NoWorse}
 use Rattle.results.specs.Kept.{costs-covered}
-use Rattle.connections.specs.Rides.{Ride, rideIn, mayRide}
+use Rattle.connections.specs.Rides.{Ride, noStop, rideIn, mayBoard, mayAlight, mayRide}
 use Rattle.connections.specs.Connections.{Net, net, Connection, direct, onward, Feasible, arrival, penalty, cost}
 use Rattle.connections.specs.Planner.{boardable, measure, rideCount}
-use Rattle.connections.specs.RideLaws.{Taken, rides-in, rides-out}
+use Rattle.connections.specs.RideLaws.{Taken, rides-in, rides-out, board-alike, alight-alike}
 use Rattle.lines.specs.Lines.{behind, lines, course, stationOn}
 use Rattle.lines.specs.DirectRides.{directs, inTime, firstTo, firstFrom, firstOn, firstRides}
 use Rattle.lines.specs.Behind.{behind-at, behind-points}
@@ -38,12 +38,14 @@ module _ (timetable : Timetable) where
     behind-points (getD trips z []) (getD trips w []) h x y,
   )
 
-  -- where a line takes one from a to b: a place to board, and a later one to alight
+  -- where a line takes one from a to b: a place to board, and a later one to alight, both open to that
   pub record Pair (a b : ℕ) (l : List ℕ) (x y : ℕ) : Type 0 where
     pub later : x < y
     pub inside : y < length (course trips l)
     pub board : stationOn trips l x ≡ a
     pub alight : stationOn trips l y ≡ b
+    pub boards : T (mayBoard (getD (course trips l) x noStop))
+    pub alights : T (mayAlight (getD (course trips l) y noStop))
 
   pub record FirstRide (a u b : ℕ) (c : Connection) : Type 0 where
     pub line : List ℕ
@@ -86,6 +88,8 @@ module _ (timetable : Timetable) where
               inside = search reads;
               board = eqb→eq (stationOn trips l x) a (fx .1);
               alight = search reads;
+              boards = search (T-left, T-right);
+              alights = search (T-left, T-right);
             };
         first = w .1;
         is = w .2;
@@ -102,6 +106,8 @@ module _ (timetable : Timetable) where
       let at-x = range-in 0 size x (omega arith) (omega arith) in
       let at-y = range-in 0 size y (omega arith) (omega arith) in
       let to = p .alight in
+      let open-x = p .boards in
+      let open-y = p .alights in
       let boards = filter-in (boardsAt a l) at-x (eq→eqb (stationOn trips l x) a (p .board)) in
       let alights = filter-in (alightsAt b l x) at-y (search writes) in
       let ride = Memᴰ·map (λ z. direct (rideIn timetable z x y)) f in
@@ -165,10 +171,14 @@ module _ (timetable : Timetable) (a u b : ℕ) where
       let e = line-length t (f .line) z o (k .0) in
       let i = p .inside in
       let z-listed = trip-listed t z (record { line = f .line; listed = f .listed; member = k .0 }) in
-      let from = sym (line-stop t (f .line) z (f .x) o (k .0) .station) ∙ p .board in
-      let to = sym (line-stop t (f .line) z (f .y) o (k .0) .station) ∙ p .alight in
+      let at-x = line-stop t (f .line) z (f .x) o (k .0) in
+      let at-y = line-stop t (f .line) z (f .y) o (k .0) in
+      let from = sym (at-x .station) ∙ p .board in
+      let to = sym (at-y .station) ∙ p .alight in
       let timely = k .1 in
-      let listed = rides-in timetable z (f .x) (f .y) z-listed (p .later) (omega arith) in
+      let listed =
+      rides-in timetable z (f .x) (f .y) z-listed (p .later) (omega arith)
+      (board-alike _ _ (at-x .mark) (p .boards)) (alight-alike _ _ (at-y .mark) (p .alights)) in
       Memᴰ·cast (sym (f .is)) (direct-in (rideIn timetable z (f .x) (f .y)) listed (search writes))
 
   record Covered (c : Connection) : Type 0 where
@@ -226,6 +236,8 @@ module _ (timetable : Timetable) (a u b : ℕ) where
                   inside = omega arith;
                   board = line-stop t l z (k .x) o (s .member) .station ∙ ap (λ v. v .from) (k .is) ∙ from;
                   alight = line-stop t l z (k .y) o (s .member) .station ∙ ap (λ v. v .to) (k .is) ∙ to;
+                  boards = board-alike _ _ (sym (line-stop t l z (k .x) o (s .member) .mark)) (k .boards);
+                  alights = alight-alike _ _ (sym (line-stop t l z (k .y) o (s .member) .mark)) (k .alights);
                 })
                 (f .found);
             no-worse = omega arith;

@@ -1,7 +1,8 @@
 -- The lines of a timetable, section 4.1 of the 2010 paper. Document 01: "Take trips by first departure, then trip
 -- number. A trip joins the lowest-numbered line with the same stations and ride penalties whose last trip is nowhere
--- later than it, in any arrival or departure. Otherwise it founds the next line. Equal times may share a line." Here
--- trips, lines and positions stand at places from 0; as numbers they "count from 1".
+-- later than it, in any arrival or departure. Otherwise it founds the next line. Equal times may share a line."
+-- Document 02, Two: "trips of a line must agree in it", the mark of each stop. Here trips, lines and positions stand at
+-- places from 0; as numbers they "count from 1".
 use mathlib.Core.Bool.{Bool, true, false, _&&_}
 use mathlib.Core.List.{List, [], _∷_, _++_, map}
 use Prim.Native.Nat.{ℕ, suc}
@@ -11,11 +12,12 @@ use Rattle.timetable.specs.Timetable.{Stop, Trip, Timetable, numberOf}
 use Rattle.lists.specs.Lists.{filter, concatMap, range, sort}
 use Rattle.connections.specs.Rides.{noStop}
 
--- the same station and ride penalty, and s not later than u
+-- the same station, ride penalty and mark, and s not later than u
 abbrev pub stopBehind : (s u : Stop) → Bool
 stopBehind s u =
     eqb (s .station) (u .station)
     && eqb (s .points) (u .points)
+    && eqb (s .mark) (u .mark)
     && leb (s .arrive) (u .arrive)
     && leb (s .depart) (u .depart)
 
@@ -69,7 +71,7 @@ abbrev pub headOf : List ℕ → ℕ
 headOf [] = 0
 headOf (z ∷ l) = z
 
--- where a line calls: the stops of its first trip, which has the stations and ride penalties of them all
+-- where a line calls: the stops of its first trip, which has the stations, ride penalties and marks of them all
 abbrev pub course : List Trip → (line : List ℕ) → Trip
 course t l = getD t (headOf l) []
 

@@ -96,7 +96,7 @@ module _ (t : List Trip) where
   head-behind [] z o m = none m
   head-behind (x ∷ l) z o m = cons-cases m (λ e. rw e (behind-refl (trip x))) (o .ordered .0 z)
 
-  -- the trips of a line agree in length, stations and ride penalties
+  -- the trips of a line agree in length, stations, ride penalties and marks
   pub line-length : (l : List ℕ) (z : ℕ) → Line l → z ∈ l → length (course t l) ≡ length (trip z)
   line-length l z o m = behind-length (course t l) (trip z) (head-behind l z o m)
 

@@ -1,10 +1,11 @@
 -- The loops that write stations, stops and starts: each turn puts the next words after those that stand there.
-use mathlib.Core.Path.{_≡_, refl, sym, ap, _∙_}
-use mathlib.Core.List.{List, [], _∷_, _++_, map, map-append, append-nil, append-assoc}
-use Prim.Native.Nat.{ℕ, zero, suc, _+_, _-_, _*_, _%_, _≤_, _<_}
-use native.Mathlib.Nat.{zero-add}
+use mathlib.Core.Path.{_≡_, sym, ap, _∙_}
+use mathlib.Core.Bool.{Bool, true, false, cond}
+use mathlib.Core.List.{List, [], _∷_, _++_, map, map-append, append-nil}
+use Prim.Native.Nat.{ℕ, _+_, _-_, _*_, _%_, _≤_, _<_}
+use native.Mathlib.Nat.{zero-add, mod-lt}
 use native.Mathlib.Omega.{arith}
-use borrow.Author.Tests.{lt-ltb, le-ltb}
+use lib.Dec.{ltb}
 use lib.ListN.{
   length,
   getD,
@@ -16,11 +17,10 @@ use lib.ListN.{
   length-replicate,
   replicate-append-replicate,
 }
-use lib.Seq.{set-set}
-use Rattle.words.specs.Put.{put, put-append, put-more, put-one, put-next, put-over}
+use Rattle.words.specs.Put.{put, put-append, put-one, put-next, put-over}
 use Rattle.lists.specs.Lists.{range}
 use Rattle.lists.specs.Ranges.{length-range}
-use Rattle.timetable.specs.Timetable.{Stop, Trip, stopsOf}
+use Rattle.timetable.specs.Timetable.{Trip, stopsOf}
 use Rattle.timetable.specs.Words.{stationWords, stopWords, startWords}
 use Rattle.timetable.specs.WordLaws.{
   length-stationWords,
@@ -33,7 +33,7 @@ use Rattle.timetable.specs.WordLaws.{
   start-first,
 }
 use Rattle.accepted.specs.OwnWords.{range-append}
-use Rattle.lines_lookup.specs.Lookup.{stationAt, lowAt, arriveAt, departAt}
+use Rattle.lines_lookup.specs.Lookup.{stationAt, markAt, lowAt, arriveAt, departAt}
 use Rattle.lines_alone.specs.Drawn.{
   Home,
   homeOf,
@@ -83,112 +83,56 @@ module _ (n i : ℕ) (old body : List ℕ) (held : body ≡ put 0 (stationWords 
       let all : i ≡ n = omega arith in
       held ∙ ap (λ k. put 0 (stationWords (replicate k plainStation)) old) all
 
+-- ---- the ride on to the next place
+module _ (more : Bool) (here next : ℕ) where
+  pub onward-some : more ≡ true → (65536 + next - here) % 65536 ≡ cond more ((65536 + next - here) % 65536) 0
+  onward-some e = rw e
+
+  pub onward-none : more ≡ false → 0 ≡ cond more ((65536 + next - here) % 65536) 0
+  onward-none e = rw e
+
+  pub onward-small : (65536 + next - here) % 65536 < 65536
+  onward-small = mod-lt (65536 + next - here) (omega arith)
+
 -- ---- the stops of a trip
-pub stop-drawn : (v : List ℕ) (h : Home) (p points at a b c : ℕ) (old out : List ℕ) → a ≡ stationAt v (h .line) p
-    → b ≡ arriveAt v (h .line) p (h .place) → c ≡ departAt v (h .line) p (h .place)
-    → out ≡ put at (a ∷ b ∷ c ∷ points ∷ []) old
+pub stop-drawn : (v : List ℕ) (h : Home) (p points at a b c m : ℕ) (old out : List ℕ) → a ≡ stationAt v (h .line) p
+    → b ≡ arriveAt v (h .line) p (h .place) → c ≡ departAt v (h .line) p (h .place) → m ≡ markAt v (h .line) p
+    → out ≡ put at (a ∷ b ∷ c ∷ points ∷ m ∷ []) old
     → out ≡ put at (stopWords (stopWith v h p points ∷ [])) old
 unfolding stopWords
-stop-drawn v h p points at a b c old out is-a is-b is-c wrote =
-    wrote ∙ (λ z. put at (is-a z ∷ is-b z ∷ is-c z ∷ points ∷ []) old)
-
--- the stop at place p, as if a ride went on from it
-abbrev pub stopOnward : List ℕ → Home → (p : ℕ) → Stop
-stopOnward v h p = stopWith v h p ((65536 + lowAt v (h .line) (p + 1) - lowAt v (h .line) p) % 65536)
-
-module _ (v : List ℕ) (h : Home) where
-  onward-same : (p : ℕ) → p + 1 < (h .line) .positions → stopOnward v h p ≡ stopOn v h p
-  unfolding nextPoints
-  onward-same p more = rw (lt-ltb (p + 1) ((h .line) .positions) more)
-
-  last-same : (p : ℕ) → (h .line) .positions ≤ p + 1 → stopWith v h p 0 ≡ stopOn v h p
-  unfolding nextPoints
-  last-same p last = rw (le-ltb (p + 1) ((h .line) .positions) last)
-
-  onward-all : (k n : ℕ) → k + n < (h .line) .positions
-      → map (stopOnward v h) (range k n) ≡ map (stopOn v h) (range k n)
-  onward-all k zero less = refl
-  onward-all k (suc n) less =
-      let this = onward-same k (omega arith) in
-      let rest = onward-all (suc k) n (omega arith) in
-      λ i. this i ∷ rest i
+stop-drawn v h p points at a b c m old out is-a is-b is-c is-m wrote =
+    wrote ∙ (λ z. put at (is-a z ∷ is-b z ∷ is-c z ∷ points ∷ is-m z ∷ []) old)
 
 module _ (v : List ℕ) (h : Home) (p at : ℕ) (old body : List ℕ)
-    (held : body ≡ put at (stopWords (map (stopOnward v h) (range 0 p))) old)
-    (room : at + 4 * (h .line) .positions ≤ length old) where
-  words-long : (n : ℕ) → length (stopWords (map (stopOnward v h) (range 0 n))) ≡ 4 * n
+    (held : body ≡ put at (stopWords (map (stopOn v h) (range 0 p))) old)
+    (room : at + 5 * (h .line) .positions ≤ length old) where
+  words-long : (n : ℕ) → length (stopWords (map (stopOn v h) (range 0 n))) ≡ 5 * n
   words-long n =
-      let those = map (stopOnward v h) (range 0 n) in
+      let those = map (stopOn v h) (range 0 n) in
       length-stopWords those
-      ∙ ap (λ k. 4 * k) (length-map (range 0 n) (stopOnward v h) ∙ length-range 0 n)
+      ∙ ap (λ k. 5 * k) (length-map (range 0 n) (stopOn v h) ∙ length-range 0 n)
 
   -- the low words of two totals, one less the other
   pub stop-more : p < (h .line) .positions → (here next d : ℕ) → here ≡ lowAt v (h .line) p
-      → next ≡ lowAt v (h .line) (p + 1) → d ≡ (65536 + next - here) % 65536 → (out : List ℕ)
-      → out ≡ put (at + 4 * p) (stopWords (stopWith v h p d ∷ [])) body
-      → out ≡ put at (stopWords (map (stopOnward v h) (range 0 (p + 1)))) old
+      → next ≡ lowAt v (h .line) (p + 1)
+      → d ≡ cond (ltb (p + 1) ((h .line) .positions)) ((65536 + next - here) % 65536) 0 → (out : List ℕ)
+      → out ≡ put (at + 5 * p) (stopWords (stopWith v h p d ∷ [])) body
+      → out ≡ put at (stopWords (map (stopOn v h) (range 0 (p + 1)))) old
+  unfolding nextPoints
   stop-more more here next d is-here is-next is-d out wrote =
-      let so-far = map (stopOnward v h) (range 0 p) in
-      let points = is-d ∙ (λ i. (65536 + is-next i - is-here i) % 65536) in
-      put-behind at (4 * p) (stopWords so-far) (stopWords (stopOnward v h p ∷ [])) _ old body out held (words-long p)
+      let so-far = map (stopOn v h) (range 0 p) in
+      let points =
+      is-d ∙ (λ i. cond (ltb (p + 1) ((h .line) .positions)) ((65536 + is-next i - is-here i) % 65536) 0) in
+      put-behind at (5 * p) (stopWords so-far) (stopWords (stopOn v h p ∷ [])) _ old body out held (words-long p)
       (omega arith)
-      (wrote ∙ ap (λ d. put (at + 4 * p) (stopWords (stopWith v h p d ∷ [])) body) points)
-      (sym (stopWords-append so-far (stopOnward v h p ∷ [])) ∙ ap stopWords (map-next (stopOnward v h) p))
+      (wrote ∙ ap (λ d. put (at + 5 * p) (stopWords (stopWith v h p d ∷ [])) body) points)
+      (sym (stopWords-append so-far (stopOn v h p ∷ [])) ∙ ap stopWords (map-next (stopOn v h) p))
 
-  pub stops-none : p ≤ 0 → p ≤ (h .line) .positions → (h .line) .positions ≤ p
-      → body ≡ put at (stopWords (tripOn v h)) old
+  pub stops-done : p ≤ (h .line) .positions → (h .line) .positions ≤ p → body ≡ put at (stopWords (tripOn v h)) old
   unfolding tripOn
-  stops-none none less least =
-      let no-stops : 0 ≡ p = omega arith in
-      let all : 0 ≡ (h .line) .positions = omega arith in
-      held
-      ∙ ap (λ k. put at (stopWords (map (stopOnward v h) (range 0 k))) old) (sym no-stops)
-      ∙ ap (λ k. put at (stopWords (map (stopOn v h) (range 0 k))) old) all
-
-  -- no ride goes on from the last stop
-  module _ (some : 0 < p) (less : p ≤ (h .line) .positions) (least : (h .line) .positions ≤ p) where
-    abbrev m : ℕ
-    m = p - 1
-
-    abbrev before : List Stop
-    before = map (stopOnward v h) (range 0 m)
-
-    -- all words but the last
-    abbrev but-last : List ℕ
-    but-last =
-        stopWords before
-        ++ (stationAt v (h .line) m ∷ arriveAt v (h .line) m (h .place) ∷ departAt v (h .line) m (h .place) ∷ [])
-
-    next-is : m + 1 ≡ p
-    next-is = omega arith
-
-    with-last : (d : ℕ) → but-last ++ (d ∷ []) ≡ stopWords (before ++ (stopWith v h m d ∷ []))
-    unfolding stopWords
-    with-last d = append-assoc (stopWords before) _ (d ∷ []) ∙ sym (stopWords-append before (stopWith v h m d ∷ []))
-
-    last-set : (d : ℕ)
-        → set (put at but-last old) (at + (4 * m + 3)) d ≡ put at (stopWords (before ++ (stopWith v h m d ∷ []))) old
-    last-set d =
-        let long : length but-last ≡ 4 * m + 3 = length-append (stopWords before) _ ∙ ap (λ k. k + 3) (words-long m) in
-        put-more at (4 * m + 3) but-last old d long (omega arith) ∙ ap (λ w. put at w old) (with-last d)
-
-    pub last-stop : set body (at + 4 * p - 1) 0 ≡ put at (stopWords (tripOn v h)) old
-    unfolding tripOn
-    last-stop =
-        let place : at + 4 * p - 1 ≡ at + (4 * m + 3) = omega arith in
-        let ends : m + 1 ≡ (h .line) .positions = omega arith in
-        let points = (65536 + lowAt v (h .line) (m + 1) - lowAt v (h .line) m) % 65536 in
-        let all = ap (λ k. map (stopOnward v h) (range 0 k)) (sym next-is) ∙ sym (map-next (stopOnward v h) m) in
-        let same : before ++ (stopWith v h m 0 ∷ []) ≡ map (stopOn v h) (range 0 ((h .line) .positions)) =
-        (λ i. onward-all v h 0 m (omega arith) i ++ (last-same v h m (omega arith) i ∷ []))
-        ∙ map-next (stopOn v h) m
-        ∙ ap (λ k. map (stopOn v h) (range 0 k)) ends in
-        ap (λ i. set body i 0) place
-        ∙ ap (λ l. set l (at + (4 * m + 3)) 0)
-        (held ∙ ap (λ l. put at (stopWords l) old) all ∙ sym (last-set points))
-        ∙ set-set (put at but-last old) (at + (4 * m + 3)) points 0
-        ∙ last-set 0
-        ∙ ap (λ l. put at (stopWords l) old) same
+  stops-done less least =
+      let all : p ≡ (h .line) .positions = omega arith in
+      held ∙ ap (λ k. put at (stopWords (map (stopOn v h) (range 0 k))) old) all
 
 -- ---- all trips
 -- the first start is written before the trips are, and is part of what is written in all
@@ -249,19 +193,19 @@ module _ (v : List ℕ) (trips z count : ℕ) (counted : count ≡ length (stops
     pub next-small : length (stopsOf (drawnTrips v 0 trips)) ≤ 2048 → count + (h .line) .positions < 65536
     next-small few = omega (arith, next-within)
 
-    module _ (at : ℕ) (old body : List ℕ) (room : at + 4 * length (stopsOf (drawnTrips v 0 trips)) ≤ length old) where
-      pub next-room : length body ≡ length old → at + 4 * count + 4 * (h .line) .positions ≤ length body
+    module _ (at : ℕ) (old body : List ℕ) (room : at + 5 * length (stopsOf (drawnTrips v 0 trips)) ≤ length old) where
+      pub next-room : length body ≡ length old → at + 5 * count + 5 * (h .line) .positions ≤ length body
       next-room kept = omega (arith, next-within)
 
       pub trip-more : body ≡ put at (stopWords (stopsOf (drawnTrips v 0 z))) old → (out : List ℕ)
-          → out ≡ put (at + 4 * count) (stopWords (tripOn v h)) body
+          → out ≡ put (at + 5 * count) (stopWords (tripOn v h)) body
           → out ≡ put at (stopWords (stopsOf (drawnTrips v 0 (z + 1)))) old
       trip-more held out wrote =
-          let long : length (stopWords (stopsOf those)) ≡ 4 * count =
-          length-stopWords (stopsOf those) ∙ ap (λ k. 4 * k) (sym counted) in
-          put-behind at (4 * count) (stopWords (stopsOf those)) (stopWords (drawnTrip v z)) _ old body out held long
+          let long : length (stopWords (stopsOf those)) ≡ 5 * count =
+          length-stopWords (stopsOf those) ∙ ap (λ k. 5 * k) (sym counted) in
+          put-behind at (5 * count) (stopWords (stopsOf those)) (stopWords (drawnTrip v z)) _ old body out held long
           (omega (arith, next-within))
-          (wrote ∙ ap (λ t. put (at + 4 * count) (stopWords t) body) (sym next-trip))
+          (wrote ∙ ap (λ t. put (at + 5 * count) (stopWords t) body) (sym next-trip))
           (sym (stopWords-append (stopsOf those) (drawnTrip v z)) ∙ ap stopWords next-stops)
 
     pub start-more : (old starts : List ℕ) → starts ≡ put 0 (startWords 0 (drawnTrips v 0 z)) old

@@ -37,15 +37,15 @@ module _ (v : List ℕ) (fit : countsFit v ≡ true) where
   pub few-stations : (s : ℕ) → s ≡ getD v 0 0 → s ≤ 64
   few-stations s is = omega (arith, they-fit v fit .stations)
 
-  pub stations-room : (s : ℕ) → s ≡ getD v 0 0 → 2 * s ≤ 8320
+  pub stations-room : (s : ℕ) → s ≡ getD v 0 0 → 2 * s ≤ 10368
   stations-room s is = omega (arith, few-stations s is)
 
   module _ (t : ℕ) (few : length (stopsOf (drawnTrips v 0 t)) ≤ 2048) where
     pub few-counted : (n : ℕ) → n ≡ length (stopsOf (drawnTrips v 0 t)) → n ≤ 2048
     few-counted n e = omega (arith, few)
 
-    pub stops-room : (s : ℕ) → s ≡ getD v 0 0 → (body : List ℕ) → length body ≡ 8320
-        → 2 * s + 4 * length (stopsOf (drawnTrips v 0 t)) ≤ length body
+    pub stops-room : (s : ℕ) → s ≡ getD v 0 0 → (body : List ℕ) → length body ≡ 10368
+        → 2 * s + 5 * length (stopsOf (drawnTrips v 0 t)) ≤ length body
     stops-room s is-s body long = omega (arith, few, few-stations s is-s)
 
 -- ---- what is drawn
@@ -72,7 +72,7 @@ module _ (v : List ℕ) (s t n : ℕ) (is-s : s ≡ getD v 0 0) (counts : n ≡ 
   numbers-held = sym (take-append-drop t numbers) ∙ (λ i. told i ++ drop (is-t i) numbers) ∙ rw zero-add
 
   pub drawn-written : (zeros mid body zeros₂ starts old out : List ℕ)
-      → 2 * s + 4 * length (stopsOf (drawnTrips v 0 t)) ≤ length zeros
+      → 2 * s + 5 * length (stopsOf (drawnTrips v 0 t)) ≤ length zeros
       → mid ≡ put 0 (stationWords (replicate s plainStation)) zeros
       → body ≡ put (2 * s) (stopWords (stopsOf (drawnTrips v 0 t))) mid
       → starts ≡ put 0 (startWords 0 (drawnTrips v 0 t)) zeros₂

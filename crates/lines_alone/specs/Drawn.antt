@@ -10,7 +10,8 @@ use Rattle.lists.specs.Lists.{filter, range}
 use Rattle.questions.specs.Question.{ask, firstNo}
 use Rattle.timetable.specs.Timetable.{Station, Stop, Trip, Timetable, numberMost, valid}
 use Rattle.lines_tables.specs.Building.{slicesLeast}
-use Rattle.lines_lookup.specs.Lookup.{Line, lineCount, lineAt, numberAt, stationAt, lowAt, arriveAt, departAt}
+use Rattle.lines_lookup.specs.Lookup.{Line, lineCount, lineAt, numberAt, stationAt, markAt, lowAt, arriveAt}
+use Rattle.lines_lookup.specs.Lookup.{departAt}
 use Rattle.lines_lookup.specs.First.{firstFrom}
 use Rattle.lines_check.specs.Question10.{begins}
 use Rattle.lines_alone.specs.declared.Home.{Home as HomeStruct}
@@ -63,6 +64,7 @@ stopWith v h p points =
       arrive = arriveAt v (h .line) p (h .place);
       depart = departAt v (h .line) p (h .place);
       points = points;
+      mark = markAt v (h .line) p;
     }
 
 abbrev pub stopOn : List ℕ → Home → (p : ℕ) → Stop

@@ -40,6 +40,7 @@ use Rattle.lines_tables.specs.Spelled.{within}
 use Rattle.lines_lookup.specs.Lookup.{lineCount, lineAt, numberAt}
 use Rattle.lines_lookup.specs.First.{firstFrom}
 use Rattle.lines_lookup.specs.Told.{LineTold, Told}
+use Rattle.lines_lookup.specs.Marked.{line-station, line-mark, station-few}
 use Rattle.lines_alone.specs.Drawn.{
   Home,
   placeOn,
@@ -329,6 +330,7 @@ module _ (v : List ℕ) (timetable : Timetable) (told : Told v timetable) where
 
   -- ---- the trip that is drawn there is the timetable's
   module _ (number : ℕ) (home : Homed v timetable number)
+      (okay : valid timetable ≡ true)
       (sound : validTrip (length (timetable .stations)) (getD t (tripAt number home) []) ≡ true) where
     abbrev n : ℕ
     n = length (timetable .stations)
@@ -376,11 +378,13 @@ module _ (v : List ℕ) (timetable : Timetable) (told : Told v timetable) where
         let on = home .on in
         let course-stop = line-stop t line z p good member in
         let inside : p < length (course t line) = omega (arith, long) in
-        let station = line-told .station p inside ∙ course-stop .station in
+        let few = station-few timetable okay (home .line) (home .listed) p inside in
+        let station = line-station v timetable (home .line) line line-told p inside few ∙ course-stop .station in
+        let mark = line-mark v timetable (home .line) line line-told p inside few ∙ course-stop .mark in
         let points = points-drawn p h in
         let arrive = line-told .arrive p j inside on in
         let depart = line-told .depart p j inside on in
-        λ i. record { station = station i; arrive = arrive i; depart = depart i; points = points i }
+        λ i. record { station = station i; arrive = arrive i; depart = depart i; points = points i; mark = mark i }
 
     drawn-there : tripOn v (homeOf v number) ≡ trip
     unfolding tripOn
@@ -428,7 +432,7 @@ module _ (v : List ℕ) (timetable : Timetable) (told : Told v timetable) where
         let is : tripAt number home ≡ z = number-unique timetable ok (tripAt number home) z there h (home .same) in
         let sound = trip-valid (length (timetable .stations)) t (tripAt number home) [] all-valid there in
         ap (λ l. tripOn v (homeOf v (getD l z 0))) numbers-drawn
-        ∙ drawn-there number home sound
+        ∙ drawn-there number home (T-true (valid timetable) ok) sound
         ∙ ap (λ k. getD t k []) is
 
 -- ---- what is drawn: numbers and trips of the timetable, and as many stations, which say nothing of changes

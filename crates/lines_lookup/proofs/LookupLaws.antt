@@ -1,17 +1,17 @@
 -- A word that was looked up is the one that Lookup names.
 use mathlib.Core.Path.{_≡_, refl, sym, ap, _∙_}
-use mathlib.Core.Bool.{Bool, true, false}
+use mathlib.Core.Bool.{Bool, true, false, not}
 use mathlib.Core.List.{List, [], _∷_}
-use Prim.Native.Nat.{ℕ, suc, _+_, _-_, _*_, _≤_, _<_}
-use native.Mathlib.Nat.{mul-le-mul}
+use Prim.Native.Nat.{ℕ, suc, _+_, _-_, _*_, _%_, _/_, _≤_, _<_}
+use native.Mathlib.Nat.{mul-le-mul, mod-lt, div-le-self}
 use native.Mathlib.Numerals.{add-one}
 use native.Mathlib.Omega.{arith}
 use borrow.Author.Tests.{le-leb, lt-leb, lt-ltb, le-ltb}
-use lib.Dec.{ltb}
+use lib.Dec.{ltb, eqb}
 use lib.ListN.{length, getD, drop, length-take, length-drop}
 use lib.Seq.{slice, slice-cons, take-all}
-use Rattle.lines_lookup.specs.Lookup.{Line, lowAt, totalAt, timesPlace, arriveAt, departAt, callsPlace}
-use Rattle.lines_lookup.specs.Lookup.{listOf, lineAt}
+use Rattle.lines_lookup.specs.Lookup.{Line, wordAt, stationAt, markAt, boardsAt, alightsAt, lowAt, totalAt}
+use Rattle.lines_lookup.specs.Lookup.{timesPlace, arriveAt, departAt, callsPlace, listOf, lineAt}
 use Rattle.lines_lookup.specs.Calls.{Call, Piece, callAt, pairsOf, callsOf, callsIn, Inside, later, after}
 
 module _ (p trips : ℕ) where
@@ -38,6 +38,32 @@ line-is v i a p n e f g =
     let h = f ∙ ap (λ k. getD v k 0) e in
     let k = g ∙ ap (λ k. getD v (k + 1) 0) e in
     λ z. record { at = e z; positions = h z; trips = k z }
+
+-- ---- a word holds station and mark
+module _ (v : List ℕ) (l : Line) (p word : ℕ) (is : word ≡ wordAt v l p) where
+  pub station-is : word % 128 ≡ stationAt v l p
+  unfolding stationAt
+  station-is = ap (λ n. n % 128) is
+
+  pub mark-is : word / 128 ≡ markAt v l p
+  unfolding markAt
+  mark-is = ap (λ n. n / 128) is
+
+module _ (word : ℕ) (few : word < 65536) where
+  pub station-small : word % 128 < 65536
+  station-small = omega (arith, mod-lt word {m = 128} (omega arith))
+
+  pub mark-small : word / 128 < 65536
+  mark-small = omega (arith, div-le-self word 128)
+
+module _ (v : List ℕ) (l : Line) (p mark : ℕ) (is : mark ≡ markAt v l p) where
+  pub boards-is : not (eqb mark 2) ≡ boardsAt v l p
+  unfolding boardsAt
+  boards-is = ap (λ m. not (eqb m 2)) is
+
+  pub alights-is : not (eqb mark 1) ≡ alightsAt v l p
+  unfolding alightsAt
+  alights-is = ap (λ m. not (eqb m 1)) is
 
 -- ---- a total has two words
 module _ (v : List ℕ) (l : Line) (p low high : ℕ)

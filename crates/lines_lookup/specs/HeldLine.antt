@@ -11,15 +11,16 @@ use Rattle.lists.specs.Lists.{concatMap, range}
 use Rattle.lists.specs.Ranges.{length-range}
 use Rattle.timetable.specs.Timetable.{Trip, Timetable, numberOf}
 use Rattle.connections.specs.Rides.{noStop}
-use Rattle.lines.specs.Lines.{course, stationOn}
-use Rattle.lines_tables.specs.Tables.{stopOf, timeRow, lineTimes, totalOn, positionWords, courseWords, lineWords}
+use Rattle.lines.specs.Lines.{course}
+use Rattle.lines_tables.specs.Tables.{stopOf, timeRow, lineTimes, callWord, totalOn, positionWords}
+use Rattle.lines_tables.specs.Tables.{courseWords, lineWords}
 use Rattle.lines_lookup.specs.Lookup.{
   Line,
   linePlace,
   lineAt,
   numberAt,
   coursePlace,
-  stationAt,
+  wordAt,
   lowAt,
   totalAt,
   timesPlace,
@@ -42,7 +43,7 @@ use Rattle.lines_lookup.specs.Places.{
 -- ---- the course: three words for each position
 module _ (c : Trip) where
   abbrev position : (p : ℕ) → List ℕ
-  position p = positionWords ((getD c p noStop) .station) (totalOn c p)
+  position p = positionWords (callWord (getD c p noStop)) (totalOn c p)
 
   position-place : (p : ℕ) → p < length c → rowPlace position (range 0 (length c)) p ≡ 3 * p
   position-place p h =
@@ -160,9 +161,9 @@ module _ (v : List ℕ) (timetable : Timetable) (i : ℕ) (l : List ℕ)
         (subst (λ n. Stands (position (course t l) (getD places p 0)) v (coursePlace line + n))
         (position-place (course t l) p h) row)
 
-    station-told : stationAt v line p ≡ stationOn t l p
-    unfolding stationAt
-    station-told =
+    word-told : wordAt v line p ≡ callWord (getD (course t l) p noStop)
+    unfolding wordAt
+    word-told =
         ap (λ k. getD v k 0) (omega arith)
         ∙ word-at (position (course t l) p) v (coursePlace line + 3 * p) position-stands 0 (omega arith)
 
@@ -220,7 +221,7 @@ module _ (v : List ℕ) (timetable : Timetable) (i : ℕ) (l : List ℕ)
         positions = positions-told;
         trips = trips-told;
         number = number-told;
-        station = station-told;
+        word = word-told;
         low = low-told;
         total = total-told;
         arrive = (λ p j h g. arrive-told p h j g);

@@ -2,6 +2,7 @@ pub mod Lookup
 pub mod First
 pub mod Calls
 pub mod Told
+pub mod Marked
 pub mod Places
 pub mod HeldLine
 pub mod Holding

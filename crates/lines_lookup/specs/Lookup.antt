@@ -1,10 +1,10 @@
 -- Line tables by their words (docs/LAYOUT.md): where each line's words begin and what stands there, and the lists of
 -- stations. A word past the end of the slice counts as 0, so that all of this is said of any words. Lines, positions
 -- and trips of a line stand at places from 0.
-use mathlib.Core.Bool.{cond, _&&_}
+use mathlib.Core.Bool.{Bool, cond, not, _&&_}
 use mathlib.Core.List.{List, []}
-use Prim.Native.Nat.{ℕ, _+_, _-_, _*_}
-use lib.Dec.{leb}
+use Prim.Native.Nat.{ℕ, _+_, _-_, _*_, _%_, _/_}
+use lib.Dec.{leb, eqb}
 use lib.ListN.{getD}
 use lib.Seq.{slice}
 use Rattle.lines_lookup.specs.declared.Line.{Line as LineStruct}
@@ -34,10 +34,24 @@ numberAt v l j = getD v (l .at + 2 + j) 0
 abbrev pub coursePlace : Line → ℕ
 coursePlace l = l .at + 2 + l .trips
 
--- station, low word of the total, and total at the position at place p
-unfoldable pub stationAt : List ℕ → Line → (p : ℕ) → ℕ
-stationAt v l p = getD v (coursePlace l + 3 * p) 0
+-- the word of station and mark at the position at place p, and each of the two
+unfoldable pub wordAt : List ℕ → Line → (p : ℕ) → ℕ
+wordAt v l p = getD v (coursePlace l + 3 * p) 0
 
+unfoldable pub stationAt : List ℕ → Line → (p : ℕ) → ℕ
+stationAt v l p = wordAt v l p % 128
+
+unfoldable pub markAt : List ℕ → Line → (p : ℕ) → ℕ
+markAt v l p = wordAt v l p / 128
+
+-- Document 02, Two: "0 both, 1 boarding only, 2 setting down only"
+unfoldable pub boardsAt : List ℕ → Line → (p : ℕ) → Bool
+boardsAt v l p = not (eqb (markAt v l p) 2)
+
+unfoldable pub alightsAt : List ℕ → Line → (p : ℕ) → Bool
+alightsAt v l p = not (eqb (markAt v l p) 1)
+
+-- low word of the total, and total
 unfoldable pub lowAt : List ℕ → Line → (p : ℕ) → ℕ
 lowAt v l p = getD v (coursePlace l + 3 * p + 1) 0
 

@@ -7,15 +7,15 @@ use native.Mathlib.Omega.{arith}
 use lib.ListN.{length, getD, take}
 use lib.Seq.{slice}
 use Rattle.timetable.specs.Timetable.{Timetable, numberOf}
-use Rattle.connections.specs.Rides.{ridePoints}
+use Rattle.connections.specs.Rides.{noStop, ridePoints}
 use Rattle.connections.specs.RideLaws.{points-split}
-use Rattle.lines.specs.Lines.{lines, course, stationOn}
-use Rattle.lines_tables.specs.Tables.{stopOf, totalOn, callPairs, tableWords}
+use Rattle.lines.specs.Lines.{lines, course}
+use Rattle.lines_tables.specs.Tables.{stopOf, callWord, totalOn, callPairs, tableWords}
 use Rattle.lines_lookup.specs.Lookup.{
   lineCount,
   lineAt,
   numberAt,
-  stationAt,
+  wordAt,
   lowAt,
   totalAt,
   pointsBetween,
@@ -29,7 +29,8 @@ pub record LineTold (v : List ℕ) (t : Timetable) (i : ℕ) (l : List ℕ) : Ty
   pub positions : (lineAt v i) .positions ≡ length (course (t .trips) l)
   pub trips : (lineAt v i) .trips ≡ length l
   pub number : (j : ℕ) → j < length l → numberAt v (lineAt v i) j ≡ numberOf t (getD l j 0)
-  pub station : (p : ℕ) → p < length (course (t .trips) l) → stationAt v (lineAt v i) p ≡ stationOn (t .trips) l p
+  pub word : (p : ℕ) → p < length (course (t .trips) l)
+      → wordAt v (lineAt v i) p ≡ callWord (getD (course (t .trips) l) p noStop)
   pub low : (p : ℕ) → p < length (course (t .trips) l)
       → lowAt v (lineAt v i) p ≡ totalOn (course (t .trips) l) p % 65536
   pub total : (p : ℕ) → p < length (course (t .trips) l) → totalAt v (lineAt v i) p ≡ totalOn (course (t .trips) l) p

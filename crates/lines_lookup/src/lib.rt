@@ -7,7 +7,11 @@ ghost use Rattle.lines_lookup.specs.Calls.{callAt, callsOf, callsIn, Ins
 ghost use Rattle.lines_lookup.specs.Lookup.{
   lineAt,
   numberAt,
+  wordAt,
   stationAt,
+  markAt,
+  boardsAt,
+  alightsAt,
   lowAt,
   totalAt,
   timesPlace,
@@ -21,6 +25,13 @@ use results::Points;
 const POSITION_WORDS: usize = lines_tables::POSITION_WORDS;
 
 const WORD_VALUES: usize = lines_tables::WORD_VALUES as usize;
+
+const MARK_UNIT: usize = lines_tables::MARK_UNIT as usize;
+
+// The marks that close a stop to one of the two.
+const BOARDING_ONLY: usize = 1;
+
+const SETTING_DOWN_ONLY: usize = 2;
 
 // A line: where its words begin, its positions and its trips.
 pub struct Line {
@@ -83,12 +94,44 @@ pub fn number_at(v: &[u16], l: Line, j: usize) -> usize
     peek(v, l.at + 2 + j)
 }
 
+// The word of station and mark at place p of a line.
+fn word_at(v: &[u16], l: Line, p: usize) -> usize
+    requires { ⌜ (l .at < 65536) × (l .trips < 65536) × (p < 65536) ⌝ }
+    ensures { λ r. ⌜ (r ≡ wordAt (now (v .entry)) l p) × (r < 65536) ⌝ }
+{
+    peek(v, l.at + 2 + l.trips + POSITION_WORDS * p)
+}
+
 // The station at place p of a line.
 pub fn station_at(v: &[u16], l: Line, p: usize) -> usize
     requires { ⌜ (l .at < 65536) × (l .trips < 65536) × (p < 65536) ⌝ }
     ensures { λ r. ⌜ (r ≡ stationAt (now (v .entry)) l p) × (r < 65536) ⌝ }
 {
-    peek(v, l.at + 2 + l.trips + POSITION_WORDS * p)
+    word_at(v, l, p) % MARK_UNIT
+}
+
+// The mark at place p of a line.
+pub fn mark_at(v: &[u16], l: Line, p: usize) -> usize
+    requires { ⌜ (l .at < 65536) × (l .trips < 65536) × (p < 65536) ⌝ }
+    ensures { λ r. ⌜ (r ≡ markAt (now (v .entry)) l p) × (r < 65536) ⌝ }
+{
+    word_at(v, l, p) / MARK_UNIT
+}
+
+// Whether riders may board at place p of a line.
+pub fn may_board(v: &[u16], l: Line, p: usize) -> bool
+    requires { ⌜ (l .at < 65536) × (l .trips < 65536) × (p < 65536) ⌝ }
+    ensures { λ r. ⌜ r ≡ boardsAt (now (v .entry)) l p ⌝ }
+{
+    mark_at(v, l, p) != SETTING_DOWN_ONLY
+}
+
+// Whether riders may alight at place p of a line.
+pub fn may_alight(v: &[u16], l: Line, p: usize) -> bool
+    requires { ⌜ (l .at < 65536) × (l .trips < 65536) × (p < 65536) ⌝ }
+    ensures { λ r. ⌜ r ≡ alightsAt (now (v .entry)) l p ⌝ }
+{
+    mark_at(v, l, p) != BOARDING_ONLY
 }
 
 // The low word of the total at place p of a line.

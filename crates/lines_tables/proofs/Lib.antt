@@ -6,7 +6,6 @@ pub mod HoldLaws
 pub mod SectionLaws
 pub mod BlocksLaws
 pub mod FillLaws
-pub mod PlaceLaws
 pub mod CallLaws
 pub mod StationLaws
 pub mod PairLaws

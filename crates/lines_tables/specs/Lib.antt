@@ -7,3 +7,4 @@ pub mod Fits
 pub mod Filling
 pub mod Narrow
 pub mod Building
+pub mod PlaceLaws

@@ -13,7 +13,7 @@ use Rattle.timetable.specs.Words.{stationCount, tripCount, stopAt, startAt, num
 use Rattle.lines.specs.Lines.{lines, headOf}
 use Rattle.lines.specs.Once.{onLines}
 use Rattle.lines_found.specs.Grouped.{endsFrom}
-use Rattle.lines_tables.specs.Tables.{positionWords}
+use Rattle.lines_tables.specs.Tables.{callWord, positionWords}
 
 -- the stop at place p of trip z
 abbrev pub callAt : List ℕ → (z p : ℕ) → Stop
@@ -39,9 +39,9 @@ unfoldable pub totalAt : List ℕ → (z p : ℕ) → ℕ
 totalAt w z zero = 0
 totalAt w z (suc p) = totalAt w z p + (callAt w z p) .points
 
--- station and total of trip z, for n places from k on
+-- station, mark and total of trip z, for n places from k on
 unfoldable pub courseAt : List ℕ → (z k n : ℕ) → List ℕ
-courseAt w z k n = concatMap (λ p. positionWords ((callAt w z p) .station) (totalAt w z p)) (range k n)
+courseAt w z k n = concatMap (λ p. positionWords (callWord (callAt w z p)) (totalAt w z p)) (range k n)
 
 -- the numbers of the trips of a line
 unfoldable pub numbersAt : List ℕ → (line : List ℕ) → List ℕ

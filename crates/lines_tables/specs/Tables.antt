@@ -3,7 +3,7 @@
 -- line is listed twice."; "The trips of one line are handed out as the piece of the line tables that holds them".
 use mathlib.Core.Bool.{Bool, true, false, cond}
 use mathlib.Core.List.{List, [], _∷_, _++_, map}
-use Prim.Native.Nat.{ℕ, zero, suc, _+_, _%_, _/_}
+use Prim.Native.Nat.{ℕ, zero, suc, _+_, _*_, _%_, _/_}
 use lib.ListN.{length, getD}
 use Rattle.lists.specs.Lists.{concatMap, range}
 use Rattle.timetable.specs.Timetable.{Stop, Trip, Timetable, numberOf}
@@ -28,13 +28,17 @@ lineTimes t line =
 abbrev pub totalOn : Trip → (p : ℕ) → ℕ
 totalOn c p = ridePoints c 0 p
 
--- the words of a position: its station, and the total there, low word first
-abbrev pub positionWords : (station total : ℕ) → List ℕ
-positionWords station total = station ∷ total % 65536 ∷ total / 65536 ∷ []
+-- Document 02, Two: "The mark is kept with the stop". Station and mark have one word: stations are below 128.
+abbrev pub callWord : Stop → ℕ
+callWord s = s .station + 128 * s .mark
+
+-- the words of a position: its station and mark, and the total there, low word first
+abbrev pub positionWords : (call total : ℕ) → List ℕ
+positionWords call total = call ∷ total % 65536 ∷ total / 65536 ∷ []
 
 unfoldable pub courseWords : Trip → List ℕ
 courseWords c =
-    concatMap (λ p. positionWords ((getD c p noStop) .station) (totalOn c p)) (range 0 (length c))
+    concatMap (λ p. positionWords (callWord (getD c p noStop)) (totalOn c p)) (range 0 (length c))
 
 -- all words of one line: positions, trips, the trips' numbers, the course, the times
 unfoldable pub lineWords : Timetable → (line : List ℕ) → List ℕ

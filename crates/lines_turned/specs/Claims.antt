@@ -17,6 +17,7 @@ use Rattle.lines_lookup.specs.Lookup.{
   lineAt,
   numberAt,
   stationAt,
+  markAt,
   lowAt,
   totalAt,
   arriveAt,
@@ -41,6 +42,7 @@ pub record SameLine (v u : List ℕ) (i : ℕ) : Type 0 where
   pub line : lineAt u i ≡ lineAt v i
   pub number : (j : ℕ) → j < (lineAt v i) .trips → numberAt u (lineAt u i) j ≡ numberAt v (lineAt v i) j
   pub station : (p : ℕ) → p < (lineAt v i) .positions → stationAt u (lineAt u i) p ≡ stationAt v (lineAt v i) p
+  pub mark : (p : ℕ) → p < (lineAt v i) .positions → markAt u (lineAt u i) p ≡ markAt v (lineAt v i) p
   pub low : (p : ℕ) → p < (lineAt v i) .positions → lowAt u (lineAt u i) p ≡ lowAt v (lineAt v i) p
   pub total : (p : ℕ) → p < (lineAt v i) .positions → totalAt u (lineAt u i) p ≡ totalAt v (lineAt v i) p
   pub arrive : (p j : ℕ) → p < (lineAt v i) .positions → j < (lineAt v i) .trips

@@ -18,6 +18,7 @@ use Rattle.lines_tables.specs.Tables.{
   timeRow,
   lineTimes,
   totalOn,
+  callWord,
   positionWords,
   courseWords,
   lineWords,
@@ -96,7 +97,7 @@ module _ (timetable : Timetable) where
   unfolding courseWords
   length-lineFront line =
       let c = course t line in
-      let position : ℕ → List ℕ = λ p. positionWords ((getD c p noStop) .station) (totalOn c p) in
+      let position : ℕ → List ℕ = λ p. positionWords (callWord (getD c p noStop)) (totalOn c p) in
       omega (
         arith,
         length-append (map (numberOf timetable) line) (concatMap position (range 0 (length c))),

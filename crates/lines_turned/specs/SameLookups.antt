@@ -3,7 +3,7 @@
 use mathlib.Core.Path.{_≡_, refl, sym, ap, subst, _∙_}
 use mathlib.Core.Bool.{Bool, true, false, cond, _&&_}
 use mathlib.Core.List.{List, [], _∷_, _++_}
-use Prim.Native.Nat.{ℕ, zero, suc, _+_, _-_, _*_, _≤_, _<_}
+use Prim.Native.Nat.{ℕ, zero, suc, _+_, _-_, _*_, _%_, _/_, _≤_, _<_}
 use native.Mathlib.Nat.{zero-add}
 use native.Mathlib.Numerals.{add-one}
 use native.Mathlib.Omega.{arith}
@@ -23,7 +23,9 @@ use Rattle.lines_lookup.specs.Lookup.{
   lineAt,
   numberAt,
   coursePlace,
+  wordAt,
   stationAt,
+  markAt,
   lowAt,
   totalAt,
   arriveAt,
@@ -156,12 +158,20 @@ module _ (v u : List ℕ) (timetable : Timetable) (holds : Holds v timetable) (t
         ap (λ k. getD u k 0) (omega arith) ∙ line-word (2 + j) (omega arith) ∙ ap (λ k. getD v k 0) (omega arith)
 
     module _ (p : ℕ) (g : p < line .positions) where
-      station-same : stationAt u line p ≡ stationAt v line p
-      unfolding stationAt
-      station-same =
+      word-same : wordAt u line p ≡ wordAt v line p
+      unfolding wordAt
+      word-same =
           ap (λ k. getD u k 0) (omega arith)
           ∙ line-word (2 + line .trips + 3 * p) (omega arith)
           ∙ ap (λ k. getD v k 0) (omega arith)
+
+      station-same : stationAt u line p ≡ stationAt v line p
+      unfolding stationAt
+      station-same = ap (λ n. n % 128) word-same
+
+      mark-same : markAt u line p ≡ markAt v line p
+      unfolding markAt
+      mark-same = ap (λ n. n / 128) word-same
 
       low-same : lowAt u line p ≡ lowAt v line p
       unfolding lowAt
@@ -242,6 +252,7 @@ module _ (v u : List ℕ) (timetable : Timetable) (holds : Holds v timetable) (t
           line = same-line;
           number = (λ j g. ap (λ l. numberAt u l j) same-line ∙ number-same j g);
           station = (λ p g. ap (λ l. stationAt u l p) same-line ∙ station-same p g);
+          mark = (λ p g. ap (λ l. markAt u l p) same-line ∙ mark-same p g);
           low = (λ p g. ap (λ l. lowAt u l p) same-line ∙ low-same p g);
           total = (λ p g. ap (λ l. totalAt u l p) same-line ∙ total-same p g);
           arrive = (λ p j g f. ap (λ l. arriveByTrip u l p j) same-line ∙ arrive-same p g j f);

@@ -1,7 +1,7 @@
 -- One ride after the other is kept, or passed over: from trip to trip, from place to place of a line, and from call to
 -- call.
 use mathlib.Core.Path.{_≡_, refl, sym, ap, _∙_}
-use mathlib.Core.Bool.{Bool, true, false}
+use mathlib.Core.Bool.{Bool, true, false, not}
 use mathlib.Core.List.{List, [], _∷_, _++_, map, append-nil}
 use Prim.Native.Nat.{ℕ, _+_, _*_, _≤_, _<_}
 use native.Mathlib.Omega.{arith}
@@ -12,12 +12,13 @@ use lib.ListN.{length, getD}
 use Rattle.words.specs.Put.{put, put-append}
 use Rattle.lists.specs.Lists.{concatMap}
 use Rattle.lists.specs.Ranges.{range-more, range-none}
-use Rattle.results.specs.declared.Points.{Points}
 use Rattle.connections.specs.Rides.{Ride}
-use Rattle.lines_lookup.specs.Lookup.{Line, numberAt, pointsBetween, arriveAt, departAt}
-use Rattle.lines_lookup.specs.Calls.{Call, Piece, Boarding, callAt, callsOf, callsIn, BoardsAt, Within}
+use Rattle.lines_lookup.specs.Lookup.{Line, numberAt, arriveAt, departAt}
+use Rattle.lines_lookup.specs.Calls.{Piece, Boarding, callsOf, callsIn, BoardsAt}
 use Rattle.lines_lookup.specs.First.{firstTrip}
 use Rattle.query_direct.specs.Candidates.{Reach, reachBy, nearest, legs, rideOn, nearLeg, nearRead}
+use Rattle.query_direct.specs.Places.{rest, restAt}
+use Rattle.query_direct.specs.declared.costs.Place.{Place}
 use Rattle.query_direct.specs.Choosing.{Found, noFound, goesBefore}
 use Rattle.query_direct.specs.Keeping.{
   keptAt,
@@ -30,7 +31,7 @@ use Rattle.query_direct.specs.Keeping.{
   put-elsewhere,
 }
 use Rattle.query_direct.specs.Turns.{tripsFrom, nearCalls}
-use Rattle.query_direct.proofs.ReachLaws.{from, reach-none, reach-other, reach-next}
+use Rattle.query_direct.proofs.ReachLaws.{from, nearest-none, nearest-found}
 use Rattle.query_direct.proofs.CallLaws.{legs-none, legs-more}
 
 -- ---- four words, two at a time
@@ -139,58 +140,23 @@ module _ (v : List ℕ) (l : Line) (x p j points : ℕ) (best kept old : List �
       sym (so-far ∙ ap (λ js. keepAll best kept (map (λ i. rideOn v l x i to-place) js)) (range-none j (l .trips) h))
 
 -- ---- to the nearest place
-module _ (v : List ℕ) (g : Boarding) (within : Within v g) (first : ℕ) (best kept : List ℕ) where
-  abbrev l : Line
-  l = g .line
-
-  abbrev c : Call
-  c = g .call
-
-  abbrev k : ℕ
-  k = g .rest .from
-
-  abbrev end : ℕ
-  end = g .rest .end
-
-  abbrev near : List Ride
-  near = concatMap (tripsFrom v l (c .place) first) (nearest (reachBy v g))
-
-  nothing : reachBy v g ≡ [] → kept ≡ keepAll best kept near
-  unfolding keepAll nearest
-  nothing e = rw e
-
-  pub nearest-none : g .rest .end ≤ g .rest .from + 1
+module _ (v : List ℕ) (g : Boarding) (first : ℕ) (best kept : List ℕ) (s : Place)
+    (is : rest v g (g .rest .from) ≡ restAt v g s) where
+  pub kept-none : not (s .found) ≡ true
       → kept
       ≡ keepAll best kept
       (concatMap (tripsFrom v (g .line) (g .call .place) first) (nearest (reachBy v g)))
-  nearest-none h = nothing (reach-none v l c k end h)
+  unfolding keepAll
+  kept-none e = rw (nearest-none v g s is e)
 
-  module _ (more : g .rest .from + 1 < g .rest .end) (d : Call) (is-d : d ≡ callAt v (g .rest .from)) where
-    abbrev inside : g .rest .end ≤ length v
-    inside = within .rest-inside .end-inside
-
-    pub nearest-other : (d .line ≡ g .call .line → ⊥)
-        → kept
-        ≡ keepAll best kept
-        (concatMap (tripsFrom v (g .line) (g .call .place) first) (nearest (reachBy v g)))
-    nearest-other h = nothing (reach-other v l c k end more inside d is-d h)
-
-    pub nearest-kept : d .line ≡ g .call .line
-        → (points : Points) → points .0 ≡ pointsBetween v (g .line) (g .call .place) (d .place)
-        → (next : List ℕ)
-        → next
-        ≡ keepAll best kept
-        (tripsFrom v (g .line) (g .call .place) first (record { place = d .place; points = points .0 }))
-        → next
-        ≡ keepAll best kept
-        (concatMap (tripsFrom v (g .line) (g .call .place) first) (nearest (reachBy v g)))
-    unfolding nearest
-    nearest-kept h points is-points next e =
-        rw (reach-next v l c k end more inside d is-d h, append-nil)
-        (e
-        ∙ ap
-        (λ p. keepAll best kept (tripsFrom v l (c .place) first (record { place = d .place; points = p })))
-        is-points)
+  pub kept-nearest : not (s .found) ≡ false → (next : List ℕ)
+      → next
+      ≡ keepAll best kept
+      (tripsFrom v (g .line) (g .call .place) first (record { place = s .place; points = s .points .0 }))
+      → next
+      ≡ keepAll best kept
+      (concatMap (tripsFrom v (g .line) (g .call .place) first) (nearest (reachBy v g)))
+  kept-nearest e next f = rw (nearest-found v g s is e, append-nil) f
 
 -- ---- from call to call
 module _ (v : List ℕ) (a u b : ℕ) (best old : List ℕ) where

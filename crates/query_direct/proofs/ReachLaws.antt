@@ -1,15 +1,17 @@
--- The calls in front of a list: those of the line are places to ride to, until one is of another.
+-- The calls in front of a list: those of the line that are open are places to ride to, until one is of another line.
 use mathlib.Core.Path.{_≡_, sym, ap, _∙_}
+use mathlib.Core.Bool.{Bool, true, false, not}
 use mathlib.Core.List.{List, [], _∷_, map}
 use Prim.Native.Nat.{ℕ, _+_, _-_, _≤_, _<_}
 use lib.ListN.{length}
-use borrow.Author.Tests.{eq-eqb, ne-eqb}
+use borrow.Author.Tests.{eq-eqb, ne-eqb, not-true, not-false}
 use Rattle.results.specs.declared.Points.{Points}
-use Rattle.connections.specs.Rides.{Ride}
-use Rattle.lines_lookup.specs.Lookup.{Line, totalAt, pointsBetween, arriveAt}
-use Rattle.lines_lookup.specs.Calls.{Call, Piece, Boarding, callAt, callsIn, Within}
+use Rattle.lines_lookup.specs.Lookup.{Line, boardsAt, alightsAt, totalAt, pointsBetween, arriveAt}
+use Rattle.lines_lookup.specs.Calls.{Call, Piece, Boarding, callAt, callsIn}
 use Rattle.lines_lookup.proofs.LookupLaws.{pairs-more, pairs-none}
-use Rattle.query_direct.specs.Candidates.{reachOf, reachBy, nearest, rideOn}
+use Rattle.query_direct.specs.Candidates.{opens, reachTo, reachOf, reachBy, nearest, rideOn}
+use Rattle.query_direct.specs.Places.{rest, reachAt, restAt}
+use Rattle.query_direct.specs.declared.costs.Place.{Place}
 use Rattle.query_minutes.specs.Minutes.{noteAll, lowered}
 
 -- ---- the penalty, by two totals
@@ -24,7 +26,7 @@ from k end = record { from = k; end = end }
 
 -- ---- what is left of the places to ride to
 module _ (v : List ℕ) (l : Line) (c : Call) (k end : ℕ) where
-  pub reach-none : end ≤ k + 1 → reachOf v l c (callsIn v (from k end)) ≡ []
+  reach-none : end ≤ k + 1 → reachOf v l c (callsIn v (from k end)) ≡ []
   unfolding reachOf
   reach-none h = ap (reachOf v l c) (pairs-none v k end h)
 
@@ -32,55 +34,90 @@ module _ (v : List ℕ) (l : Line) (c : Call) (k end : ℕ) where
     front : callsIn v (from k end) ≡ d ∷ callsIn v (from (k + 2) end)
     front = pairs-more v k end more inside ∙ ap (λ d. d ∷ callsIn v (from (k + 2) end)) (sym is-d)
 
-    pub reach-other : (d .line ≡ c .line → ⊥) → reachOf v l c (callsIn v (from k end)) ≡ []
+    reach-other : (d .line ≡ c .line → ⊥) → reachOf v l c (callsIn v (from k end)) ≡ []
     unfolding reachOf
     reach-other h = ap (reachOf v l c) front ∙ rw (ne-eqb (d .line) (c .line) h)
 
-    pub reach-next : d .line ≡ c .line
-        → reachOf v l c (callsIn v (from k end))
-        ≡ record { place = d .place; points = pointsBetween v l (c .place) (d .place) }
-        ∷ reachOf v l c (callsIn v (from (k + 2) end))
-    unfolding reachOf
-    reach-next h = ap (reachOf v l c) front ∙ rw (eq-eqb (d .line) (c .line) h)
+    module _ (same : d .line ≡ c .line) where
+      reach-closed : opens v l (c .place) (d .place) ≡ false
+          → reachOf v l c (callsIn v (from k end)) ≡ reachOf v l c (callsIn v (from (k + 2) end))
+      unfolding reachOf
+      reach-closed h = ap (reachOf v l c) front ∙ rw (eq-eqb (d .line) (c .line) same, h)
 
--- ---- noting the nearest
-module _ (v : List ℕ) (g : Boarding) (within : Within v g) (j : ℕ) (best : List ℕ) where
-  abbrev l : Line
-  l = g .line
+      reach-open : opens v l (c .place) (d .place) ≡ true
+          → reachOf v l c (callsIn v (from k end)) ≡ reachTo v l c d ∷ reachOf v l c (callsIn v (from (k + 2) end))
+      unfolding reachOf
+      reach-open h = ap (reachOf v l c) front ∙ rw (eq-eqb (d .line) (c .line) same, h)
 
-  abbrev c : Call
-  c = g .call
+-- ---- both ends are open
+module _ (v : List ℕ) (l : Line) (x y : ℕ) (b : Bool) (is-b : b ≡ boardsAt v l x) where
+  pub board-open : b ≡ true → (a : Bool) → a ≡ alightsAt v l y → a ≡ opens v l x y
+  unfolding opens
+  board-open e a is-a = is-a ∙ rw (← is-b, e)
 
-  abbrev k : ℕ
-  k = g .rest .from
+  pub board-closed : b ≡ false → false ≡ opens v l x y
+  unfolding opens
+  board-closed e = rw (← is-b, e)
 
-  abbrev end : ℕ
-  end = g .rest .end
+-- ---- a loop over the calls from index `at` on, which stands at index k
+module _ (v : List ℕ) (g : Boarding) (at k : ℕ) (so-far : rest v g at ≡ rest v g k) where
+  none-at : rest v g k ≡ [] → (s : Place) → s .found ≡ false → rest v g at ≡ restAt v g s
+  unfolding restAt
+  none-at e s f = so-far ∙ e ∙ rw f
 
-  abbrev near : List Ride
-  near = map (rideOn v l (c .place) j) (nearest (reachBy v g))
+  pub place-none : g .rest .end ≤ k + 1 → (s : Place) → s .found ≡ false → rest v g at ≡ restAt v g s
+  unfolding rest
+  place-none h s f = none-at (reach-none v (g .line) (g .call) k (g .rest .end) h) s f
 
-  nothing : reachBy v g ≡ [] → best ≡ noteAll best near
-  unfolding noteAll nearest
-  nothing e = rw e
+  module _ (more : k + 1 < g .rest .end) (inside : g .rest .end ≤ length v) (d : Call) (is-d : d ≡ callAt v k) where
+    pub place-other : (d .line ≡ g .call .line → ⊥) → (s : Place) → s .found ≡ false → rest v g at ≡ restAt v g s
+    unfolding rest
+    place-other h s f = none-at (reach-other v (g .line) (g .call) k (g .rest .end) more inside d is-d h) s f
 
-  pub noted-none : g .rest .end ≤ g .rest .from + 1
+    module _
+        (same : d .line ≡ g .call .line)
+        (r : Bool)
+        (is-r : r ≡ opens v (g .line) (g .call .place) (d .place))
+      where
+        pub place-closed : r ≡ false → rest v g at ≡ rest v g (k + 2)
+        unfolding rest
+        place-closed e =
+            so-far ∙ reach-closed v (g .line) (g .call) k (g .rest .end) more inside d is-d same (sym is-r ∙ e)
+
+        pub place-found : r ≡ true → (points : Points)
+            → points .0 ≡ pointsBetween v (g .line) (g .call .place) (d .place)
+            → rest v g at ≡ restAt v g (record { found = true; place = d .place; points = points; next = k + 2 })
+        unfolding rest restAt
+        place-found e points is-points =
+            so-far
+            ∙ reach-open v (g .line) (g .call) k (g .rest .end) more inside d is-d same (sym is-r ∙ e)
+            ∙ (λ i. record { place = d .place; points = sym is-points i } ∷ rest v g (k + 2))
+
+-- ---- the nearest place is the one that is found first
+module _ (v : List ℕ) (g : Boarding) (s : Place) (is : rest v g (g .rest .from) ≡ restAt v g s) where
+  nearest-is : nearest (reachBy v g) ≡ nearest (restAt v g s)
+  unfolding rest
+  nearest-is = ap nearest is
+
+  pub nearest-none : not (s .found) ≡ true → nearest (reachBy v g) ≡ []
+  unfolding restAt nearest
+  nearest-none e = nearest-is ∙ rw (not-true (s .found) e)
+
+  pub nearest-found : not (s .found) ≡ false → nearest (reachBy v g) ≡ reachAt s ∷ []
+  unfolding restAt nearest
+  nearest-found e = nearest-is ∙ rw (not-false (s .found) e)
+
+-- ---- noting it
+module _ (v : List ℕ) (g : Boarding) (j : ℕ) (best : List ℕ) (s : Place)
+    (is : rest v g (g .rest .from) ≡ restAt v g s) where
+  pub noted-none : not (s .found) ≡ true
       → best ≡ noteAll best (map (rideOn v (g .line) (g .call .place) j) (nearest (reachBy v g)))
-  noted-none h = nothing (reach-none v l c k end h)
+  unfolding noteAll
+  noted-none e = rw (nearest-none v g s is e)
 
-  module _ (more : g .rest .from + 1 < g .rest .end) (d : Call) (is-d : d ≡ callAt v (g .rest .from)) where
-    abbrev inside : g .rest .end ≤ length v
-    inside = within .rest-inside .end-inside
-
-    pub noted-other : (d .line ≡ g .call .line → ⊥)
-        → best ≡ noteAll best (map (rideOn v (g .line) (g .call .place) j) (nearest (reachBy v g)))
-    noted-other h = nothing (reach-other v l c k end more inside d is-d h)
-
-    pub noted-nearest : d .line ≡ g .call .line
-        → (points : Points) → points .0 ≡ pointsBetween v (g .line) (g .call .place) (d .place)
-        → (m : ℕ) → m ≡ arriveAt v (g .line) (d .place) j
-        → (next : List ℕ) → next ≡ lowered best m (points .0)
-        → next ≡ noteAll best (map (rideOn v (g .line) (g .call .place) j) (nearest (reachBy v g)))
-    unfolding noteAll nearest
-    noted-nearest h points is-points m is-m next e =
-        rw (reach-next v l c k end more inside d is-d h) (e ∙ (λ i. lowered best (is-m i) (is-points i)))
+  pub noted-nearest : not (s .found) ≡ false → (m : ℕ) → m ≡ arriveAt v (g .line) (s .place) j
+      → (next : List ℕ) → next ≡ lowered best m (s .points .0)
+      → next ≡ noteAll best (map (rideOn v (g .line) (g .call .place) j) (nearest (reachBy v g)))
+  unfolding noteAll
+  noted-nearest e m is-m next f =
+      rw (nearest-found v g s is e) (f ∙ ap (λ m. lowered best m (s .points .0)) is-m)

@@ -10,23 +10,26 @@ use native.Mathlib.Decide.{decLe}
 use borrow.Author.Tests.{le-leb, lt-leb}
 use lib.Dec.{T, ltb, ltb→lt, lt→ltb}
 use lib.ListN.{length, getD}
-use Rattle.timetable.specs.Timetable.{Trip, Timetable}
+use Rattle.timetable.specs.Timetable.{Trip, Timetable, valid}
 use Rattle.lists.specs.Lists.{_∈_, range}
+use Rattle.lists.specs.Tests.{T-left, T-right, T-both}
 use Rattle.lists.specs.Members.{none, cons-cases, concatMap-in, concatMap-out, range-in, range-out}
-use Rattle.connections.specs.Rides.{Ride, rideIn}
+use Rattle.connections.specs.Rides.{Ride, noStop, rideIn, mayBoard, mayAlight}
 use Rattle.lines.specs.Lines.{lines, course, stationOn}
 use Rattle.lines.specs.DirectRides.{inTime}
 use Rattle.lines.specs.DirectLaws.{Pair}
 use Rattle.lines.specs.Ordered.{Line as GoodLine, lines-good}
 use Rattle.lines_tables.specs.Spelled.{within}
-use Rattle.lines_lookup.specs.Lookup.{Line, lineAt, pointsBetween, listOf}
+use Rattle.lines_lookup.specs.Lookup.{Line, lineAt, boardsAt, alightsAt, pointsBetween, listOf}
 use Rattle.lines_lookup.specs.First.{firstTrip}
 use Rattle.lines_lookup.specs.Calls.{Call, pairsOf, callsOf, after}
 use Rattle.lines_lookup.specs.Told.{LineTold, Told, ride-difference}
+use Rattle.lines_lookup.specs.Marked.{station-few, boards-told, alights-told}
 use Rattle.lines_lookup.specs.Rising.{Later, Rising, after-out, after-in, after-rising, after-again}
 use Rattle.lines_lookup.specs.Met.{Met, calls-in, calls-out, calls-rise}
-use Rattle.query_direct.specs.Candidates.{Reach, reachOf, nearest, Leg, legOf, legs, rideOn, tripsTo, firstLeg}
-use Rattle.query_direct.specs.Candidates.{nearLeg, allLeg, firstOn, allOn, firstRead, nearRead, allRead}
+use Rattle.query_direct.specs.Candidates.{Reach, opens, reachOf, nearest, Leg, legOf, legs, rideOn}
+use Rattle.query_direct.specs.Candidates.{tripsTo, firstLeg, nearLeg, allLeg, firstOn, allOn, firstRead}
+use Rattle.query_direct.specs.Candidates.{nearRead, allRead}
 use Rattle.query_direct.specs.Reached.{Left, nearest-in, reach-in, reach-out, reach-nearest}
 use Rattle.query_direct.specs.Reached.{timely-in, timely-out, ride-same}
 
@@ -94,7 +97,7 @@ pub from-inside : (t : Timetable) (a b i x y j : ℕ) → By t a b i x y j
     → x < length (course (t .trips) (lineOf (t .trips) i))
 from-inside t a b i x y j k = omega (arith, k .pair .later, k .pair .inside)
 
-module _ (v : List ℕ) (timetable : Timetable) (told : Told v timetable) where
+module _ (v : List ℕ) (timetable : Timetable) (told : Told v timetable) (okay : valid timetable ≡ true) where
   abbrev n : ℕ
   n = length (timetable .stations)
 
@@ -107,6 +110,30 @@ module _ (v : List ℕ) (timetable : Timetable) (told : Told v timetable) where
 
   abbrev first : (i x u : ℕ) → ℕ
   first i x u = firstTrip v (line i) x u
+
+  -- what is open by the words is open by the timetable
+  module _ (i : ℕ) (h : i < length (lines t)) (x y : ℕ) (x-in : x < length (course t (lineOf t i)))
+      (y-in : y < length (course t (lineOf t i))) where
+    boards-same : boardsAt v (line i) x ≡ mayBoard (getD (course t (lineOf t i)) x noStop)
+    boards-same = boards-told timetable okay i h x x-in v told
+
+    alights-same : alightsAt v (line i) y ≡ mayAlight (getD (course t (lineOf t i)) y noStop)
+    alights-same = alights-told timetable okay i h y y-in v told
+
+    open-boards : T (opens v (line i) x y) → T (mayBoard (getD (course t (lineOf t i)) x noStop))
+    unfolding opens
+    open-boards w = subst T boards-same (T-left (boardsAt v (line i) x) (alightsAt v (line i) y) w)
+
+    open-alights : T (opens v (line i) x y) → T (mayAlight (getD (course t (lineOf t i)) y noStop))
+    unfolding opens
+    open-alights w = subst T alights-same (T-right (boardsAt v (line i) x) (alightsAt v (line i) y) w)
+
+    opens-both : T (mayBoard (getD (course t (lineOf t i)) x noStop))
+        → T (mayAlight (getD (course t (lineOf t i)) y noStop)) → T (opens v (line i) x y)
+    unfolding opens
+    opens-both b a =
+        T-both (boardsAt v (line i) x) (alightsAt v (line i) y) (subst T (sym boards-same) b)
+        (subst T (sym alights-same) a)
 
   -- ---- rides are read to listed stations only
   no-calls : (b : ℕ) → ¬ ((1 ≤ b) × (b ≤ n)) → callsOf v b ≡ []
@@ -204,7 +231,8 @@ module _ (v : List ℕ) (timetable : Timetable) (told : Told v timetable) where
           → Read timetable a b (rideOn v (line i) x j r)
       read r m j h =
           let words = told .line i (k .listed) in
-          let q = reach-out v timetable i (lineOf t i) words b x (after c ds) (left c) r m in
+          let found = reach-out v timetable i (lineOf t i) words b x (after c ds) (left c) r m in
+          let q = found .0 in
           let runs : j < length (lineOf t i) = omega (arith, words .trips) in
           record {
             i = i;
@@ -214,12 +242,21 @@ module _ (v : List ℕ) (timetable : Timetable) (told : Told v timetable) where
             by =
                 record {
                   listed = k .listed;
-                  pair = record { later = q .later; inside = q .inside; board = k .station; alight = q .station };
+                  pair =
+                      record {
+                        later = q .later;
+                        inside = q .inside;
+                        board = k .station;
+                        alight = q .station;
+                        boards = open-boards i (k .listed) x (r .place) (k .inside) (q .inside) (found .1);
+                        alights = open-alights i (k .listed) x (r .place) (k .inside) (q .inside) (found .1);
+                      };
                   runs = runs;
                 };
             is =
                 sym
-                (ride-same v timetable i (lineOf t i) words (line-good t i (k .listed)) x b j (k .inside) runs r q);
+                (ride-same v timetable i (lineOf t i) words (line-good t i (k .listed))
+                (station-few timetable okay i (k .listed)) x b j (k .inside) runs r q);
           }
 
     -- a leg is that of a call
@@ -313,12 +350,14 @@ module _ (v : List ℕ) (timetable : Timetable) (told : Told v timetable) where
           let listed = calls-in v timetable told b to-some to-inside stop met in
           let later : Later call stop = record { line = omega arith; place = λ s. p .later } in
           reach-in v timetable i (lineOf t i) words b x (after call ds) (left call) y
+          (opens-both i (k .listed) x y x-inside (p .inside) (p .boards) (p .alights))
           (after-in call ds stop listed later)
 
       ride-is : rideOn v l x j there ≡ rideBy timetable i x y j
       ride-is =
           let p = k .pair in
-          ride-same v timetable i (lineOf t i) words (line-good t i (k .listed)) x b j x-inside (k .runs) there
+          ride-same v timetable i (lineOf t i) words (line-good t i (k .listed))
+          (station-few timetable okay i (k .listed)) x b j x-inside (k .runs) there
           (record {
             later = p .later;
             inside = p .inside;
@@ -339,15 +378,15 @@ module _ (v : List ℕ) (timetable : Timetable) (told : Told v timetable) where
           let e = reach-nearest v timetable i (lineOf t i) words b x (after call ds) (left call) there there-reached in
           let q =
           reach-out v timetable i (lineOf t i) words b x (after call ds) (left call) (e .0)
-          (nearest-in rs (e .0) (e .1)) in
+          (nearest-in rs (e .0) (e .1)) .0 in
           record {
             reach = e .0;
             listed = e .1;
             nearer = e .2;
             later = q .later;
             same =
-                ride-same v timetable i (lineOf t i) words (line-good t i (k .listed)) x b j x-inside (k .runs) (e .0)
-                q;
+                ride-same v timetable i (lineOf t i) words (line-good t i (k .listed))
+                (station-few timetable okay i (k .listed)) x b j x-inside (k .runs) (e .0) q;
           }
 
       pub first-read-in : f ≡ j → (z : ℕ) × (x < z) × (z ≤ y) × (rideBy timetable i x z j ∈ firstRead v a u b)

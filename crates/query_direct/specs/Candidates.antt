@@ -1,14 +1,15 @@
 -- The rides that the code finds in line tables, in the order in which it finds them. The lists of both stations rise,
 -- so that one walk along each finds all places to board and to alight at. Of the places on one line after the one
--- boarded at, only the nearest can be optimal. No reader of the promise needs this file: Gathered shows that these are
--- the direct rides of the timetable, and that the nearest of them have the result of all.
-use mathlib.Core.Bool.{cond}
+-- boarded at that are open to alighting, only the nearest can be optimal. No reader of the promise needs this file:
+-- Gathered shows that these are the direct rides of the timetable, and that the nearest of them have the result of all.
+use mathlib.Core.Bool.{Bool, cond, _&&_}
 use mathlib.Core.List.{List, [], _∷_, map}
 use Prim.Native.Nat.{ℕ, _+_, _-_}
 use lib.Dec.{ltb, eqb}
 use Rattle.lists.specs.Lists.{concatMap, range}
 use Rattle.connections.specs.Rides.{Ride}
-use Rattle.lines_lookup.specs.Lookup.{Line, lineAt, numberAt, stationAt, pointsBetween, arriveAt, departAt}
+use Rattle.lines_lookup.specs.Lookup.{Line, lineAt, numberAt, stationAt, boardsAt, alightsAt, pointsBetween}
+use Rattle.lines_lookup.specs.Lookup.{arriveAt, departAt}
 use Rattle.lines_lookup.specs.First.{firstTrip}
 use Rattle.lines_lookup.specs.Calls.{Call, Boarding, callsOf, callsIn, after}
 
@@ -17,13 +18,21 @@ pub record Reach : Type 0 where
   pub place : ℕ
   pub points : ℕ
 
--- the calls at the front of a list that are on the line l of call c, as places to ride to
+-- "no ride may use a stop against its mark": place x of a line is open to boarding, place y to alighting
+unfoldable pub opens : List ℕ → Line → (x y : ℕ) → Bool
+opens v l x y = boardsAt v l x && alightsAt v l y
+
+-- the place of call d, as one to ride to from call c
+abbrev pub reachTo : List ℕ → Line → (c d : Call) → Reach
+reachTo v l c d = record { place = d .place; points = pointsBetween v l (c .place) (d .place) }
+
+-- the calls at the front of a list that are on the line l of call c, as places to ride to: those that are open
 unfoldable pub reachOf : List ℕ → (l : Line) (c : Call) → List Call → List Reach
 reachOf v l c [] = []
 reachOf v l c (d ∷ ds) =
     cond
     (eqb (d .line) (c .line))
-    (record { place = d .place; points = pointsBetween v l (c .place) (d .place) } ∷ reachOf v l c ds)
+    (cond (opens v l (c .place) (d .place)) (reachTo v l c d ∷ reachOf v l c ds) (reachOf v l c ds))
     []
 
 -- the first of them: who goes on to a later one arrives later, and pays no less

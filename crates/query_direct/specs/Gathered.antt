@@ -20,7 +20,7 @@ use Rattle.results.specs.Kept.{costs-covered, result-kept, empty-kept}
 use Rattle.connections.specs.Rides.{Ride, rideIn}
 use Rattle.connections.specs.Connections.{net, Connection, direct, cost}
 use Rattle.connections.specs.Planner.{measure, rowsOf}
-use Rattle.connections.specs.RideLaws.{Taken, rides-in, rides-out}
+use Rattle.connections.specs.RideLaws.{Taken, rides-in, rides-out, board-alike, alight-alike}
 use Rattle.connections.specs.Sound.{sound, ride-cheap}
 use Rattle.lines.specs.Lines.{lines, course}
 use Rattle.lines.specs.DirectRides.{directs, inTime, firstRides}
@@ -98,10 +98,14 @@ module _
           let on-line : OnLine t z = record { line = lineOf t i; listed = line; member = member } in
           let long = line-length t (lineOf t i) z good member in
           let end = k .pair .inside in
-          let from = sym (line-stop t (lineOf t i) z x good member .station) ∙ k .pair .board in
-          let to = sym (line-stop t (lineOf t i) z y good member .station) ∙ k .pair .alight in
-          let timely = timely-by v timetable told a u b some inside (to-listed .0) (to-listed .1) i x y j k h in
-          let listed = rides-in timetable z x y (trip-listed t z on-line) (k .pair .later) (omega arith) in
+          let at-x = line-stop t (lineOf t i) z x good member in
+          let at-y = line-stop t (lineOf t i) z y good member in
+          let from = sym (at-x .station) ∙ k .pair .board in
+          let to = sym (at-y .station) ∙ k .pair .alight in
+          let timely = timely-by v timetable told yes a u b some inside (to-listed .0) (to-listed .1) i x y j k h in
+          let listed =
+          rides-in timetable z x y (trip-listed t z on-line) (k .pair .later) (omega arith)
+          (board-alike _ _ (at-x .mark) (k .pair .boards)) (alight-alike _ _ (at-y .mark) (k .pair .alights)) in
           direct-in timetable a u b (rideBy timetable i x y j) listed (search writes)
 
     -- a nearer ride is no worse
@@ -120,8 +124,8 @@ module _
     first-to : (c : Connection) → c ∈ map direct (firstRead v a u b) → c ∈ firstRides timetable a u b
     first-to c m =
         let r = Memᴰ·of-map direct (firstRead v a u b) m in
-        let listed = first-listed v timetable told a u b (r .0) (r .1) in
-        let q = first-read-out v timetable told a u b some inside (listed .0) (listed .1) (r .0) (r .1) in
+        let listed = first-listed v timetable told yes a u b (r .0) (r .1) in
+        let q = first-read-out v timetable told yes a u b some inside (listed .0) (listed .1) (r .0) (r .1) in
         let k = q .0 in
         Memᴰ·cast (sym (ap direct (k .is) ∙ r .2)) (by-first (k .i) (k .x) (k .y) (k .j) (k .by) (q .1))
 
@@ -153,7 +157,7 @@ module _
         let j = first i x in
         let by : By timetable a b i x y j = record { listed = p .inside; pair = pair; runs = q .0 } in
         let same = ap (λ z. direct (rideIn timetable z x y)) (q .1) ∙ r .is in
-        let near = first-read-in v timetable told a u b some inside (listed .0) (listed .1) i x y j by refl in
+        let near = first-read-in v timetable told yes a u b some inside (listed .0) (listed .1) i x y j by refl in
         let e = rideBy timetable i x (near .0) j in (
           direct e,
           Memᴰ·map direct (near .3),
@@ -167,8 +171,8 @@ module _
     all-to : (c : Connection) → c ∈ map direct (allRead v a u b) → c ∈ directs (net timetable) a u b
     all-to c m =
         let r = Memᴰ·of-map direct (allRead v a u b) m in
-        let listed = all-listed v timetable told a u b (r .0) (r .1) in
-        let q = all-read-out v timetable told a u b some inside (listed .0) (listed .1) (r .0) (r .1) in
+        let listed = all-listed v timetable told yes a u b (r .0) (r .1) in
+        let q = all-read-out v timetable told yes a u b some inside (listed .0) (listed .1) (r .0) (r .1) in
         let k = q .0 in
         Memᴰ·cast (sym (ap direct (k .is) ∙ r .2))
         (by-direct (k .i) (k .x) (k .y) (k .j) (k .by) listed (q .1))
@@ -184,8 +188,10 @@ module _
         let q = placed (lineOf t i) 0 z member in
         let good = line-good t i (p .inside) in
         let long = line-length t (lineOf t i) z good member in
-        let board = line-stop t (lineOf t i) z (k .x) good member .station ∙ ap (λ r. r .from) (k .is) ∙ from in
-        let alight = line-stop t (lineOf t i) z (k .y) good member .station ∙ ap (λ r. r .to) (k .is) ∙ to in
+        let at-x = line-stop t (lineOf t i) z (k .x) good member in
+        let at-y = line-stop t (lineOf t i) z (k .y) good member in
+        let board = at-x .station ∙ ap (λ r. r .from) (k .is) ∙ from in
+        let alight = at-y .station ∙ ap (λ r. r .to) (k .is) ∙ to in
         let end : k .y < length (course t (lineOf t i)) = omega (arith, k .inside) in
         record {
           i = i;
@@ -195,7 +201,15 @@ module _
           by =
               record {
                 listed = p .inside;
-                pair = record { later = k .later; inside = end; board = board; alight = alight };
+                pair =
+                    record {
+                      later = k .later;
+                      inside = end;
+                      board = board;
+                      alight = alight;
+                      boards = board-alike _ _ (sym (at-x .mark)) (k .boards);
+                      alights = alight-alike _ _ (sym (at-y .mark)) (k .alights);
+                    };
                 runs = q .inside;
               };
           is = ap (λ z. rideIn timetable z (k .x) (k .y)) (q .is) ∙ k .is;
@@ -212,11 +226,11 @@ module _
         let k = on-its-line (r .0) from to (rides-out timetable (r .0) (r .1)) in
         let leaves = subst (λ r. T (leb u (r .depart))) (sym (k .is)) timely in
         let behind =
-        by-timely v timetable told a u b some inside (listed .0) (listed .1) (k .i) (k .x) (k .y) (k .j) (k .by)
+        by-timely v timetable told yes a u b some inside (listed .0) (listed .1) (k .i) (k .x) (k .y) (k .j) (k .by)
         leaves in
         Memᴰ·cast (sym (ap direct (k .is) ∙ r .3))
         (Memᴰ·map direct
-        (all-read-in v timetable told a u b some inside (listed .0) (listed .1) (k .i) (k .x) (k .y) (k .j) (k .by)
+        (all-read-in v timetable told yes a u b some inside (listed .0) (listed .1) (k .i) (k .x) (k .y) (k .j) (k .by)
         behind))
 
     pub all-read : (c : Connection) → c ∈ map direct (allRead v a u b) ↔ c ∈ directs (net timetable) a u b
@@ -225,16 +239,16 @@ module _
     -- ---- those to the nearest places are among them, and none is missed that is as good
     pub near-all : (r : Ride) → r ∈ nearRead v a u b → r ∈ allRead v a u b
     near-all r m =
-        let listed = near-listed v timetable told a u b r m in
-        near-read-out v timetable told a u b some inside (listed .0) (listed .1) r m
+        let listed = near-listed v timetable told yes a u b r m in
+        near-read-out v timetable told yes a u b some inside (listed .0) (listed .1) r m
 
     pub all-near : (r : Ride) → r ∈ allRead v a u b → (e : Ride) × (e ∈ nearRead v a u b) × Nearer e r
     all-near r m =
-        let listed = all-listed v timetable told a u b r m in
-        let q = all-read-out v timetable told a u b some inside (listed .0) (listed .1) r m in
+        let listed = all-listed v timetable told yes a u b r m in
+        let q = all-read-out v timetable told yes a u b some inside (listed .0) (listed .1) r m in
         let k = q .0 in
         let near =
-        near-read-in v timetable told a u b some inside (listed .0) (listed .1) (k .i) (k .x) (k .y) (k .j) (k .by)
+        near-read-in v timetable told yes a u b some inside (listed .0) (listed .1) (k .i) (k .x) (k .y) (k .j) (k .by)
         (q .1) in
         let e = rideBy timetable (k .i) (k .x) (near .0) (k .j) in (
           e,

@@ -12,7 +12,7 @@ use borrow.Author.Tests.{lt-ltb, eq-eqb, ne-eqb, ltb-true}
 use lib.Dec.{ltb, eqb}
 use lib.ListN.{length, getD, set, take, drop, length-append, length-take, List·getD-append}
 use lib.Seq.{getD-append-add, getD-set-other, length-take-le}
-use Rattle.words.specs.Put.{put, put-four, length-put}
+use Rattle.words.specs.Put.{put, put-three, put-more, length-put}
 use Rattle.lists.specs.Lists.{_∈_, keep, filter}
 use Rattle.results.specs.Results.{Cost}
 use Rattle.connections.specs.Rides.{Ride}
@@ -103,7 +103,11 @@ module _ (kept : List ℕ) (m : ℕ) (f : Found) (room : 4 * m + 4 ≤ length ke
       let one = set kept at (f .depart) in
       let two = set one (at + 1) (f .trip) in
       let three = set two (at + 2) (f .board) in
-      ap (λ l. getD l i 0) (sym (put-four at kept (f .depart) (f .trip) (f .board) (f .alight) room))
+      let front = f .depart ∷ f .trip ∷ f .board ∷ [] in
+      let all : set three (at + 3) (f .alight) ≡ put at (rideWords f) kept =
+      ap (λ l. set l (at + 3) (f .alight)) (put-three at kept (f .depart) (f .trip) (f .board) (omega (arith, room)))
+      ∙ put-more at 3 front kept (f .alight) refl (omega (arith, room)) in
+      ap (λ l. getD l i 0) (sym all)
       ∙ getD-set-other three (at + 3) i (f .alight) 0 d
       ∙ getD-set-other two (at + 2) i (f .board) 0 c
       ∙ getD-set-other one (at + 1) i (f .trip) 0 b

@@ -1,4 +1,5 @@
 pub mod Candidates
+pub mod Places
 pub mod Choosing
 pub mod Turns
 pub mod Keeping

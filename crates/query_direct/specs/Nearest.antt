@@ -11,8 +11,8 @@ use lib.ListN.{length, getD}
 use Rattle.lists.specs.Tests.{T-right, reads}
 use Rattle.timetable.specs.Timetable.{Stop, Trip, Timetable, runs, validTrip, valid}
 use Rattle.connections.specs.Rides.{Ride, noStop, rideIn}
-use Rattle.connections.specs.RideLaws.{rides-in, points-split}
-use Rattle.connections.specs.Sound.{sound, trips-valid, valid-trip}
+use Rattle.connections.specs.RideLaws.{points-split}
+use Rattle.connections.specs.Sound.{trips-valid, valid-trip, trip-forward}
 
 -- ride e is r, or one on the same trip from the same stop to a nearer one
 pub record Nearer (e r : Ride) : Type 0 where
@@ -51,9 +51,11 @@ module _ (timetable : Timetable) (okay : T (valid timetable)) (k : ℕ) (listed 
     sooner h =
         let n = length (timetable .stations) in
         let is-valid = valid-trip n (timetable .trips) (trips-valid timetable okay) k listed in
-        let listed-ride = rides-in timetable k z y listed h inside in
-        let on = sound timetable okay .forward (rideIn timetable k z y) listed-ride in
-        omega (arith, on, trip-waits n trip is-valid x z later (omega arith))
+        omega (
+          arith,
+          trip-forward n trip is-valid z y h inside,
+          trip-waits n trip is-valid x z later (omega arith),
+        )
 
     pub nearer-ride : Nearer (rideIn timetable k x z) (rideIn timetable k x y)
     nearer-ride =

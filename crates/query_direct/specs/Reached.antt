@@ -24,8 +24,9 @@ use Rattle.lines_lookup.specs.Lookup.{Line, lineAt, pointsBetween, departAt}
 use Rattle.lines_lookup.specs.First.{firstTrip}
 use Rattle.lines_lookup.specs.Calls.{Call}
 use Rattle.lines_lookup.specs.Told.{LineTold, ride-difference}
+use Rattle.lines_lookup.specs.Marked.{line-station}
 use Rattle.lines_lookup.specs.Rising.{Later, Rising}
-use Rattle.query_direct.specs.Candidates.{Reach, reachOf, nearest, rideOn}
+use Rattle.query_direct.specs.Candidates.{Reach, opens, reachTo, reachOf, nearest, rideOn}
 use Rattle.query_direct.specs.Foremost.{Foremost, foremost, first-at-in, first-at-out}
 
 -- the nearest place is one of them
@@ -79,48 +80,49 @@ module _ (v : List ℕ) (timetable : Timetable) (i : ℕ) (l : List ℕ) (told :
           costs = ride-difference v timetable i l told x (d .place) (omega arith) (k .0);
         }
 
-    pub reach-out : (ds : List Call) → Left t i l b x ds → (r : Reach) → r ∈ reachOf v line call ds → Reached t l x b r
+    pub reach-out : (ds : List Call) → Left t i l b x ds → (r : Reach) → r ∈ reachOf v line call ds
+        → Reached t l x b r × T (opens v line x (r .place))
     unfolding reachOf
     reach-out [] k r m = none m
-    reach-out (d ∷ ds) k r m = go (eqb (d .line) i) refl m (reach-out ds (rest-left d ds k) r)
+    reach-out (d ∷ ds) k r m =
+        go (eqb (d .line) i) refl (opens v line x (d .place)) refl m (reach-out ds (rest-left d ds k) r)
       where
-        one : Reach
-        one = record { place = d .place; points = pointsBetween v line x (d .place) }
+        Found : Type 0
+        Found = Reached t l x b r × T (opens v line x (r .place))
 
-        go : (q : Bool) → eqb (d .line) i ≡ q → r ∈ cond q (one ∷ reachOf v line call ds) []
-            → (r ∈ reachOf v line call ds → Reached t l x b r) → Reached t l x b r
-        go true e m ih =
+        go : (q : Bool) → eqb (d .line) i ≡ q → (o : Bool) → opens v line x (d .place) ≡ o
+            → r ∈ cond q (cond o (reachTo v line call d ∷ reachOf v line call ds) (reachOf v line call ds)) []
+            → (r ∈ reachOf v line call ds → Found) → Found
+        go true e true f m ih =
             let same = eqb-true (d .line) i e in
             cons-cases
             m
             (λ p.
-            subst (Reached t l x b) (sym p)
-            (at-place d (k .behind d (here refl)) same (k .met d (here refl) same)))
+            subst (λ r. Reached t l x b r × T (opens v line x (r .place))) (sym p)
+            (at-place d (k .behind d (here refl)) same (k .met d (here refl) same), subst T (sym f) tt))
             ih
-        go false e m ih = none m
+        go true e false f m ih = ih m
+        go false e o f m ih = none m
 
     -- a call of the line is not passed over: those before it are of the line too, since calls rise
-    pub reach-in : (ds : List Call) → Left t i l b x ds → (y : ℕ) → record { line = i; place = y } ∈ ds
+    pub reach-in : (ds : List Call) → Left t i l b x ds → (y : ℕ) → T (opens v line x y)
+        → record { line = i; place = y } ∈ ds
         → record { place = y; points = pointsBetween v line x y } ∈ reachOf v line call ds
     unfolding reachOf
-    reach-in [] k y m = none m
-    reach-in (d ∷ ds) k y m = go (eqb (d .line) i) refl (reach-in ds (rest-left d ds k) y)
+    reach-in [] k y w m = none m
+    reach-in (d ∷ ds) k y w m =
+        go (eqb (d .line) i) refl (opens v line x (d .place)) refl (reach-in ds (rest-left d ds k) y w)
       where
-        one : Reach
-        one = record { place = d .place; points = pointsBetween v line x (d .place) }
-
         wanted : Reach
         wanted = record { place = y; points = pointsBetween v line x y }
 
-        go : (q : Bool) → eqb (d .line) i ≡ q
+        go : (q : Bool) → eqb (d .line) i ≡ q → (o : Bool) → opens v line x (d .place) ≡ o
             → (record { line = i; place = y } ∈ ds → wanted ∈ reachOf v line call ds)
-            → wanted ∈ cond q (one ∷ reachOf v line call ds) []
-        go true e ih =
-            cons-cases
-            m
-            (λ p. here (ap (λ d. record { place = d .place; points = pointsBetween v line x (d .place) }) p))
-            (λ j. there (ih j))
-        go false e ih =
+            → wanted ∈ cond q (cond o (reachTo v line call d ∷ reachOf v line call ds) (reachOf v line call ds)) []
+        go true e true f ih = cons-cases m (λ p. here (ap (reachTo v line call) p)) (λ j. there (ih j))
+        go true e false f ih =
+            cons-cases m (λ p. absurd (subst T f (subst (λ c. T (opens v line x (c .place))) p w))) ih
+        go false e o f ih =
             cons-cases
             m
             (λ p. absurd (eqb-false (d .line) i e (sym (ap (λ d. d .line) p))))
@@ -134,42 +136,47 @@ module _ (v : List ℕ) (timetable : Timetable) (i : ℕ) (l : List ℕ) (told :
         → (d : Call) × (d ∈ ds) × (d .line ≡ i) × (d .place ≡ r .place)
     unfolding reachOf
     reach-call [] r m = none m
-    reach-call (d ∷ ds) r m = go (eqb (d .line) i) refl m (reach-call ds r)
+    reach-call (d ∷ ds) r m = go (eqb (d .line) i) refl (opens v line x (d .place)) m (reach-call ds r)
       where
-        one : Reach
-        one = record { place = d .place; points = pointsBetween v line x (d .place) }
+        Found : List Call → Type 0
+        Found l = (e : Call) × (e ∈ l) × (e .line ≡ i) × (e .place ≡ r .place)
 
-        go : (q : Bool) → eqb (d .line) i ≡ q → r ∈ cond q (one ∷ reachOf v line call ds) []
-            → (r ∈ reachOf v line call ds → (e : Call) × (e ∈ ds) × (e .line ≡ i) × (e .place ≡ r .place))
-            → (e : Call) × (e ∈ d ∷ ds) × (e .line ≡ i) × (e .place ≡ r .place)
-        go true e m ih =
+        go : (q : Bool) → eqb (d .line) i ≡ q → (o : Bool)
+            → r ∈ cond q (cond o (reachTo v line call d ∷ reachOf v line call ds) (reachOf v line call ds)) []
+            → (r ∈ reachOf v line call ds → Found ds) → Found (d ∷ ds)
+        go true e true m ih =
             cons-cases
             m
             (λ p. (d, here refl, eqb-true (d .line) i e, ap (λ r. r .place) (sym p)))
             (λ j. let k = ih j in (k .0, there (k .1), k .2, k .3))
-        go false e m ih = none m
+        go true e false m ih = let k = ih m in (k .0, there (k .1), k .2, k .3)
+        go false e o m ih = none m
 
     pub reach-nearest : (ds : List Call) → Left t i l b x ds → (r : Reach) → r ∈ reachOf v line call ds
         → (e : Reach) × (e ∈ nearest (reachOf v line call ds)) × (e .place ≤ r .place)
     unfolding reachOf nearest
     reach-nearest [] k r m = none m
-    reach-nearest (d ∷ ds) k r m = go (eqb (d .line) i) refl m
+    reach-nearest (d ∷ ds) k r m =
+        go (eqb (d .line) i) refl (opens v line x (d .place)) m (reach-nearest ds (rest-left d ds k) r)
       where
-        one : Reach
-        one = record { place = d .place; points = pointsBetween v line x (d .place) }
-
         behind : d .line ≡ i → r ∈ reachOf v line call ds → d .place ≤ r .place
         behind same m =
             let c = reach-call ds r m in
             let later = k .rise .0 (c .0) (c .1) .place (same ∙ sym (c .2)) in
             omega (arith, c .3)
 
-        go : (q : Bool) → eqb (d .line) i ≡ q → r ∈ cond q (one ∷ reachOf v line call ds) []
-            → (e : Reach) × (e ∈ nearest (cond q (one ∷ reachOf v line call ds) [])) × (e .place ≤ r .place)
-        go true e m =
+        Found : List Reach → Type 0
+        Found l = (e : Reach) × (e ∈ nearest l) × (e .place ≤ r .place)
+
+        go : (q : Bool) → eqb (d .line) i ≡ q → (o : Bool)
+            → r ∈ cond q (cond o (reachTo v line call d ∷ reachOf v line call ds) (reachOf v line call ds)) []
+            → (r ∈ reachOf v line call ds → Found (reachOf v line call ds))
+            → Found (cond q (cond o (reachTo v line call d ∷ reachOf v line call ds) (reachOf v line call ds)) [])
+        go true e true m ih =
             let same = eqb-true (d .line) i e in
-            (one, here refl, cons-cases m (λ p. omega (arith, ap (λ r. r .place) p)) (behind same))
-        go false e m = none m
+            (reachTo v line call d, here refl, cons-cases m (λ p. omega (arith, ap (λ r. r .place) p)) (behind same))
+        go true e false m ih = ih m
+        go false e o m ih = none m
 
   -- ---- the first trip that leaves in time
   module _ (x u : ℕ) (h : x < length (course t l)) where
@@ -224,7 +231,7 @@ module _ (v : List ℕ) (timetable : Timetable) (i : ℕ) (l : List ℕ) (told :
         omega (arith, not-behind)
 
   -- ---- the rides
-  module _ (good : GoodLine t l) where
+  module _ (good : GoodLine t l) (few : (p : ℕ) → p < length (course t l) → stationOn t l p < 128) where
     -- the ride that the code reads is that of the trip
     pub ride-same : (x b j : ℕ) → x < length (course t l) → j < length l → (r : Reach) → Reached t l x b r
         → rideOn v line x j r ≡ rideIn timetable (getD l j 0) x (r .place)
@@ -235,8 +242,9 @@ module _ (v : List ℕ) (timetable : Timetable) (i : ℕ) (l : List ℕ) (told :
         let trip = told .number j g in
         let board = add-one x in
         let alight = add-one y in
-        let from = told .station x h ∙ line-stop t l z x good member .station in
-        let to = told .station y (k .inside) ∙ line-stop t l z y good member .station in
+        let from = line-station v timetable i l told x h (few x h) ∙ line-stop t l z x good member .station in
+        let to =
+        line-station v timetable i l told y (k .inside) (few y (k .inside)) ∙ line-stop t l z y good member .station in
         let depart = told .depart x j h g in
         let arrive = told .arrive y j (k .inside) g in
         let cost = k .costs ∙ behind-points (course t l) (getD t z []) (head-behind t l z good member) x y in

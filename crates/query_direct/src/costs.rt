@@ -1,18 +1,28 @@
 // The costs of a query: the least penalty for each arrival minute, noted from the first trips of the lines.
 ghost use mathlib.Core.Path.{_≡_};
+ghost use mathlib.Core.Bool.{false};
 ghost use mathlib.Core.List.{map};
 ghost use Prim.Native.Nat.{_≤_, _<_};
 ghost use lib.ListN.{length};
 ghost use Rattle.lines_lookup.specs.Lookup.{pointsBetween};
 ghost use Rattle.lines_lookup.specs.Calls.{Within};
 ghost use Rattle.query_minutes.specs.Minutes.{noteAll, blank};
-ghost use Rattle.query_direct.specs.Candidates.{rideOn, reachBy, nearest, firstRead};
+ghost use Rattle.query_direct.specs.Candidates.{opens, rideOn, reachBy, nearest, firstRead};
+ghost use Rattle.query_direct.specs.Places.{rest, restAt};
 ghost use Rattle.query_direct.specs.Shown.{bestOf, leadsOf};
 use lines_lookup::Boarding;
 use results::Points;
 
+// A place to alight at and the penalty of the ride to it, if one was found, and the index of the call after it.
+pub struct Place {
+    pub found: bool,
+    pub place: usize,
+    pub points: Points,
+    pub next: usize,
+}
+
 // The penalty of the ride to place y of the line that is boarded: the difference of two totals.
-pub fn ride_points(v: &[u16], g: Boarding, y: usize) -> Points
+fn ride_points(v: &[u16], g: Boarding, y: usize) -> Points
     requires { ⌜ Within (now v) g × (y < 65536) ⌝ }
     ensures { λ r. ⌜ r .0 ≡ pointsBetween (now (v .entry)) (g .line) (g .call .place) y ⌝ }
 {
@@ -21,7 +31,57 @@ pub fn ride_points(v: &[u16], g: Boarding, y: usize) -> Points
     query_minutes::left_of(there, here)
 }
 
-// Notes the ride on the trip at place j of the line that is boarded, to the nearest call of the line that is left. Who
+// No place.
+pub fn nowhere() -> Place
+    ensures { λ r. ⌜ (r .found ≡ false) × (r .place < 65536) × (r .next ≤ 65536) ⌝ }
+{
+    Place {
+        found: false,
+        place: 0,
+        points: Points(0),
+        next: 0,
+    }
+}
+
+// Whether one may ride from where the line is boarded to its place y: both are open.
+fn may_ride(v: &[u16], g: Boarding, y: usize) -> bool
+    requires { ⌜ Within (now v) g × (y < 65536) ⌝ }
+    ensures { λ r. ⌜ r ≡ opens (now (v .entry)) (g .line) (g .call .place) y ⌝ }
+{
+    if lines_lookup::may_board(v, g.line, g.call.place) {
+        return lines_lookup::may_alight(v, g.line, y);
+    }
+    false
+}
+
+// The first place of the line that is boarded to which one may ride, of the calls from index at on.
+pub fn seek_place(v: &[u16], g: Boarding, at: usize) -> Place
+    requires { ⌜ Within (now v) g × (at ≤ 65536) ⌝ }
+    ensures { λ r. ⌜ (rest (now (v .entry)) g at ≡ restAt (now (v .entry)) g r)
+        × (r .place < 65536)
+        × (r .next ≤ 65536) ⌝ }
+{
+    let end = g.rest.end;
+    let mut k = at;
+    while k + 1 < end {
+        let d = lines_lookup::call_at(v, k);
+        if d.line != g.call.line {
+            return nowhere();
+        }
+        if may_ride(v, g, d.place) {
+            return Place {
+                found: true,
+                place: d.place,
+                points: ride_points(v, g, d.place),
+                next: k + 2,
+            };
+        }
+        k += 2;
+    }
+    nowhere()
+}
+
+// Notes the ride on the trip at place j of the line that is boarded, to the nearest place to which one may ride. Who
 // rides on to a later one arrives later, and pays no less.
 fn note_nearest(v: &[u16], g: Boarding, j: usize, best: &mut [u32])
     requires { ⌜ Within (now v) g × (j < 65536) ⌝ }
@@ -30,15 +90,15 @@ fn note_nearest(v: &[u16], g: Boarding, j: usize, best: &mut [u32])
         (map (rideOn (now (v .entry)) (g .line) (g .call .place) j) (nearest (reachBy (now (v .entry)) g))) ⌝ }
     ensures { λ _. ⌜ length (now (best .exit)) ≡ length (now (best .entry)) ⌝ }
 {
-    if g.rest.end <= g.rest.from + 1 {
+    let to = seek_place(v, g, g.rest.from);
+    if !to.found {
         return;
     }
-    let d = lines_lookup::call_at(v, g.rest.from);
-    if d.line != g.call.line {
-        return;
-    }
-    let points = ride_points(v, g, d.place);
-    query_minutes::note(best, lines_lookup::arrive_at(v, g.line, d.place, j), points);
+    query_minutes::note(
+        best,
+        lines_lookup::arrive_at(v, g.line, to.place, j),
+        to.points,
+    );
 }
 
 // Notes, at each call of station from, the ride to station to on the first trip that leaves at the minute or later. A

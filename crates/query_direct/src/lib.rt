@@ -14,8 +14,10 @@ use replies::Reply;
 use rides::KEPT_WORDS;
 use rows::ROW_WORDS;
 
-// The penalty of a ride is taken in the same way where rides of connections are gone through.
-pub use costs::ride_points;
+// Places to ride to are sought in the same way where rides of connections are gone through.
+pub use costs::Place;
+pub use costs::nowhere;
+pub use costs::seek_place;
 
 // Answers a query from line tables that belong to the timetable. The answer is measured before a word is written.
 fn show(

@@ -187,8 +187,8 @@ fn keep_trips(
     }
 }
 
-// Keeps the rides from the call that is boarded at to the nearest call of its line that is left, on the line's trips
-// from place first on. Those to later calls arrive later and cost no less: no row shows them.
+// Keeps the rides from the call that is boarded at to the nearest place of its line to which one may ride, on the
+// line's trips from place first on. Those to later places arrive later and cost no less: no row shows them.
 fn keep_nearest(v: &[u16], g: Boarding, first: usize, best: &[u32], kept: &mut [u32])
     requires { ⌜ Within (now v) g
         × (first ≤ g .line .trips)
@@ -200,15 +200,20 @@ fn keep_nearest(v: &[u16], g: Boarding, first: usize, best: &[u32], kept: &mut [
         (nearest (reachBy (now (v .entry)) g))) ⌝ }
     ensures { λ _. ⌜ length (now (kept .exit)) ≡ length (now (kept .entry)) ⌝ }
 {
-    if g.rest.end <= g.rest.from + 1 {
+    let to = costs::seek_place(v, g, g.rest.from);
+    if !to.found {
         return;
     }
-    let d = lines_lookup::call_at(v, g.rest.from);
-    if d.line != g.call.line {
-        return;
-    }
-    let points = costs::ride_points(v, g, d.place);
-    keep_trips(v, g.line, g.call.place, d.place, first, points, best, kept);
+    keep_trips(
+        v,
+        g.line,
+        g.call.place,
+        to.place,
+        first,
+        to.points,
+        best,
+        kept,
+    );
 }
 
 // Goes once through the rides from the calls of one station to the nearest of another that leave at the minute or

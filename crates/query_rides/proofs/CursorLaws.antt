@@ -17,12 +17,10 @@ use Rattle.lines_lookup.specs.Calls.{Piece, Boarding, callsOf, callsIn, BoardsA
 use Rattle.query_direct.specs.Candidates.{Reach, nearest, legs, rideOn, nearLeg, nearRead, allLeg, allRead}
 use Rattle.query_direct.specs.Turns.{nearCalls, allCalls}
 use Rattle.query_direct.proofs.CallLaws.{legs-none, legs-more}
-use Rattle.query_rides.specs.declared.Place.{Place}
+use Rattle.query_direct.specs.Places.{rest, reachAt, restAt}
+use Rattle.query_direct.specs.declared.costs.Place.{Place}
 use Rattle.query_rides.specs.declared.Cursor.{Cursor}
 use Rattle.query_rides.specs.Riding.{
-  rest,
-  reachAt,
-  restAt,
   callsFrom,
   tripsOf,
   rideOf,

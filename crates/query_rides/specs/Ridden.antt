@@ -20,11 +20,12 @@ use Rattle.lines_lookup.specs.Holding.{holding}
 use Rattle.lines_check.specs.Question10.{areTables}
 use Rattle.lines_check.specs.Built.{begins-holds}
 use Rattle.query_direct.specs.Candidates.{rideOn, nearRead, allRead}
+use Rattle.query_direct.specs.Places.{reachAt}
 use Rattle.query_direct.specs.Bounds.{Bounds}
 use Rattle.query_direct.specs.Nearest.{Nearer}
 use Rattle.query_direct.specs.Gathered.{all-read, near-all, all-near, near-bounds}
 use Rattle.query_rides.specs.declared.Cursor.{Cursor}
-use Rattle.query_rides.specs.Riding.{reachAt, rideOf, left, Good}
+use Rattle.query_rides.specs.Riding.{rideOf, left, Good}
 
 -- what a connection begins with: a direct one is its ride
 abbrev firstRide : Connection → Ride

@@ -9,23 +9,11 @@ use lib.ListN.{length}
 use Rattle.lists.specs.Lists.{concatMap}
 use Rattle.connections.specs.Rides.{Ride}
 use Rattle.lines_lookup.specs.Calls.{Piece, Boarding, callsIn, Inside, Within}
-use Rattle.query_direct.specs.Candidates.{Reach, reachOf, rideOn}
+use Rattle.query_direct.specs.Candidates.{Reach, rideOn}
+use Rattle.query_direct.specs.Places.{rest, reachAt}
 use Rattle.query_direct.specs.Turns.{tripsFrom, nearCalls, allCalls}
 use Rattle.query_rides.specs.declared.Ride.{Ride as RideStruct}
-use Rattle.query_rides.specs.declared.Place.{Place}
 use Rattle.query_rides.specs.declared.Cursor.{Cursor}
-
--- the places to alight at, from the call at index k on
-unfoldable pub rest : List ℕ → (g : Boarding) (k : ℕ) → List Reach
-rest v g k = reachOf v (g .line) (g .call) (callsIn v (record { from = k; end = g .rest .end }))
-
--- the place at which one alights, and the penalty of the ride to it
-abbrev pub reachAt : Place → Reach
-reachAt s = record { place = s .place; points = s .points .0 }
-
--- a place found, and those after it
-unfoldable pub restAt : List ℕ → (g : Boarding) → Place → List Reach
-restAt v g s = cond (s .found) (reachAt s ∷ rest v g (s .next)) []
 
 -- the rides from the calls in one piece to those in another
 unfoldable pub callsFrom : List ℕ → (u : ℕ) (calls others : Piece) → List Ride

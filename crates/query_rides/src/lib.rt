@@ -1,19 +1,20 @@
 // The rides from one station to another that leave at a minute or later, one after the other, from line tables, all of
 // them or those to the nearest places; and what a change between two rides takes and costs.
 ghost use mathlib.Core.Path.{_≡_};
-ghost use mathlib.Core.Bool.{true, false};
+ghost use mathlib.Core.Bool.{true};
 ghost use mathlib.Core.List.{_∷_};
 ghost use Prim.Native.Nat.{_-_, _≤_, _<_};
 ghost use lib.ListN.{length};
 ghost use Rattle.timetable.specs.Words.{stationAt};
-ghost use Rattle.lines_lookup.specs.Calls.{Inside, Within};
+ghost use Rattle.lines_lookup.specs.Calls.{Inside};
 ghost use Rattle.query_direct.specs.Candidates.{nearRead, allRead};
 ghost use Rattle.query_rides.specs.Riding.{Good, Tells, left, nearLeft, rideOf, callsFrom};
-ghost use Rattle.query_rides.specs.Riding.{nearFrom, rest, restAt};
+ghost use Rattle.query_rides.specs.Riding.{nearFrom};
 use lines_lookup::Boarding;
 use lines_lookup::Call;
 use lines_lookup::Line;
 use lines_lookup::Piece;
+use query_direct::Place;
 use results::Cost;
 use results::Minutes;
 use results::Points;
@@ -28,14 +29,6 @@ pub struct Ride {
     pub points: Points,
 }
 
-// A place to alight at and the penalty of the ride to it, if one was found, and the index of the call after it.
-pub struct Place {
-    pub found: bool,
-    pub place: usize,
-    pub points: Points,
-    pub next: usize,
-}
-
 // Where one stands in the rides: the calls that are left to board at; the call boarded at, with those that were left to
 // alight at; the first trip that leaves in time; the place alighted at, and the trip.
 pub struct Cursor {
@@ -45,40 +38,6 @@ pub struct Cursor {
     pub first: usize,
     pub to: Place,
     pub j: usize,
-}
-
-// No place.
-fn nowhere() -> Place
-    ensures { λ r. ⌜ (r .found ≡ false) × (r .place < 65536) × (r .next ≤ 65536) ⌝ }
-{
-    Place {
-        found: false,
-        place: 0,
-        points: Points(0),
-        next: 0,
-    }
-}
-
-// The place of the call at index k, if it is one of the line that is boarded.
-fn seek_place(v: &[u16], g: Boarding, k: usize) -> Place
-    requires { ⌜ Within (now v) g × (k ≤ 65536) ⌝ }
-    ensures { λ r. ⌜ (rest (now (v .entry)) g k ≡ restAt (now (v .entry)) g r)
-        × (r .place < 65536)
-        × (r .next ≤ 65536) ⌝ }
-{
-    if g.rest.end <= k + 1 {
-        return nowhere();
-    }
-    let d = lines_lookup::call_at(v, k);
-    if d.line != g.call.line {
-        return nowhere();
-    }
-    Place {
-        found: true,
-        place: d.place,
-        points: query_direct::ride_points(v, g, d.place),
-        next: k + 2,
-    }
 }
 
 // The first ride from some calls to some others. Few calls lead to the station sought, so a trip is looked for only
@@ -96,7 +55,7 @@ fn seek_call(v: &[u16], minute: usize, calls: Piece, others: Piece) -> Cursor
         let g = lines_lookup::boarding_at(v, k, rest);
         rest = g.rest;
         k += 2;
-        let to = seek_place(v, g, g.rest.from);
+        let to = query_direct::seek_place(v, g, g.rest.from);
         if !to.found {
             continue;
         }
@@ -127,7 +86,7 @@ fn seek_call(v: &[u16], minute: usize, calls: Piece, others: Piece) -> Cursor
             rest,
         },
         first: 0,
-        to: nowhere(),
+        to: query_direct::nowhere(),
         j: 0,
     }
 }
@@ -166,7 +125,7 @@ pub fn next(v: &[u16], minute: usize, c: Cursor) -> Cursor
             j: c.j + 1,
         };
     }
-    let to = seek_place(v, g, here.next);
+    let to = query_direct::seek_place(v, g, here.next);
     if to.found {
         return Cursor {
             more: true,

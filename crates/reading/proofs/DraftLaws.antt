@@ -31,7 +31,7 @@ use Rattle.reading.proofs.YesLaws.{station-yes, StopYes, stop-yes}
 abbrev pub bodyOf : Draft → List ℕ
 bodyOf d = stationWords (d .stations) ++ stopWords (stopsIn d)
 
-pub length-bodyOf : (d : Draft) → length (bodyOf d) ≡ 2 * length (d .stations) + 4 * length (stopsIn d)
+pub length-bodyOf : (d : Draft) → length (bodyOf d) ≡ 2 * length (d .stations) + 5 * length (stopsIn d)
 length-bodyOf d =
     simp (length-append, length-stationWords, length-stopWords)
 
@@ -60,7 +60,7 @@ progress-grows d Shapeless = refl
 
 -- ---- the words of stations and stops
 stop-body : (d : Draft) (s : Stop) (t : Bool)
-    → bodyOf (withStop d s t) ≡ bodyOf d ++ (s .station ∷ s .arrive ∷ s .depart ∷ s .points ∷ [])
+    → bodyOf (withStop d s t) ≡ bodyOf d ++ (s .station ∷ s .arrive ∷ s .depart ∷ s .points ∷ s .mark ∷ [])
 unfolding stopWords
 stop-body d s true =
     rw (stops-ended d s, append-nil, stopWords-append (stopsIn d) (s ∷ []), append-assoc)

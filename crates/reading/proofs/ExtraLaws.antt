@@ -1,16 +1,15 @@
 -- The ways out of the functions that put the questions to a line of an extra trip, on plain values.
 use mathlib.Core.Path.{_≡_, sym, _∙_}
-use mathlib.Core.Bool.{Bool, true, false, cond, not, _&&_}
+use mathlib.Core.Bool.{Bool, true, false, cond, not}
 use mathlib.Core.List.{[], _∷_}
 use Prim.Native.Nat.{ℕ, _+_, _≤_, _<_}
-use native.Mathlib.Decide.{ℕ-discrete}
 use borrow.Author.Tests.{lt-ltb, le-ltb, le-leb, lt-leb, eq-eqb, ne-eqb, not-true, not-false}
-use lib.Dec.{leb, ltb, eqb}
+use lib.Dec.{ltb, eqb}
 use Rattle.questions.specs.Question.{ask, firstNo}
-use Rattle.text.specs.Range.{inRange, rangeNumber, range-in, range-out, range-three}
+use Rattle.text.specs.Range.{rangeNumber, range-in, range-out, range-three}
 use Rattle.text.specs.declared.StationLine.{StationLine}
 use Rattle.text.specs.declared.StopLine.{StopLine}
-use Rattle.reading.specs.Draft.{Rules, extraStation, extraInRange}
+use Rattle.reading.specs.Draft.{Rules, stopInRange, extraStation, extraInRange}
 use Rattle.reading.specs.Progress.{stopFitsAt, placeOfExtra, roomForExtra, extraStopAt}
 use Rattle.reading.specs.declared.Progress.{Progress}
 
@@ -44,39 +43,8 @@ module _ (l : StopLine) where
   pub no-trip : l .trip < 1 → false ≡ extraInRange l
   no-trip h = simp (lt-leb 1 (l .trip) h)
 
-  module _ (some : 1 ≤ l .trip) (a : ℕ) (is-a : a ≡ rangeNumber 3 (l .arrive)) where
-    pub arrive-out : (a ≡ 0 → ⊥) → false ≡ extraInRange l
-    arrive-out h = simp (le-leb 1 (l .trip) some, range-out 3 (l .arrive) a is-a h)
-
-    module _ (in-a : a ≡ 0) (d : ℕ) (is-d : d ≡ rangeNumber 3 (l .depart)) where
-      pub depart-out : (d ≡ 0 → ⊥) → false ≡ extraInRange l
-      depart-out h =
-          simp (
-            le-leb 1 (l .trip) some,
-            range-in 3 (l .arrive) a is-a in-a,
-            range-out 3 (l .depart) d is-d h,
-          )
-
-      pub ride-decides : d ≡ 0 → (q : ℕ) → q ≡ rangeNumber 4 (l .points) → eqb q 0 ≡ extraInRange l
-      ride-decides in-d q is-q =
-          elim (ℕ-discrete q 0) [
-            | yes e ↦
-                eq-eqb q 0 e
-                ∙ simp (
-                  le-leb 1 (l .trip) some,
-                  range-in 3 (l .arrive) a is-a in-a,
-                  range-in 3 (l .depart) d is-d in-d,
-                  range-in 4 (l .points) q is-q e,
-                )
-            | no e ↦
-                ne-eqb q 0 e
-                ∙ simp (
-                  le-leb 1 (l .trip) some,
-                  range-in 3 (l .arrive) a is-a in-a,
-                  range-in 3 (l .depart) d is-d in-d,
-                  range-out 4 (l .points) q is-q e,
-                )
-          ]
+  pub trip-some : 1 ≤ l .trip → (t : Bool) → t ≡ stopInRange l → t ≡ extraInRange l
+  trip-some h t e = e ∙ simp (le-leb 1 (l .trip) h)
 
 -- its place
 module _ (r : Rules) (p : Progress) (l : StopLine) where

@@ -128,9 +128,9 @@ pub record Kept (r : Rules) (n : ℕ) (text body₀ starts₀ body starts : List
     pub is-starts : starts ≡ put 0 (startWords 0 (draft .trips)) starts₀
     pub is-read : readAfter r body₀ n text ≡ readUnder r timeValue draft line (pieces 10 (drop from text))
     pub within : Within p
-    pub long-body : length body ≡ 8320
+    pub long-body : length body ≡ 10368
     pub long-starts : length starts ≡ 257
-    pub body-room : length body₀ ≡ 8320
+    pub body-room : length body₀ ≡ 10368
     pub starts-room : length starts₀ ≡ 257
     pub in-text : from ≤ length text
     pub some-line : 1 ≤ line
@@ -139,7 +139,7 @@ pub record Kept (r : Rules) (n : ℕ) (text body₀ starts₀ body starts : List
 abbrev pub beginning : (stations : ℕ) → Progress
 beginning n = record { stations = n; trips = 0; stops = 0; begun = 0; station = 0; depart = 0 }
 
-pub kept-at-first : (r : Rules) (n : ℕ) (text body starts : List ℕ) → n ≤ 64 → length body ≡ 8320
+pub kept-at-first : (r : Rules) (n : ℕ) (text body starts : List ℕ) → n ≤ 64 → length body ≡ 10368
     → length starts ≡ 257 → Kept r n text body (set starts 0 0) body (set starts 0 0) (beginning n) 1 0
 unfolding startWords stopWords
 kept-at-first r n text body starts few h g =
@@ -374,8 +374,8 @@ module _
           unfolding bodyAfter next
           next-body =
               let room = length-bodyOf (k .draft) in
-              let place : 2 * p .stations + 4 * p .stops ≡ 0 + length (bodyOf (k .draft)) =
-              ap (λ (x : Progress). 2 * x .stations + 4 * x .stops) (k .is-progress) ∙ omega arith in
+              let place : 2 * p .stations + 5 * p .stops ≡ 0 + length (bodyOf (k .draft)) =
+              ap (λ (x : Progress). 2 * x .stations + 5 * x .stops) (k .is-progress) ∙ omega arith in
               body-after
               ∙ simp (eq-eqb (lineNumberAt r p (lineAt text from end)) 0 accepted-here)
               (rw (k .is-body, place, body-grows r (k .draft) (lineAt text from end) accepted)

@@ -1,12 +1,13 @@
 -- The ways out of the functions that put the questions to a line, on plain values.
-use mathlib.Core.Path.{_≡_, _∙_}
-use mathlib.Core.Bool.{Bool, true, false, _&&_, _||_}
+use mathlib.Core.Path.{_≡_, sym, _∙_}
+use mathlib.Core.Bool.{Bool, true, false, not, _&&_, _||_}
 use Prim.Native.Nat.{ℕ, _+_, _≤_, _<_}
-use borrow.Author.Tests.{lt-ltb, le-ltb, le-leb, lt-leb, eq-eqb, ne-eqb}
+use borrow.Author.Tests.{lt-ltb, le-ltb, le-leb, lt-leb, eq-eqb, ne-eqb, not-true, not-false}
 use lib.Dec.{leb, ltb, eqb}
-use Rattle.text.specs.Range.{inRange, rangeNumber, range-in, range-out, range-three}
+use Rattle.text.specs.Range.{inRange, rangeNumber, range-in, range-out, range-three, range-test}
 use Rattle.text.specs.declared.StationLine.{StationLine}
 use Rattle.text.specs.declared.StopLine.{StopLine}
+use Rattle.reading.specs.Draft.{stopInRange}
 use Rattle.reading.specs.Progress.{stationNumberAt, stopNumberAt, stopFitsAt}
 use Rattle.reading.specs.declared.Progress.{Progress}
 
@@ -102,71 +103,78 @@ module _ (p : Progress) (l : StopLine) where
             pub middle-fits : l .last ≡ false → leb (l .arrive) (l .depart) ≡ stopFitsAt p l
             middle-fits h = simp (by-last, h)
 
--- ---- a stop line
-module _ (p : Progress) (l : StopLine) (a : ℕ) (is-a : a ≡ rangeNumber 3 (l .arrive)) where
-  pub arrive-refused : (a ≡ 0 → ⊥) → a ≡ stopNumberAt p l
-  unfolding stopNumberAt
-  arrive-refused h =
-      range-three 3 (l .arrive) a is-a h
-      ∙ simp (range-out 3 (l .arrive) a is-a h)
+-- ---- a stop line: its range
+module _ (l : StopLine) (a : ℕ) (is-a : a ≡ rangeNumber 3 (l .arrive)) where
+  pub arrive-out : (a ≡ 0 → ⊥) → false ≡ stopInRange l
+  unfolding stopInRange
+  arrive-out h = simp (range-out 3 (l .arrive) a is-a h)
 
   module _ (in-a : a ≡ 0) (d : ℕ) (is-d : d ≡ rangeNumber 3 (l .depart)) where
-    pub depart-refused : (d ≡ 0 → ⊥) → d ≡ stopNumberAt p l
-    unfolding stopNumberAt
-    depart-refused h =
-        range-three 3 (l .depart) d is-d h
-        ∙ simp (range-in 3 (l .arrive) a is-a in-a, range-out 3 (l .depart) d is-d h)
+    pub depart-out : (d ≡ 0 → ⊥) → false ≡ stopInRange l
+    unfolding stopInRange
+    depart-out h = simp (range-in 3 (l .arrive) a is-a in-a, range-out 3 (l .depart) d is-d h)
 
     module _ (in-d : d ≡ 0) (q : ℕ) (is-q : q ≡ rangeNumber 4 (l .points)) where
-      pub ride-refused : (q ≡ 0 → ⊥) → q ≡ stopNumberAt p l
-      unfolding stopNumberAt
-      ride-refused h =
-          range-three 4 (l .points) q is-q h
-          ∙ simp (
+      pub ride-out : (q ≡ 0 → ⊥) → false ≡ stopInRange l
+      unfolding stopInRange
+      ride-out h =
+          simp (
             range-in 3 (l .arrive) a is-a in-a,
             range-in 3 (l .depart) d is-d in-d,
             range-out 4 (l .points) q is-q h,
           )
 
-      module _ (in-q : q ≡ 0) where
-        stop-in-range : (inRange 3 (l .arrive) && inRange 3 (l .depart) && inRange 4 (l .points)) ≡ true
-        stop-in-range =
-            simp (
-              range-in 3 (l .arrive) a is-a in-a,
-              range-in 3 (l .depart) d is-d in-d,
-              range-in 4 (l .points) q is-q in-q,
-            )
+      pub mark-decides : q ≡ 0 → (m : ℕ) → m ≡ rangeNumber 5 (l .mark) → eqb m 0 ≡ stopInRange l
+      unfolding stopInRange
+      mark-decides in-q m is-m =
+          sym
+          (simp (
+            range-in 3 (l .arrive) a is-a in-a,
+            range-in 3 (l .depart) d is-d in-d,
+            range-in 4 (l .points) q is-q in-q,
+            range-test 5 (l .mark) m is-m,
+          ))
 
-        pub other-trip : (l .trip ≡ p .trips + 1 → ⊥) → 4 ≡ stopNumberAt p l
+-- ---- a stop line: all questions
+module _ (p : Progress) (l : StopLine) (t : Bool) (is-t : t ≡ stopInRange l) where
+  pub out-of-range : not t ≡ true → 3 ≡ stopNumberAt p l
+  unfolding stopNumberAt
+  out-of-range h = simp (← is-t, not-true t h)
+
+  module _ (still : not t ≡ false) where
+    in-range : stopInRange l ≡ true
+    in-range = sym is-t ∙ not-false t still
+
+    pub other-trip : (l .trip ≡ p .trips + 1 → ⊥) → 4 ≡ stopNumberAt p l
+    unfolding stopNumberAt
+    other-trip h = simp (in-range, ne-eqb (l .trip) (p .trips + 1) h)
+
+    module _ (trip : l .trip ≡ p .trips + 1) where
+      pub other-stop : (l .stop ≡ p .begun + 1 → ⊥) → 4 ≡ stopNumberAt p l
+      unfolding stopNumberAt
+      other-stop h = simp (in-range, eq-eqb (l .trip) (p .trips + 1) trip, ne-eqb (l .stop) (p .begun + 1) h)
+
+      module _ (stop : l .stop ≡ p .begun + 1) where
+        stop-in-place : (eqb (l .trip) (p .trips + 1) && eqb (l .stop) (p .begun + 1)) ≡ true
+        stop-in-place = simp (eq-eqb (l .trip) (p .trips + 1) trip, eq-eqb (l .stop) (p .begun + 1) stop)
+
+        pub trips-full : 256 ≤ p .trips → 5 ≡ stopNumberAt p l
         unfolding stopNumberAt
-        other-trip h = simp (stop-in-range, ne-eqb (l .trip) (p .trips + 1) h)
+        trips-full h = simp (in-range, stop-in-place, le-ltb (p .trips) 256 h)
 
-        module _ (trip : l .trip ≡ p .trips + 1) where
-          pub other-stop : (l .stop ≡ p .begun + 1 → ⊥) → 4 ≡ stopNumberAt p l
+        module _ (trips : p .trips < 256) where
+          pub stops-full : 2048 ≤ p .stops → 5 ≡ stopNumberAt p l
           unfolding stopNumberAt
-          other-stop h = simp (stop-in-range, eq-eqb (l .trip) (p .trips + 1) trip, ne-eqb (l .stop) (p .begun + 1) h)
+          stops-full h = simp (in-range, stop-in-place, lt-ltb (p .trips) 256 trips, le-ltb (p .stops) 2048 h)
 
-          module _ (stop : l .stop ≡ p .begun + 1) where
-            stop-in-place : (eqb (l .trip) (p .trips + 1) && eqb (l .stop) (p .begun + 1)) ≡ true
-            stop-in-place = simp (eq-eqb (l .trip) (p .trips + 1) trip, eq-eqb (l .stop) (p .begun + 1) stop)
+          module _ (stops : p .stops < 2048) (f : Bool) (is-f : f ≡ stopFitsAt p l) where
+            stop-counted : (ltb (p .trips) 256 && ltb (p .stops) 2048) ≡ true
+            stop-counted = simp (lt-ltb (p .trips) 256 trips, lt-ltb (p .stops) 2048 stops)
 
-            pub trips-full : 256 ≤ p .trips → 5 ≡ stopNumberAt p l
+            pub stop-taken : f ≡ true → 0 ≡ stopNumberAt p l
             unfolding stopNumberAt
-            trips-full h = simp (stop-in-range, stop-in-place, le-ltb (p .trips) 256 h)
+            stop-taken h = simp (in-range, stop-in-place, stop-counted, ← is-f, h)
 
-            module _ (trips : p .trips < 256) where
-              pub stops-full : 2048 ≤ p .stops → 5 ≡ stopNumberAt p l
-              unfolding stopNumberAt
-              stops-full h = simp (stop-in-range, stop-in-place, lt-ltb (p .trips) 256 trips, le-ltb (p .stops) 2048 h)
-
-              module _ (stops : p .stops < 2048) (f : Bool) (is-f : f ≡ stopFitsAt p l) where
-                stop-counted : (ltb (p .trips) 256 && ltb (p .stops) 2048) ≡ true
-                stop-counted = simp (lt-ltb (p .trips) 256 trips, lt-ltb (p .stops) 2048 stops)
-
-                pub stop-taken : f ≡ true → 0 ≡ stopNumberAt p l
-                unfolding stopNumberAt
-                stop-taken h = simp (stop-in-range, stop-in-place, stop-counted, ← is-f, h)
-
-                pub stop-refused : f ≡ false → 6 ≡ stopNumberAt p l
-                unfolding stopNumberAt
-                stop-refused h = simp (stop-in-range, stop-in-place, stop-counted, ← is-f, h)
+            pub stop-refused : f ≡ false → 6 ≡ stopNumberAt p l
+            unfolding stopNumberAt
+            stop-refused h = simp (in-range, stop-in-place, stop-counted, ← is-f, h)

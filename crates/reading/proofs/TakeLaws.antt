@@ -37,7 +37,7 @@ module _ (r : Rules) (p : Progress) (line : Line) (n : ℕ) (is : n ≡ lineNumb
     unfolding nextOf
     taken-next q e = simp (← is, eq-eqb n 0 none, e)
 
-    pub taken-body : (body old : List ℕ) → body ≡ put (2 * p .stations + 4 * p .stops) (lineWords line) old
+    pub taken-body : (body old : List ℕ) → body ≡ put (2 * p .stations + 5 * p .stops) (lineWords line) old
         → body ≡ bodyAfter r p line old
     unfolding bodyAfter
     taken-body body old e = simp (← is, eq-eqb n 0 none) e

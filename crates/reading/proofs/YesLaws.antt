@@ -9,7 +9,7 @@ use borrow.Author.Tests.{ltb-true, leb-true, eqb-true}
 use lib.Dec.{leb, ltb, eqb}
 use Rattle.questions.specs.Question.{ask, firstNo, yes-here, yes-later}
 use Rattle.lists.specs.Tests.{and-left, and-right}
-use Rattle.text.specs.Range.{inRange, minutes-bound, points-bound, time-bound, ride-bound}
+use Rattle.text.specs.Range.{inRange, minutes-bound, points-bound, time-bound, ride-bound, mark-bound}
 use Rattle.text.specs.declared.Line.the-variants.{Station as StationIn, Stop as StopIn}
 use Rattle.text.specs.declared.StationLine.{StationLine}
 use Rattle.text.specs.declared.StopLine.{StopLine}
@@ -92,7 +92,7 @@ station-yes r p l n is e = by-kind (r .extra) (sym is ∙ e)
 -- its words have room, and fit
 module _ (r : Rules) (p : Progress) (l : StationLine) (n : ℕ) (is : n ≡ lineNumberAt r p (StationIn l)) (e : n ≡ 0)
   where
-    pub station-room : (body : List ℕ) → length body ≡ 8320 → 2 * p .stations + 4 * p .stops + 2 ≤ length body
+    pub station-room : (body : List ℕ) → length body ≡ 10368 → 2 * p .stations + 5 * p .stops + 2 ≤ length body
     station-room body h = omega (arith, station-yes r p l n is e)
 
     pub minutes-word : l .minutes < 65536
@@ -105,6 +105,7 @@ pub record StopYes (p : Progress) (l : StopLine) : Type 0 where
   pub arrive : l .arrive ≤ lastMinute
   pub depart : l .depart ≤ lastMinute
   pub points : l .points ≤ 100
+  pub mark : l .mark ≤ 2
   pub trips : p .trips < 256
   pub stops : p .stops < 2048
   pub station : l .station ≤ p .stations
@@ -121,16 +122,20 @@ record Ranges (l : StopLine) : Type 0 where
   arrive : l .arrive ≤ lastMinute
   depart : l .depart ≤ lastMinute
   points : l .points ≤ 100
+  mark : l .mark ≤ 2
 
 ranges : (l : StopLine) → stopInRange l ≡ true → Ranges l
+unfolding stopInRange
 ranges l e =
-    let times = and-left (inRange 3 (l .arrive) && inRange 3 (l .depart)) (inRange 4 (l .points)) e in
+    let times = inRange 3 (l .arrive) && inRange 3 (l .depart) in
+    let ride = times && inRange 4 (l .points) in
+    let in-times = and-left times (inRange 4 (l .points)) (and-left ride (inRange 5 (l .mark)) e) in
     record {
-      arrive = time-bound (l .arrive) (and-left (inRange 3 (l .arrive)) (inRange 3 (l .depart)) times);
-      depart = time-bound (l .depart) (and-right (inRange 3 (l .arrive)) (inRange 3 (l .depart)) times);
+      arrive = time-bound (l .arrive) (and-left (inRange 3 (l .arrive)) (inRange 3 (l .depart)) in-times);
+      depart = time-bound (l .depart) (and-right (inRange 3 (l .arrive)) (inRange 3 (l .depart)) in-times);
       points =
-          ride-bound (l .points)
-          (and-right (inRange 3 (l .arrive) && inRange 3 (l .depart)) (inRange 4 (l .points)) e);
+          ride-bound (l .points) (and-right times (inRange 4 (l .points)) (and-left ride (inRange 5 (l .mark)) e));
+      mark = mark-bound (l .mark) (and-right ride (inRange 5 (l .mark)) e);
     }
 
 text-stop-yes : (p : Progress) (l : StopLine) → stopNumberAt p l ≡ 0 → StopYes p l
@@ -142,6 +147,7 @@ text-stop-yes p l e =
       arrive = in-range .arrive;
       depart = in-range .depart;
       points = in-range .points;
+      mark = in-range .mark;
       trips = ltb-true (p .trips) 256 (and-left (ltb (p .trips) 256) (ltb (p .stops) 2048) (all .2));
       stops = ltb-true (p .stops) 2048 (and-right (ltb (p .trips) 256) (ltb (p .stops) 2048) (all .2));
       station = stop-station p l (all .3);
@@ -161,6 +167,7 @@ extra-stop-yes r p l e =
       arrive = in-range .arrive;
       depart = in-range .depart;
       points = in-range .points;
+      mark = in-range .mark;
       trips = omega (arith, few-trips);
       stops = omega (arith, few-stops);
       station = stop-station p l (all .3);
@@ -186,6 +193,9 @@ module _ (r : Rules) (p : Progress) (l : StopLine) (n : ℕ) (is : n ≡ lineNum
   pub ride-word : l .points < 65536
   ride-word = omega (arith, stop-yes r p l n is e)
 
+  pub mark-word : l .mark < 65536
+  mark-word = omega (arith, stop-yes r p l n is e)
+
   pub trips-below : p .trips < 256
   trips-below = (stop-yes r p l n is e) .trips
 
@@ -196,5 +206,5 @@ module _ (r : Rules) (p : Progress) (l : StopLine) (n : ℕ) (is : n ≡ lineNum
     pub station-word : l .station < 65536
     station-word = omega (arith, stop-yes r p l n is e, within)
 
-    pub stop-room : (body : List ℕ) → length body ≡ 8320 → 2 * p .stations + 4 * p .stops + 4 ≤ length body
+    pub stop-room : (body : List ℕ) → length body ≡ 10368 → 2 * p .stations + 5 * p .stops + 5 ≤ length body
     stop-room body h = omega (arith, stop-yes r p l n is e, within)

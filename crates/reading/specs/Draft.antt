@@ -28,7 +28,7 @@ blank = opening []
 
 -- the last stop of a trip
 abbrev pub final : Trip → Stop
-final [] = record { station = 0; arrive = 0; depart = 0; points = 0 }
+final [] = record { station = 0; arrive = 0; depart = 0; points = 0; mark = 0 }
 final (s ∷ []) = s
 final (s ∷ u ∷ l) = final (u ∷ l)
 
@@ -55,8 +55,8 @@ stationNumber d l =
 
 -- ---- the questions to a stop line
 -- "In range? 3"
-abbrev pub stopInRange : StopLine → Bool
-stopInRange l = inRange 3 (l .arrive) && inRange 3 (l .depart) && inRange 4 (l .points)
+unfoldable pub stopInRange : StopLine → Bool
+stopInRange l = inRange 3 (l .arrive) && inRange 3 (l .depart) && inRange 4 (l .points) && inRange 5 (l .mark)
 
 -- "In place: .. then trips 1, 2, 3.., each with stops 1, 2, 3.. and begun only after the last trip's end? 4"
 abbrev pub stopInPlace : Draft → StopLine → Bool
@@ -147,7 +147,8 @@ abbrev pub stationOfLine : StationLine → Station
 stationOfLine l = record { minutes = l .minutes; points = l .points }
 
 abbrev pub stopOfLine : StopLine → Stop
-stopOfLine l = record { station = l .station; arrive = l .arrive; depart = l .depart; points = l .points }
+stopOfLine l =
+    record { station = l .station; arrive = l .arrive; depart = l .depart; points = l .points; mark = l .mark }
 
 -- a stop more; an empty depart ends the trip
 abbrev pub withStop : Draft → Stop → (last : Bool) → Draft

@@ -87,13 +87,13 @@ nextOf r p line = cond (eqb (lineNumberAt r p line) 0) (On (advance p line)) (Ne
 -- the words that a line adds to those of stations and stops
 abbrev pub lineWords : Line → List ℕ
 lineWords (StationIn l) = l .minutes ∷ l .points ∷ []
-lineWords (StopIn l) = l .station ∷ l .arrive ∷ l .depart ∷ l .points ∷ []
+lineWords (StopIn l) = l .station ∷ l .arrive ∷ l .depart ∷ l .points ∷ l .mark ∷ []
 lineWords Shapeless = []
 
 -- the array of stations' and stops' words after a line
 unfoldable pub bodyAfter : Rules → Progress → Line → List ℕ → List ℕ
 bodyAfter r p line old =
-    cond (eqb (lineNumberAt r p line) 0) (put (2 * p .stations + 4 * p .stops) (lineWords line) old) old
+    cond (eqb (lineNumberAt r p line) 0) (put (2 * p .stations + 5 * p .stops) (lineWords line) old) old
 
 -- the array of starts after an accepted line: a trip's last stop says where the next trip begins
 abbrev pub startsWith : Progress → Line → List ℕ → List ℕ

@@ -7,7 +7,7 @@ ghost use lib.ListN.{length, set};
 ghost use Rattle.text.specs.Shape.{shapeOf};
 ghost use Rattle.text.specs.declared.Line.the-variants.{Station, Stop};
 ghost use Rattle.lists.specs.Lists.{range};
-ghost use Rattle.reading.specs.Draft.{extraStation, extraInRange};
+ghost use Rattle.reading.specs.Draft.{stopInRange, extraStation, extraInRange};
 ghost use Rattle.reading.specs.Progress.{
   stationNumberAt,
   stopNumberAt,
@@ -105,6 +105,22 @@ fn station_number(p: Progress, l: StationLine) -> u32
     0
 }
 
+// Question 3 to a stop line.
+fn stop_in_range(l: StopLine) -> bool
+    ensures { λ r. ⌜ r ≡ stopInRange l ⌝ }
+{
+    if text::range_number(text::TIME, l.arrive) != 0 {
+        return false;
+    }
+    if text::range_number(text::TIME, l.depart) != 0 {
+        return false;
+    }
+    if text::range_number(text::RIDE_PENALTY, l.points) != 0 {
+        return false;
+    }
+    text::range_number(text::MARK, l.mark) == 0
+}
+
 // Question 6 to a stop line.
 fn stop_fits(p: Progress, l: StopLine) -> bool
     requires { ⌜ Within p ⌝ }
@@ -136,17 +152,8 @@ fn stop_number(p: Progress, l: StopLine) -> u32
     requires { ⌜ Within p ⌝ }
     ensures { λ r. ⌜ r ≡ stopNumberAt p l ⌝ }
 {
-    let arrive = text::range_number(text::TIME, l.arrive);
-    if arrive != 0 {
-        return arrive;
-    }
-    let depart = text::range_number(text::TIME, l.depart);
-    if depart != 0 {
-        return depart;
-    }
-    let points = text::range_number(text::RIDE_PENALTY, l.points);
-    if points != 0 {
-        return points;
+    if !stop_in_range(l) {
+        return 3;
     }
     if l.trip as usize != p.trips + 1 {
         return 4;
@@ -188,13 +195,7 @@ fn extra_in_range(l: StopLine) -> bool
     if l.trip < 1 {
         return false;
     }
-    if text::range_number(text::TIME, l.arrive) != 0 {
-        return false;
-    }
-    if text::range_number(text::TIME, l.depart) != 0 {
-        return false;
-    }
-    text::range_number(text::RIDE_PENALTY, l.points) == 0
+    stop_in_range(l)
 }
 
 // Question 4 to a stop line of an extra trip.
@@ -264,7 +265,7 @@ fn stop_asked(rules: Rules, p: Progress, l: StopLine) -> u32
 
 // Puts the questions to a station line, and where all have a yes takes its words.
 fn take_station(rules: Rules, p: Progress, l: StationLine, body: &mut [u16]) -> Next
-    requires { ⌜ Within p × (length (now body) ≡ 8320) ⌝ }
+    requires { ⌜ Within p × (length (now body) ≡ 10368) ⌝ }
     ensures { λ r. ⌜ (r ≡ nextOf rules p (Station l))
         × (now (body .exit) ≡ bodyAfter rules p (Station l) (now (body .entry))) ⌝ }
 {
@@ -272,7 +273,7 @@ fn take_station(rules: Rules, p: Progress, l: StationLine, body: &mut [u16]) -> 
     if number != 0 {
         return Next::Refused(number);
     }
-    words::put_two(body, 2 * p.stations + 4 * p.stops, l.minutes, l.points);
+    words::put_two(body, 2 * p.stations + 5 * p.stops, l.minutes, l.points);
     Next::On(Progress {
         stations: p.stations + 1,
         trips: p.trips,
@@ -322,7 +323,7 @@ fn mark_start(p: Progress, last: bool, starts: &mut [u16])
 
 // Puts the questions to a stop line, and where all have a yes takes its words.
 fn take_stop(rules: Rules, p: Progress, l: StopLine, body: &mut [u16], starts: &mut [u16]) -> Next
-    requires { ⌜ Within p × Running rules × (length (now body) ≡ 8320) × (length (now starts) ≡ 257) ⌝ }
+    requires { ⌜ Within p × Running rules × (length (now body) ≡ 10368) × (length (now starts) ≡ 257) ⌝ }
     ensures { λ r. ⌜ (r ≡ nextOf rules p (Stop l))
         × (now (body .exit) ≡ bodyAfter rules p (Stop l) (now (body .entry)))
         × (now (starts .exit) ≡ startsAfter rules p (Stop l) (now (starts .entry))) ⌝ }
@@ -331,13 +332,14 @@ fn take_stop(rules: Rules, p: Progress, l: StopLine, body: &mut [u16], starts: &
     if number != 0 {
         return Next::Refused(number);
     }
-    words::put_four(
+    words::put_five(
         body,
-        2 * p.stations + 4 * p.stops,
+        2 * p.stations + 5 * p.stops,
         l.station,
         l.arrive,
         l.depart,
         l.points,
+        l.mark,
     );
     mark_start(p, l.last, starts);
     Next::On(after_stop(p, l))
@@ -345,7 +347,7 @@ fn take_stop(rules: Rules, p: Progress, l: StopLine, body: &mut [u16], starts: &
 
 // Takes a line, without its line end: the progress after it, or the number of the first no.
 fn take_line(rules: Rules, p: Progress, line: &[u8], body: &mut [u16], starts: &mut [u16]) -> Next
-    requires { ⌜ Within p × Running rules × (length (now body) ≡ 8320) × (length (now starts) ≡ 257) ⌝ }
+    requires { ⌜ Within p × Running rules × (length (now body) ≡ 10368) × (length (now starts) ≡ 257) ⌝ }
     ensures { λ r. ⌜ (r ≡ nextOf rules p (shapeOf (now (line .entry))))
         × (now (body .exit) ≡ bodyAfter rules p (shapeOf (now (line .entry))) (now (body .entry)))
         × (now (starts .exit) ≡ startsAfter rules p (shapeOf (now (line .entry))) (now (starts .entry))) ⌝ }
@@ -398,7 +400,7 @@ pub fn read_lines(
 ) -> Lines
     requires { ⌜ Running rules
         × (stations ≤ 64)
-        × (length (now body) ≡ 8320)
+        × (length (now body) ≡ 10368)
         × (length (now starts) ≡ 257) ⌝ }
     ensures { λ r. ⌜ LinesRead rules (readAfter rules (now (body .entry)) stations (now (text .entry)))
         r (now (body .exit))

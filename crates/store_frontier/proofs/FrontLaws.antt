@@ -8,10 +8,9 @@ use lib.ListN.{length, getD, set}
 use Rattle.timetable.specs.Timetable.{Stop}
 use Rattle.timetable.specs.Words.{stationCount, stopAt}
 use Rattle.store_stops.specs.Stopwise.{arrive}
-use Rattle.store_stops.specs.Prospects.{Allows}
 use Rattle.store_stops.specs.Settled.{Timely}
 use Rattle.store_frontier.specs.Arrivals.{Arrivals, Held, Run, held-part, run-of}
-use Rattle.store_frontier.specs.Allowing.{topOf, Allowing, allowing-more, allowing-all}
+use Rattle.store_frontier.specs.Allowing.{topOf, Allowing, allowing-more, allowing-all, AllowsAhead}
 use Rattle.store_frontier.specs.Front.{
   Least,
   MinuteTo,
@@ -191,5 +190,5 @@ module _ (w : List ℕ) (source : ℕ) (v : List ℕ) (c stations : ℕ) (v′ :
   stations-more arrivals first v″ s some on f =
       allowing-more w source v t arrivals first s c some (omega arith) v′ v″ k f
 
-  pub stations-all : stations < c → Allows w source v v′
+  pub stations-all : stations < c → AllowsAhead w source v v′
   stations-all h = allowing-all w source v t c v′ (omega arith) k

@@ -1,5 +1,6 @@
 -- The words that a turn of the pass computes are the bounds that it needs.
 use mathlib.Core.Path.{_≡_, refl, sym, ap, subst, _∙_}
+use mathlib.Core.Bool.{Bool, true, false, cond}
 use mathlib.Core.List.{List, [], _∷_, _++_, Memᴰ·append-right, List·Memᴰ·head as here}
 use Prim.Native.Nat.{ℕ, suc, _+_, _-_, _≤_, _<_, max}
 use native.Mathlib.Omega.{arith}
@@ -10,6 +11,7 @@ use lib.Seq.{length-take-le, getD-take, drop-cons}
 use Rattle.lists.specs.Lists.{_∈_}
 use Rattle.timetable.specs.Timetable.{Stop}
 use Rattle.timetable.specs.Words.{stationCount, stopAt}
+use Rattle.connections.specs.Rides.{mayBoard}
 use Rattle.timetable.specs.Access.{stations-few}
 use Rattle.store_departures.specs.Order.{order, catch}
 use Rattle.store_departures.specs.Rising.{minuteAt, Rising, Early, InTime, departures-rise, departures-early}
@@ -67,9 +69,17 @@ unfolding leaveBound
 leave-is w first e q leaving i a x y b c p r s is-a is-x is-y is-b is-c is-s is-p is-r =
     rw (is-r, is-p, is-s, is-c, is-a, is-b, is-x, is-y, add-one i)
 
-pub noted : (high l l′ : List ℕ) (i c b g h : ℕ) → g ≡ getD high c 0 → h ≡ max g b → l′ ≡ set l i h
+pub noted : (high l l′ : List ℕ) (i c y b g h : ℕ) → g ≡ getD high c 0 → y ≡ b → h ≡ max g y → l′ ≡ set l i h
     → l′ ≡ set l i (max (getD high c 0) b)
-noted high l l′ i c b g h is-g is-h is = is ∙ ap (set l i) (is-h ∙ ap (λ z. max z b) is-g)
+noted high l l′ i c y b g h is-g is-y is-h is = is ∙ ap (set l i) (is-h ∙ (λ z. max (is-g z) (is-y z)))
+
+-- ---- the bound of one who boards
+module _ (s : Stop) (b : ℕ) (o : Bool) (is : o ≡ mayBoard s) where
+  pub boards-below : o ≡ true → b ≡ cond (mayBoard s) b 0
+  boards-below e = rw (← is, e)
+
+  pub boards-never : o ≡ false → 0 ≡ cond (mayBoard s) b 0
+  boards-never e = rw (← is, e)
 
 -- ---- the departures
 module _ (w departures first : List ℕ) (n : ℕ) (r : Routes w departures n first) where
@@ -143,14 +153,15 @@ module _
           (known : Passed w e d (drop (p + 1) (order w)) q leaving high) where
         pub pass-more : (q′ leaving′ high′ : List ℕ) (b : ℕ) → b ≡ leaveBound w first e q leaving i
             → d ≤ minuteAt w departures p → length q ≡ 2048 → length leaving ≡ 2048 → length high ≡ 65
-            → q′ ≡ set q i (max (getD high (s .station) 0) b) → leaving′ ≡ set leaving i b
-            → high′ ≡ set high (s .station) (max (getD high (s .station) 0) b)
+            → q′ ≡ set q i (max (getD high (s .station) 0) (cond (mayBoard s) b 0)) → leaving′ ≡ set leaving i b
+            → high′ ≡ set high (s .station) (max (getD high (s .station) 0) (cond (mayBoard s) b 0))
             → Passed w e d (drop p (order w)) q′ leaving′ high′
         pass-more q′ leaving′ high′ b is-b timely long-q long-leaving long-high e-q e-leaving e-high =
             rw (e-q, e-leaving, e-high, is-s, left)
             (passed-more w e first d (r .timely) (r .ordered) (r .caught) (take p (order w)) (drop (p + 1) (order w)) q
-            leaving high i parts known (rw (← is-i) at timely) b (max (getD high (station w i) 0) b) is-b refl long-q
-            long-leaving long-high (stations-few w (r .accepted)))
+            leaving high i parts known (rw (← is-i) at timely) b (cond (mayBoard (stopAt w i)) b 0)
+            (max (getD high (station w i) 0) (cond (mayBoard (stopAt w i)) b 0)) is-b refl refl long-q long-leaving
+            long-high (stations-few w (r .accepted)))
 
 -- ---- the pass
 module _ (w departures first : List ℕ) (n : ℕ) (r : Routes w departures n first) (e : List ℕ) (d : ℕ) where

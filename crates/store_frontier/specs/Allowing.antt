@@ -1,7 +1,7 @@
 -- The frontiers of all stations, one after the other. At the start's own station no one is to end, so nothing is low
--- enough there.
+-- enough there. Where a stop is closed to alighting, no one is taken to arrive.
 use mathlib.Core.Path.{_≡_, refl, sym, ap, subst, _∙_}
-use mathlib.Core.Bool.{cond}
+use mathlib.Core.Bool.{Bool, true, false, cond}
 use mathlib.Core.Logic.{_↔_, _≢_}
 use mathlib.Core.List.{List}
 use Prim.Native.Nat.{ℕ, suc, _+_, _≤_, _<_}
@@ -9,14 +9,19 @@ use native.Mathlib.Omega.{arith}
 use native.Mathlib.Decide.{ℕ-discrete}
 use borrow.Author.Tests.{eq-eqb, ne-eqb}
 use lib.Dec.{eqb}
-use lib.ListN.{length, getD}
-use Rattle.timetable.specs.Words.{stationCount}
-use Rattle.store_stops.specs.Stopwise.{station, arrive, unreached, Goes}
+use lib.ListN.{length, getD, set}
+use lib.Seq.{getD-set-same, getD-set-other}
+use Rattle.timetable.specs.Timetable.{Stop}
+use Rattle.timetable.specs.Words.{stationCount, stopCount, stopAt, isTimetable}
+use Rattle.timetable.specs.Access.{stops-few}
+use Rattle.connections.specs.Rides.{mayAlight}
+use Rattle.store_stops.specs.Stopwise.{station, arrive, unreached, Goes, Alights}
 use Rattle.store_stops.specs.Paid.{OnFrontier}
 use Rattle.store_stops.specs.Prospects.{Allows}
 use Rattle.store_stops.specs.Settled.{Timely}
 use Rattle.store_frontier.specs.Arrivals.{part, Arrivals, Placed, placed, arrives-at}
 use Rattle.lists.specs.Lists.{_∈_}
+use Rattle.lists.specs.Tests.{either, T-true, T-false}
 use Rattle.store_frontier.specs.Front.{Front, Fronted}
 
 -- what is to be paid less than at station c
@@ -32,10 +37,23 @@ module _ (c source : ℕ) where
   unfolding topOf
   top-other h = rw (ne-eqb c source h)
 
+-- the arrival at stop j is elsewhere than at a, no one is there by then for less, and earlier only for more
+pub record Ahead (w : List ℕ) (a : ℕ) (v : List ℕ) (j : ℕ) : Type 0 where
+  pub elsewhere : station w j ≢ a
+  pub reached : getD v j 0 < unreached
+  pub least : (i : ℕ) → Goes w i → station w (suc i) ≡ station w j → arrive w (suc i) ≤ arrive w j
+      → getD v j 0 ≤ getD v (suc i) 0
+  pub first : (i : ℕ) → Goes w i → station w (suc i) ≡ station w j → arrive w (suc i) < arrive w j
+      → getD v j 0 < getD v (suc i) 0
+
+-- what is allowed at each arrival, as if all were open
+pub record AllowsAhead (w : List ℕ) (a : ℕ) (v e : List ℕ) : Type 0 where
+  pub within : (i x : ℕ) → Goes w i → (x < getD e (suc i) 0) ↔ (Ahead w a v (suc i) × (x ≤ getD v (suc i) 0))
+
 -- the stations before c are done
 pub record Allowing (w : List ℕ) (a : ℕ) (v : List ℕ) (c : ℕ) (v′ : List ℕ) : Type 0 where
   pub at : (i x : ℕ) → Goes w i → station w (suc i) < c
-      → (x < getD v′ (suc i) 0) ↔ (OnFrontier w a v (suc i) × (x ≤ getD v (suc i) 0))
+      → (x < getD v′ (suc i) 0) ↔ (Ahead w a v (suc i) × (x ≤ getD v (suc i) 0))
   pub off : (i : ℕ) → Goes w i → c ≤ station w (suc i) → getD v′ (suc i) 0 ≡ getD v (suc i) 0
   pub long : length v′ ≡ length v
 
@@ -48,7 +66,7 @@ module _ (w : List ℕ) (a : ℕ) (v : List ℕ) (t : Timely w) where
         long = refl;
       }
 
-  pub allowing-all : (c : ℕ) (v′ : List ℕ) → stationCount w < c → Allowing w a v c v′ → Allows w a v v′
+  pub allowing-all : (c : ℕ) (v′ : List ℕ) → stationCount w < c → Allowing w a v c v′ → AllowsAhead w a v v′
   allowing-all c v′ h k = record { within = (λ i x g. k .at i x g (omega (arith, t .next-listed i g))) }
 
   module _ (arrivals first : List ℕ) (s : Arrivals w arrivals first) (c : ℕ) (some : 1 ≤ c)
@@ -69,7 +87,7 @@ module _ (w : List ℕ) (a : ℕ) (v : List ℕ) (t : Timely w) where
       Here = Front w arrivals (getD first c 0) (getD first (c + 1) 0) (topOf c a) v′ (suc i)
 
       -- in place of a place, the arrival that stands there
-      to-frontier : Here → OnFrontier w a v (suc i)
+      to-frontier : Here → Ahead w a v (suc i)
       to-frontier e =
           record {
             elsewhere = (λ z. absurd (omega (arith, e .below, top-here c a (sym h ∙ z))));
@@ -100,7 +118,7 @@ module _ (w : List ℕ) (a : ℕ) (v : List ℕ) (t : Timely w) where
                 ));
           }
 
-      from-frontier : OnFrontier w a v (suc i) → Here
+      from-frontier : Ahead w a v (suc i) → Here
       from-frontier e =
           record {
             below = omega (arith, e .reached, top-other c a (λ z. e .elsewhere (h ∙ z)), same i g h);
@@ -130,7 +148,7 @@ module _ (w : List ℕ) (a : ℕ) (v : List ℕ) (t : Timely w) where
                 ));
           }
 
-      this-station : (x : ℕ) → (x < getD v″ (suc i) 0) ↔ (OnFrontier w a v (suc i) × (x ≤ getD v (suc i) 0))
+      this-station : (x : ℕ) → (x < getD v″ (suc i) 0) ↔ (Ahead w a v (suc i) × (x ≤ getD v (suc i) 0))
       this-station x =
           let p = place i g h in
           let known : (x < getD v″ (suc i) 0) ↔ (Here × (x ≤ getD v′ (suc i) 0)) =
@@ -162,3 +180,119 @@ module _ (w : List ℕ) (a : ℕ) (v : List ℕ) (t : Timely w) where
           off = (λ i g h. other-station i g (λ z. omega arith) ∙ k .off i g (omega arith));
           long = f .long ∙ k .long;
         }
+
+-- ---- stops that are closed to alighting
+-- what is paid on arrival at stop j, by one who may alight there
+unfoldable pub openWord : (w v : List ℕ) (j : ℕ) → ℕ
+openWord w v j = cond (mayAlight (stopAt w j)) (getD v j 0) unreached
+
+-- one stop is done, then those before stop n, then all
+pub record ClosedAt (w : List ℕ) (j : ℕ) (v v′ : List ℕ) : Type 0 where
+  pub this : getD v′ j 0 ≡ openWord w v j
+  pub others : (k : ℕ) → k ≢ j → getD v′ k 0 ≡ getD v k 0
+
+pub record Closing (w : List ℕ) (n : ℕ) (v v′ : List ℕ) : Type 0 where
+  pub done : (k : ℕ) → k < n → getD v′ k 0 ≡ openWord w v k
+  pub rest : (k : ℕ) → n ≤ k → getD v′ k 0 ≡ getD v k 0
+
+pub record Closed (w v v′ : List ℕ) : Type 0 where
+  pub each : (k : ℕ) → k < stopCount w → getD v′ k 0 ≡ openWord w v k
+
+module _ (w : List ℕ) (j : ℕ) (v : List ℕ) (s : Stop) (is : s ≡ stopAt w j) (b : Bool) (is-b : b ≡ mayAlight s) where
+  pub stays-open : b ≡ true → ClosedAt w j v v
+  unfolding openWord
+  stays-open e = record { this = rw (← is, ← is-b, e); others = λ k n. refl }
+
+  pub is-closed : b ≡ false → j < 2048 → length v ≡ 2048 → (v′ : List ℕ) → v′ ≡ set v j unreached → ClosedAt w j v v′
+  unfolding openWord
+  is-closed e h long v′ f =
+      record {
+        this = rw (f, ← is, ← is-b, e) (getD-set-same v j unreached 0 (omega arith));
+        others = λ k n. rw f (getD-set-other v j k unreached 0 n);
+      }
+
+-- no stop is past the limit
+pub stop-below : (w : List ℕ) → isTimetable w ≡ true → (n j : ℕ) → n ≡ getD w 2 0 → j < n → j < 2048
+stop-below w yes-there n j is h = omega (arith, stops-few w yes-there)
+
+module _ (w v : List ℕ) where
+  pub closing-none : Closing w 0 v v
+  closing-none = record { done = λ k h. absurd (omega arith); rest = λ k h. refl }
+
+  pub closing-more : (n : ℕ) (v′ v″ : List ℕ) → Closing w n v v′ → ClosedAt w n v′ v″ → Closing w (n + 1) v v″
+  unfolding openWord
+  closing-more n v′ v″ c o =
+      record {
+        done =
+            (λ k h.
+            elim (ℕ-discrete k n) [
+              | yes z ↦
+                  rw z
+                  (o .this ∙ ap (λ x. cond (mayAlight (stopAt w n)) x unreached) (c .rest n (omega arith)))
+              | no z ↦ o .others k z ∙ c .done k (omega arith)
+            ]);
+        rest = (λ k h. o .others k (λ z. omega arith) ∙ c .rest k (omega arith));
+      }
+
+  pub closing-all : (n m : ℕ) (v′ : List ℕ) → m ≡ stopCount w → m ≤ n → Closing w n v v′ → Closed w v v′
+  closing-all n m v′ is h c = record { each = λ k g. c .done k (omega arith) }
+
+-- the frontiers of what is left are those where one may alight
+module _ (w : List ℕ) (a : ℕ) (v c e : List ℕ) (t : Timely w) (closed : Closed w v c) (k : AllowsAhead w a c e) where
+  module _ (i : ℕ) (g : Goes w i) where
+    word : getD c (suc i) 0 ≡ openWord w v (suc i)
+    word = closed .each (suc i) (t .few i g)
+
+    open-same : Alights w (suc i) → getD c (suc i) 0 ≡ getD v (suc i) 0
+    unfolding openWord
+    open-same o = word ∙ rw (T-true (mayAlight (stopAt w (suc i))) o)
+
+    -- who is there may alight
+    open-or : {G : Type 0} → (Alights w (suc i) → G) → (getD c (suc i) 0 ≡ unreached → G) → G
+    unfolding openWord
+    open-or at-open at-closed =
+        either
+        (mayAlight (stopAt w (suc i)))
+        at-open
+        (λ t. at-closed (word ∙ rw (T-false (mayAlight (stopAt w (suc i))) t)))
+
+  to-open : (i : ℕ) → Goes w i → Ahead w a c (suc i) → OnFrontier w a v (suc i)
+  to-open i g f =
+      let alights : Alights w (suc i) = open-or i g (λ o. o) (λ z. absurd (omega (arith, z, f .reached))) in
+      let here = open-same i g alights in
+      record {
+        alights = alights;
+        elsewhere = f .elsewhere;
+        reached = omega (arith, f .reached, here);
+        least = (λ j b o z late. omega (arith, f .least j b z late, here, open-same j b o));
+        first = (λ j b o z late. omega (arith, f .first j b z late, here, open-same j b o));
+      }
+
+  from-open : (i : ℕ) → Goes w i → OnFrontier w a v (suc i) → Ahead w a c (suc i)
+  from-open i g f =
+      let here = open-same i g (f .alights) in
+      record {
+        elsewhere = f .elsewhere;
+        reached = omega (arith, f .reached, here);
+        least =
+            (λ j b z late.
+            open-or j b (λ o. omega (arith, f .least j b o z late, here, open-same j b o))
+            (λ z. omega (arith, z, here, f .reached)));
+        first =
+            (λ j b z late.
+            open-or j b (λ o. omega (arith, f .first j b o z late, here, open-same j b o))
+            (λ z. omega (arith, z, here, f .reached)));
+      }
+
+  pub closed-allows : Allows w a v e
+  closed-allows =
+      record {
+        within =
+            (λ i x g. (
+              λ h.
+                  let f = k .within i x g .0 h in
+                  let o = to-open i g (f .0) in
+                  (o, omega (arith, f .1, open-same i g (o .alights))),
+              λ h. k .within i x g .1 (from-open i g (h .0), omega (arith, h .1, open-same i g (h .0 .alights))),
+            ));
+      }

@@ -1,8 +1,9 @@
 -- A pass over the departures, the last first. Whatever one who leaves a stop rides to or changes to leaves later, so
 -- it was passed already and its bound is known. Of the departures of one station those passed are the ones at or behind
--- the last passed, which are those that one who can change to it can board as well.
+-- the last passed, which are those for which one who can change to it can wait as well; of these only the ones count
+-- that are open to boarding.
 use mathlib.Core.Path.{_≡_, refl, sym, ap, subst, _∙_}
-use mathlib.Core.Bool.{cond}
+use mathlib.Core.Bool.{Bool, true, false, cond}
 use mathlib.Core.Logic.{inl, inr, _↔_, _≢_}
 use mathlib.Core.List.{
   List,
@@ -18,16 +19,17 @@ use Prim.Native.Nat.{ℕ, suc, _+_, _-_, _≤_, _<_, max}
 use native.Mathlib.Omega.{arith}
 use native.Mathlib.Decide.{ℕ-discrete, decLt}
 use borrow.Author.Tests.{lt-ltb, le-ltb}
-use lib.Dec.{ltb}
+use lib.Dec.{T, ltb}
 use lib.ListN.{length, getD, set}
 use lib.Seq.{getD-set-same, getD-set-other}
 use Rattle.lists.specs.Lists.{_∈_, Distinct}
 use Rattle.lists.specs.Members.{none, cons-cases, append-cases}
-use Rattle.timetable.specs.Words.{stationCount}
-use Rattle.store_stops.specs.Stopwise.{station, depart, points, changePoints, nowhere, Goes, Catches}
+use Rattle.timetable.specs.Words.{stationCount, stopAt}
+use Rattle.connections.specs.Rides.{mayBoard}
+use Rattle.store_stops.specs.Stopwise.{station, depart, points, changePoints, nowhere, Goes, Boards}
 use Rattle.store_stops.specs.Prospects.{Onward, OntoWell, Bounded}
 use Rattle.store_stops.specs.Settled.{Timely}
-use Rattle.store_departures.specs.Order.{order, catch, InOrder}
+use Rattle.store_departures.specs.Order.{order, catch, Waits, waits-for, boards-at, InOrder}
 use Rattle.store_frontier.specs.Parts.{standing, first-same, rest-same, distinct-rest}
 use Rattle.store_frontier.specs.Ways.{Ways, onward-ways}
 
@@ -51,10 +53,12 @@ module _ (w e : List ℕ) (d : ℕ) where
   abbrev pub Limits : (leaving : List ℕ) → Type 0
   Limits leaving = (i x : ℕ) → Goes w i → d ≤ depart w i → (x < getD leaving i 0) ↔ Onward w e i x
 
-  -- one of the list leaves station c from minute d on, and one who boards there, having paid x, ends well
+  -- one of the list leaves station c from minute d on, and one who boards there, which it is open to, having paid x,
+  -- ends well
   pub record Later (l : List ℕ) (c x : ℕ) : Type 0 where
     pub g : ℕ
     pub listed : g ∈ l
+    pub boards : Boards w g
     pub here : station w g ≡ c
     pub timely : d ≤ depart w g
     pub onward : Onward w e g x
@@ -69,7 +73,19 @@ module _ (w e : List ℕ) (d : ℕ) where
 
 later-more : (w e : List ℕ) (d i : ℕ) (l : List ℕ) (c x : ℕ) → Later w e d l c x → Later w e d (i ∷ l) c x
 later-more w e d i l c x h =
-    record { g = h .g; listed = there (h .listed); here = h .here; timely = h .timely; onward = h .onward }
+    record {
+      g = h .g;
+      listed = there (h .listed);
+      boards = h .boards;
+      here = h .here;
+      timely = h .timely;
+      onward = h .onward;
+    }
+
+later-of : (w e : List ℕ) (d : ℕ) {k : List ℕ} (l : List ℕ) (c x : ℕ) (h : Later w e d k c x) → h .g ∈ l
+    → Later w e d l c x
+later-of w e d l c x h m =
+    record { g = h .g; listed = m; boards = h .boards; here = h .here; timely = h .timely; onward = h .onward }
 
 no-parts : {G : Type 0} (xs ys : List ℕ) (i : ℕ) → [] ≡ xs ++ (i ∷ ys) → G
 no-parts xs ys i e = none {x = i} (subst (λ l. i ∈ l) (sym e) (Memᴰ·append-right xs (here refl)))
@@ -101,7 +117,7 @@ module _ (w e : List ℕ) (d : ℕ) (l q leaving high : List ℕ) (i : ℕ) (ear
           cons-cases
           (h .listed)
           (λ z. absurd (omega (arith, ap (depart w) z, h .timely)))
-          (λ j. record { g = h .g; listed = j; here = h .here; timely = h .timely; onward = h .onward })
+          (λ j. later-of w e d l c x h j)
 
       parts : (k x : ℕ) (xs ys : List ℕ) → i ∷ l ≡ xs ++ (k ∷ ys) → d ≤ depart w k
           → (x < getD q k 0) ↔ Later w e d (k ∷ ys) (station w k) x
@@ -119,7 +135,7 @@ passed-front w e d (i ∷ front) l q leaving high early p =
 -- ---- changes
 module _ (w e first : List ℕ) (d : ℕ) (t : Timely w) (o : InOrder w) (is-first : Caught w first) where
   module _ (i : ℕ) (goes : Goes w i) (timely : d ≤ depart w i) where
-    reached : (g : ℕ) → Catches w (suc i) g → depart w i < depart w g
+    reached : (g : ℕ) → Waits w (suc i) g → depart w i < depart w g
     reached g h = omega (arith, t .before i goes, h .timely)
 
     module _ (q us ys : List ℕ) (some : catch w (suc i) < nowhere)
@@ -129,11 +145,11 @@ module _ (w e first : List ℕ) (d : ℕ) (t : Timely w) (o : InOrder w) (is-fir
       abbrev f : ℕ
       f = catch w (suc i)
 
-      there-too : (g : ℕ) → g ∈ f ∷ ys → station w g ≡ station w f → Catches w (suc i) g
+      there-too : (g : ℕ) → g ∈ f ∷ ys → station w g ≡ station w f → Waits w (suc i) g
       there-too g m h =
           cons-cases
           m
-          (λ z. subst (Catches w (suc i)) (sym z) (o .caught i goes some))
+          (λ z. subst (Waits w (suc i)) (sym z) (o .caught i goes some))
           (λ j. o .caught-behind i g us ys goes parts j (h ∙ o .caught i goes some .here))
 
       pub caught-well : (x : ℕ) → (x + changePoints w (station w (suc i)) < getD q f 0) ↔ OntoWell w e (suc i) x
@@ -142,16 +158,21 @@ module _ (w e first : List ℕ) (d : ℕ) (t : Timely w) (o : InOrder w) (is-fir
           to : x + changePoints w (station w (suc i)) < getD q f 0 → OntoWell w e (suc i) x
           to h =
               let r = bound (x + changePoints w (station w (suc i))) .0 h in
-              record { g = r .g; catches = there-too (r .g) (r .listed) (r .here); leaves = r .onward }
+              record {
+                g = r .g;
+                catches = boards-at w (there-too (r .g) (r .listed) (r .here)) (r .boards);
+                leaves = r .onward;
+              }
 
           from : OntoWell w e (suc i) x → x + changePoints w (station w (suc i)) < getD q f 0
           from h =
               bound (x + changePoints w (station w (suc i))) .1
               (record {
                 g = h .g;
-                listed = o .caught-first i (h .g) us ys goes parts (h .catches);
+                listed = o .caught-first i (h .g) us ys goes parts (waits-for w (h .catches));
+                boards = h .catches .boards;
                 here = h .catches .here ∙ sym (o .caught i goes some .here);
-                timely = omega (arith, reached (h .g) (h .catches));
+                timely = omega (arith, reached (h .g) (waits-for w (h .catches)));
                 onward = h .leaves;
               })
 
@@ -179,7 +200,7 @@ module _ (w e first : List ℕ) (d : ℕ) (t : Timely w) (o : InOrder w) (is-fir
               rw (is-first i g) (passed-there i x g h (rw (is-first i g) at some)));
           none =
               (λ i x g h some o′.
-              o .caught-none i (o′ .g) g (rw (is-first i g) at some) (o′ .catches));
+              o .caught-none i (o′ .g) g (rw (is-first i g) at some) (waits-for w (o′ .catches)));
         }
 
   -- ---- one departure more
@@ -230,8 +251,10 @@ module _ (w e first : List ℕ) (d : ℕ) (t : Timely w) (o : InOrder w) (is-fir
               rw (lt-ltb (catch w (suc i)) nowhere some)
               (let c = changes-some some x in (λ h. c .0 (omega arith), λ h. omega (arith, c .1 h)))
           | no none ↦
-              rw (le-ltb (catch w (suc i)) nowhere (omega arith))
-              (λ h. absurd (omega arith), λ h. absurd (o .caught-none i (h .g) goes (omega arith) (h .catches)))
+              rw (le-ltb (catch w (suc i)) nowhere (omega arith)) (
+                λ h. absurd (omega arith),
+                λ h. absurd (o .caught-none i (h .g) goes (omega arith) (waits-for w (h .catches))),
+              )
         ])
 
     leaves : (x : ℕ) → (x < leaveBound w first e q leaving i) ↔ Onward w e i x
@@ -258,8 +281,9 @@ module _ (w e first : List ℕ) (d : ℕ) (t : Timely w) (o : InOrder w) (is-fir
         from (inr (inl h)) = omega (arith, stays (x + points w i) .1 h)
         from (inr (inr h)) = omega (arith, changes (x + points w i) .1 h)
 
-    module _ (b h : ℕ) (is-b : b ≡ leaveBound w first e q leaving i)
-        (is-h : h ≡ max (getD high (station w i) 0) b)
+    module _ (b y h : ℕ) (is-b : b ≡ leaveBound w first e q leaving i)
+        (is-y : y ≡ cond (mayBoard (stopAt w i)) b 0)
+        (is-h : h ≡ max (getD high (station w i) 0) y)
         (long-q : length q ≡ 2048) (long-leaving : length leaving ≡ 2048) (long-high : length high ≡ 65)
         (few : stationCount w ≤ 64) where
       inside : i < 2048
@@ -288,15 +312,37 @@ module _ (w e first : List ℕ) (d : ℕ) (t : Timely w) (o : InOrder w) (is-fir
             | no z ↦ p .only k x (rw (getD-set-other leaving i k b 0 z) at g)
           ]
 
+      -- one who boards there ends well below y
+      boarded : (x : ℕ) → (x < y) ↔ (Boards w i × Onward w e i x)
+      boarded x = go (mayBoard (stopAt w i)) refl
+        where
+          go : (o : Bool) → mayBoard (stopAt w i) ≡ o → (x < y) ↔ (Boards w i × Onward w e i x)
+          go true o =
+              let same : y ≡ b = is-y ∙ rw o in (
+                λ g. (record { goes = goes; opens = subst T (sym o) tt }, known x .0 (omega arith)),
+                λ g. omega (arith, same, known x .1 (g .1)),
+              )
+          go false o =
+              let none-there : y ≡ 0 = is-y ∙ rw o in
+              (λ g. absurd (omega arith), λ g. absurd (subst T o (g .0 .opens)))
+
       -- the highest of the station
       higher : (x : ℕ) → (x < h) ↔ Later w e d (i ∷ l) (station w i) x
       higher x = (to, from)
         where
           to : x < h → Later w e d (i ∷ l) (station w i) x
           to g =
-              elim (decLt x b) [
+              elim (decLt x y) [
                 | yes a ↦
-                    record { g = i; listed = here refl; here = refl; timely = timely; onward = known x .0 a }
+                    (let k = boarded x .0 a in
+                    record {
+                      g = i;
+                      listed = here refl;
+                      boards = k .0;
+                      here = refl;
+                      timely = timely;
+                      onward = k .1;
+                    })
                 | no a ↦ later-more w e d i l (station w i) x (p .highest (station w i) x .0 (omega arith))
               ]
 
@@ -304,13 +350,12 @@ module _ (w e first : List ℕ) (d : ℕ) (t : Timely w) (o : InOrder w) (is-fir
           from g =
               cons-cases
               (g .listed)
-              (λ z. omega (arith, known x .1 (subst (λ k. Onward w e k x) z (g .onward))))
-              (λ j.
+              (λ z.
               omega (
                 arith,
-                p .highest (station w i) x .1
-                    (record { g = g .g; listed = j; here = g .here; timely = g .timely; onward = g .onward }),
+                boarded x .1 (subst (Boards w) z (g .boards), subst (λ k. Onward w e k x) z (g .onward)),
               ))
+              (λ j. omega (arith, p .highest (station w i) x .1 (later-of w e d l (station w i) x g j)))
 
       now-highest : (c x : ℕ) → (x < getD (set high (station w i) h) c 0) ↔ Later w e d (i ∷ l) c x
       now-highest c x =
@@ -324,7 +369,7 @@ module _ (w e first : List ℕ) (d : ℕ) (t : Timely w) (o : InOrder w) (is-fir
                       (cons-cases
                       (g .listed)
                       (λ y. absurd (z (sym (g .here) ∙ ap (station w) y)))
-                      (λ j. record { g = g .g; listed = j; here = g .here; timely = g .timely; onward = g .onward })),
+                      (λ j. later-of w e d l c x g j)),
                 )
           ]
 

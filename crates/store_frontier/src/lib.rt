@@ -1,9 +1,10 @@
 // Two passes of a store call: which arrivals are on the frontier, and who can still end well.
 ghost use mathlib.Core.Path.{_≡_};
-ghost use mathlib.Core.Bool.{true};
+ghost use mathlib.Core.Bool.{true, cond};
 ghost use Prim.Native.Nat.{_+_, _≤_, _<_, max};
 ghost use lib.ListN.{length, getD, set, drop};
 ghost use Rattle.timetable.specs.Words.{stationCount, isTimetable};
+ghost use Rattle.connections.specs.Rides.{mayBoard};
 ghost use Rattle.store_stops.specs.Stopwise.{station, arrive, nowhere};
 ghost use Rattle.store_stops.specs.Prospects.{Allows, Bounded};
 ghost use Rattle.store_stops.specs.Settled.{Timely};
@@ -11,12 +12,13 @@ ghost use Rattle.store_departures.specs.Order.{order as departures};
 ghost use Rattle.store_departures.specs.Rising.{minuteAt, InTime};
 ghost use Rattle.store_frontier.specs.Arrivals.{Arrivals, Held, Run};
 ghost use Rattle.store_frontier.specs.Front.{Least, MinuteEnd, markOf, Marked, LeftOut, Fronted};
-ghost use Rattle.store_frontier.specs.Allowing.{topOf};
+ghost use Rattle.store_frontier.specs.Allowing.{topOf, AllowsAhead, ClosedAt, Closed};
 ghost use Rattle.store_frontier.specs.Passed.{Limits, Passed, ontoBound, leaveBound};
 ghost use Rattle.store_frontier.specs.Zeros.{ZeroTo};
 ghost use Rattle.store_frontier.specs.Routes.{Routes};
 use results::Points;
 use store_points::UNREACHED;
+use timetable::Stop;
 
 // No stop.
 const NOWHERE: usize = 65535;
@@ -194,8 +196,55 @@ fn allow_part(
     allow_station(words, arrivals, begin, end, top_of(c, source), v);
 }
 
+// Where a stop is closed to alighting, no one is taken to arrive.
+fn close_stop(words: &[u16], j: usize, v: &mut [u32])
+    requires { ⌜ (16384 ≤ length (now words))
+        × (stationCount (now words) ≤ 64)
+        × (j < 2048)
+        × (length (now v) ≡ 2048) ⌝ }
+    ensures { λ _. ⌜ ClosedAt (now (words .entry)) j (now (v .entry)) (now (v .exit)) ⌝ }
+    ensures { λ _. ⌜ length (now (v .exit)) ≡ length (now (v .entry)) ⌝ }
+{
+    if store_departures::may_alight(timetable::stop_at(words, j)) {
+        return;
+    }
+    query_minutes::set_points(v, j, UNREACHED);
+}
+
+fn close(words: &[u16], v: &mut [u32])
+    requires { ⌜ (16384 ≤ length (now words)) × (isTimetable (now words) ≡ true) × (length (now v) ≡ 2048) ⌝ }
+    ensures { λ _. ⌜ Closed (now (words .entry)) (now (v .entry)) (now (v .exit)) ⌝ }
+    ensures { λ _. ⌜ length (now (v .exit)) ≡ length (now (v .entry)) ⌝ }
+{
+    let stops = words::word(words, 2) as usize;
+    let mut j = 0;
+    while j < stops {
+        close_stop(words, j, v);
+        j += 1;
+    }
+}
+
+// The arrivals of all stations.
+fn allow_all(words: &[u16], arrivals: &[u16], first: &[u32], source: usize, v: &mut [u32])
+    requires { ⌜ (16384 ≤ length (now words))
+        × (isTimetable (now words) ≡ true)
+        × Timely (now words)
+        × Arrivals (now words) (now arrivals) (now first)
+        × (length (now v) ≡ 2048) ⌝ }
+    ensures { λ _. ⌜ AllowsAhead (now (words .entry)) source (now (v .entry)) (now (v .exit)) ⌝ }
+    ensures { λ _. ⌜ length (now (v .exit)) ≡ 2048 ⌝ }
+{
+    let stations = words::word(words, 0) as usize;
+    let mut c = 1;
+    while c <= stations {
+        allow_part(words, arrivals, first, c, source, v);
+        c += 1;
+    }
+}
+
 // From the least penalties on arrival to what is allowed there: at an arrival on the frontier of its station as much as
-// that least penalty, one being added so that 0 allows nothing, and 0 elsewhere and at the source.
+// that least penalty, one being added so that 0 allows nothing, and 0 elsewhere, at the source and where no one may
+// alight.
 pub fn allow(words: &[u16], arrivals: &[u16], first: &[u32], source: usize, v: &mut [u32])
     requires { ⌜ (16384 ≤ length (now words))
         × (isTimetable (now words) ≡ true)
@@ -205,12 +254,8 @@ pub fn allow(words: &[u16], arrivals: &[u16], first: &[u32], source: usize, v: &
     ensures { λ _. ⌜ Allows (now (words .entry)) source (now (v .entry)) (now (v .exit)) ⌝ }
     ensures { λ _. ⌜ length (now (v .exit)) ≡ 2048 ⌝ }
 {
-    let stations = words::word(words, 0) as usize;
-    let mut c = 1;
-    while c <= stations {
-        allow_part(words, arrivals, first, c, source, v);
-        c += 1;
-    }
+    close(words, v);
+    allow_all(words, arrivals, first, source, v);
 }
 
 // ---- who can still end well
@@ -270,18 +315,33 @@ fn leave_bound(
     )
 }
 
-// One who leaves stop i, at station c, ends well below the bound; one who changes to i, or to a later departure of c,
-// below the highest there.
-fn note(i: usize, c: usize, bound: Points, q: &mut [u32], leaving: &mut [u32], high: &mut [u32])
-    requires { ⌜ (i < length (now q)) × (i < length (now leaving)) × (c < length (now high)) ⌝ }
+// One who boards at a stop ends well if they have paid less than one who leaves it; no one boards where it is closed.
+fn boarded_bound(s: Stop, bound: Points) -> Points
+    ensures { λ r. ⌜ r .0 ≡ cond (mayBoard s) (bound .0) 0 ⌝ }
+{
+    if store_departures::may_board(s) {
+        return bound;
+    }
+    Points(0)
+}
+
+// One who leaves stop i, which is s, ends well below the bound; one who changes to i, or to a later departure of its
+// station, below the highest there, where some may board at i.
+fn note(i: usize, s: Stop, bound: Points, q: &mut [u32], leaving: &mut [u32], high: &mut [u32])
+    requires { ⌜ (i < length (now q)) × (i < length (now leaving)) × (s .station < length (now high)) ⌝ }
     ensures { λ _. ⌜ (now (leaving .exit) ≡ set (now (leaving .entry)) i (bound .0))
-        × (now (high .exit) ≡ set (now (high .entry)) c (max (getD (now (high .entry)) c 0) (bound .0)))
-        × (now (q .exit) ≡ set (now (q .entry)) i (max (getD (now (high .entry)) c 0) (bound .0)))
+        × (now (high .exit)
+        ≡ set (now (high .entry)) (s .station)
+        (max (getD (now (high .entry)) (s .station) 0) (cond (mayBoard s) (bound .0) 0)))
+        × (now (q .exit)
+        ≡ set (now (q .entry)) i
+        (max (getD (now (high .entry)) (s .station) 0) (cond (mayBoard s) (bound .0) 0)))
         × (length (now (q .exit)) ≡ length (now (q .entry)))
         × (length (now (leaving .exit)) ≡ length (now (leaving .entry)))
         × (length (now (high .exit)) ≡ length (now (high .entry))) ⌝ }
 {
-    let highest = query_minutes::larger(query_minutes::points_at(high, c), bound);
+    let c = s.station as usize;
+    let highest = query_minutes::larger(query_minutes::points_at(high, c), boarded_bound(s, bound));
     query_minutes::set_points(leaving, i, bound);
     query_minutes::set_points(high, c, highest);
     query_minutes::set_points(q, i, highest);
@@ -317,7 +377,7 @@ fn pass(
     let i = words::word(order, p) as usize;
     let stop = timetable::stop_at(words, i);
     let bound = leave_bound(words, catch, e, q, leaving, i);
-    note(i, stop.station as usize, bound, q, leaving, high);
+    note(i, stop, bound, q, leaving, high);
 }
 
 // The departures from place begin of the order on, all of them at minute d or later, the last first.

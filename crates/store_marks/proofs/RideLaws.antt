@@ -12,6 +12,7 @@ use Rattle.lists.specs.Tests.{T-left, and-false}
 use Rattle.timetable.specs.Timetable.{Stop}
 use Rattle.timetable.specs.Words.{stationCount, stopAt, isTimetable}
 use Rattle.timetable.specs.Access.{stations-few}
+use Rattle.connections.specs.Rides.{mayBoard}
 use Rattle.store_stops.specs.Stopwise.{station, depart, points, changePoints, unreached, Goes}
 use Rattle.store_stops.specs.TimelyLaws.{timely}
 use Rattle.store_points.specs.Lowered.{lowered}
@@ -22,6 +23,8 @@ use Rattle.store_marks.specs.Walks.{
   onwardPoints,
   goesOn,
   visits,
+  comesBack,
+  labelAt,
   boarding,
   run,
   offer,
@@ -33,14 +36,14 @@ use Rattle.store_marks.specs.Held.{goes-few}
 
 module _ (w : List ℕ) (c : ℕ) (x : List ℕ) (i : ℕ) (act : Visit → List ℕ → List ℕ) (s : List ℕ) where
   -- who cannot board arrives nowhere
-  pub not-boarded : (y : ℕ) → y ≡ getD x i 0 → unreached ≤ y → s ≡ run act (boarding w c x i) s
+  pub not-boarded : (y : ℕ) → y ≡ labelAt w x i → unreached ≤ y → s ≡ run act (boarding w c x i) s
   unfolding run boarding
-  not-boarded y is h = rw (le-ltb (getD x i 0) unreached (rw is at h))
+  not-boarded y is h = rw (le-ltb (labelAt w x i) unreached (rw is at h))
 
-  pub boarded : (y : ℕ) (s′ : List ℕ) → y ≡ getD x i 0 → y < unreached
+  pub boarded : (y : ℕ) (s′ : List ℕ) → y ≡ labelAt w x i → y < unreached
       → s′ ≡ run act (visits w c (2048 - i) i y) s → s′ ≡ run act (boarding w c x i) s
   unfolding boarding
-  boarded y s′ is h does = does ∙ rw (is, lt-ltb (getD x i 0) unreached (rw is at h))
+  boarded y s′ is h does = does ∙ rw (is, lt-ltb (labelAt w x i) unreached (rw is at h))
 
 pub boards-cheap : (y i : ℕ) → y < unreached → y ≤ 3166900 + 100 * i
 boards-cheap y i h = omega arith
@@ -81,21 +84,40 @@ points-of w j p t is e = e ∙ ap (λ (z : Stop). z .points) is
 pub cost-room : (w : List ℕ) → isTimetable w ≡ true → (e : ℕ) → e ≤ stationCount w → e ≤ 64
 cost-room w ok e listed = omega (arith, stations-few w ok)
 
+-- ---- what one has paid who boards
+module _ (w x : List ℕ) (i : ℕ) (s : Stop) (is : s ≡ stopAt w i) (b : Bool) (is-b : b ≡ mayBoard s) where
+  pub label-open : b ≡ true → (y : ℕ) → y ≡ getD x i 0 → y ≡ labelAt w x i
+  unfolding labelAt
+  label-open e y h = h ∙ rw (← is, ← is-b, e)
+
+  pub label-closed : b ≡ false → unreached ≡ labelAt w x i
+  unfolding labelAt
+  label-closed e = rw (← is, ← is-b, e)
+
 -- ---- the ride onward
 module _ (s : Stop) (c : ℕ) where
-  onward-not : ltb 0 (s .depart) && not (eqb (s .station) c) ≡ false → 101 ≡ onwardPoints s c
+  pub back-there : s .station ≡ c → (r : Bool) → r ≡ mayBoard s → r ≡ comesBack s c
+  unfolding comesBack
+  back-there h r e = e ∙ rw (eq-eqb (s .station) c h)
+
+  pub back-elsewhere : (s .station ≡ c → ⊥) → false ≡ comesBack s c
+  unfolding comesBack
+  back-elsewhere h = rw (ne-eqb (s .station) c h)
+
+  onward-not : ltb 0 (s .depart) && not (comesBack s c) ≡ false → 101 ≡ onwardPoints s c
   unfolding onwardPoints
   onward-not e = rw e
 
   pub onward-ends : s .depart ≡ 0 → 101 ≡ onwardPoints s c
   onward-ends h = onward-not (rw (le-ltb 0 (s .depart) (omega arith)))
 
-  pub onward-back : s .station ≡ c → 101 ≡ onwardPoints s c
-  onward-back h = onward-not (rw (eq-eqb (s .station) c h) (and-false (ltb 0 (s .depart)) false refl))
+  module _ (b : Bool) (is : b ≡ comesBack s c) where
+    pub onward-back : b ≡ true → 101 ≡ onwardPoints s c
+    onward-back h = onward-not (rw (← is, h) (and-false (ltb 0 (s .depart)) false refl))
 
-  pub onward-on : (p : ℕ) → (s .depart ≡ 0 → ⊥) → (s .station ≡ c → ⊥) → p ≡ s .points → p ≡ onwardPoints s c
-  unfolding onwardPoints
-  onward-on p h g is = rw (is, lt-ltb 0 (s .depart) (omega arith), ne-eqb (s .station) c g)
+    pub onward-on : (p : ℕ) → (s .depart ≡ 0 → ⊥) → b ≡ false → p ≡ s .points → p ≡ onwardPoints s c
+    unfolding onwardPoints
+    onward-on p h g is-p = rw (is-p, lt-ltb 0 (s .depart) (omega arith), ← is, g)
 
 -- the stop read is the one that is meant
 pub same-onward : (w : List ℕ) (j c r : ℕ) (s : Stop) → s ≡ stopAt w j → r ≡ onwardPoints s c
@@ -106,7 +128,7 @@ module _ (w : List ℕ) (ok : isTimetable w ≡ true) (j : ℕ) (goes : Goes w j
     (is : r ≡ onwardPoints (stopAt w (j + 1)) c) where
   next-goes : goesOn w c (j + 1) ≡ true → Goes w (j + 1)
   next-goes e =
-      let t = T-left (ltb 0 (depart w (j + 1))) (not (eqb (station w (j + 1)) c)) (rw e tt) in
+      let t = T-left (ltb 0 (depart w (j + 1))) (not (comesBack (stopAt w (j + 1)) c)) (rw e tt) in
       let same = ap (depart w) (add-one j) in
       subst (Goes w) (sym (add-one j))
       (timely w ok .goes-on j goes (omega (arith, ltb→lt 0 (depart w (j + 1)) t)))

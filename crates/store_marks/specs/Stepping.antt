@@ -11,13 +11,15 @@ use borrow.Author.Tests.{lt-ltb, le-ltb, eq-eqb, ne-eqb}
 use lib.Dec.{T, leb, ltb, ltb→lt, nltb→le, le→leb}
 use lib.ListN.{length, getD}
 use Rattle.lists.specs.Lists.{_∈_, endWith, firstOf}
-use Rattle.lists.specs.Tests.{either}
+use Rattle.lists.specs.Tests.{either, T-true}
 use Rattle.lists.specs.Members.{none, cons-cases}
-use Rattle.timetable.specs.Words.{isTimetable}
-use Rattle.store_stops.specs.Stopwise.{station, depart, changePoints, unreached, nowhere, ready, Goes, Catches}
+use Rattle.timetable.specs.Words.{stopAt, isTimetable}
+use Rattle.connections.specs.Rides.{mayAlight}
+use Rattle.store_stops.specs.Stopwise.{station, depart, changePoints, unreached, nowhere, ready, Goes, Boards}
+use Rattle.store_stops.specs.Stopwise.{Catches}
 use Rattle.store_stops.specs.Paid.{Paid, Labelled}
 use Rattle.store_stops.specs.LeastSettled.{arrived-behind}
-use Rattle.store_departures.specs.Order.{firstOr, waiting, catch}
+use Rattle.store_departures.specs.Order.{firstOr, waiting, soonest, catch, Waits}
 use Rattle.store_departures.specs.InOrderLaws.{caught-there}
 use Rattle.store_departures.specs.Parts.{waiting-in, waiting-out, waiting-behind, waiting-distinct}
 use Rattle.store_points.specs.Lowered.{lowered, lowered-length, lowered-else, lowered-here}
@@ -34,7 +36,8 @@ use Rattle.store_marks.specs.Arrays.{
 }
 use Rattle.store_marks.specs.Arrays.{Behind}
 use Rattle.store_marks.specs.Arrays.{behind-later, behind-in, From, fall-from}
-use Rattle.store_marks.specs.Walks.{Visit, visit, boarding, boardings, run, rootLabel, offer, rides, stepped}
+use Rattle.store_marks.specs.Walks.{Visit, visit, labelAt, boarding, boardings, run, rootLabel, offer}
+use Rattle.store_marks.specs.Walks.{rides, stepped}
 use Rattle.store_marks.specs.Held.{Changes, goes-few}
 use Rattle.store_marks.specs.Reaching.{boardsAt, boarding-stops, boardings-arrived, boardings-least}
 
@@ -205,11 +208,12 @@ first-behind dflt p (k ∷ l) g m t = go (p k) refl (first-behind dflt p l g)
 module _ (w : List ℕ) (ok : isTimetable w ≡ true) where
   -- whoever can be boarded after an arrival stands behind the departure caught
   pub catch-behind : (j g : ℕ) → Catches w j g → Behind (waiting w (station w j)) (catch w j) g
-  unfolding catch
+  unfolding catch soonest
   catch-behind j g h =
-      first-behind nowhere (λ k. leb (ready w j) (depart w k)) (waiting w (station w j)) g
-      (subst (λ s. g ∈ waiting w s) (h .here) (waiting-in w ok g (h .goes)))
-      (le→leb (ready w j) (depart w g) (h .timely))
+      rw (T-true (mayAlight (stopAt w j)) (h .alights))
+      (first-behind nowhere (λ k. leb (ready w j) (depart w k)) (waiting w (station w j)) g
+      (subst (λ s. g ∈ waiting w s) (h .here) (waiting-in w ok g (h .boards .goes)))
+      (le→leb (ready w j) (depart w g) (h .timely)))
 
   behind-departs : (s f g : ℕ) → Behind (waiting w s) f g → depart w f ≤ depart w g
   behind-departs s f g b =
@@ -239,17 +243,17 @@ module _ (w : List ℕ) (ok : isTimetable w ≡ true) (x : List ℕ) (long : len
   pub root-labelled : (a d : ℕ) → Labelled w a d [] a (fill (rootLabel w d) (waiting w a) x)
   root-labelled a d =
       record {
-        attained = λ g goes at h.
-            let is = root-word a d g goes at in
+        attained = λ g boards at h.
+            let is = root-word a d g (boards .goes) at in
             either
             (ltb (depart w g) d)
             (λ t. absurd (omega (arith, is, root-early d g (ltb→lt (depart w g) d t))))
             (λ t.
             let late = nltb→le (depart w g) d t in
-            (goes, at, late, is ∙ root-late d g late));
-        below = λ g p goes at b. omega (arith, root-word a d g goes at, root-late d g (b .2));
-        capped = λ g goes at.
-            let is = root-word a d g goes at in
+            (boards, at, late, is ∙ root-late d g late));
+        below = λ g p boards at b. omega (arith, root-word a d g (boards .goes) at, root-late d g (b .2));
+        capped = λ g boards at.
+            let is = root-word a d g (boards .goes) at in
             either
             (ltb (depart w g) d)
             (λ t. omega (arith, is, root-early d g (ltb→lt (depart w g) d t)))
@@ -261,16 +265,16 @@ labelled-same : (w : List ℕ) (a d : ℕ) (rev : List ℕ) (c : ℕ) (x y : Lis
     → ((g : ℕ) → Goes w g → station w g ≡ c → getD y g 0 ≡ getD x g 0) → Labelled w a d rev c x → Labelled w a d rev c y
 labelled-same w a d rev c x y same labels =
     record {
-      attained = λ g goes at h.
-          let e = same g goes at in
-          subst (Paid w a d rev g) (sym e) (labels .attained g goes at (omega arith));
-      below = λ g p goes at b. omega (arith, same g goes at, labels .below g p goes at b);
-      capped = λ g goes at. omega (arith, same g goes at, labels .capped g goes at);
+      attained = λ g boards at h.
+          let e = same g (boards .goes) at in
+          subst (Paid w a d rev g) (sym e) (labels .attained g boards at (omega arith));
+      below = λ g p boards at b. omega (arith, same g (boards .goes) at, labels .below g p boards at b);
+      capped = λ g boards at. omega (arith, same g (boards .goes) at, labels .capped g boards at);
     }
 
 boardings-same : (w : List ℕ) (c : ℕ) (x y l : List ℕ) → ((i : ℕ) → i ∈ l → getD y i 0 ≡ getD x i 0)
     → boardings w c y l ≡ boardings w c x l
-unfolding boarding boardings
+unfolding labelAt boarding boardings
 boardings-same w c x y [] h = refl
 boardings-same w c x y (i ∷ l) h =
     rw (h i (here refl)) (ap (λ r. boarding w c x i ++ r) (boardings-same w c x y l (λ k m. h k (there m))))
@@ -283,16 +287,16 @@ module _
     (c e : ℕ)
     (apart : c ≢ e)
   where
-    -- an arrival that offers departure g catches it
-    offers-catch : (v : Visit) (g : ℕ) → (k : ℕ) × Goes w k × (suc k ≡ v .stop) → Goes w g → Offers w caught c e v g
-        → Catches w (v .stop) g
-    offers-catch v g s goes o =
+    -- after an arrival that offers departure g one can wait for it
+    offers-wait : (v : Visit) (g : ℕ) → (k : ℕ) × Goes w k × (suc k ≡ v .stop) → Goes w g → Offers w caught c e v g
+        → Waits w (v .stop) g
+    offers-wait v g s goes o =
         let k = s .0 in
         let there-g = changes .caught-is k (s .1) in
         let is : catch w (suc k) ≡ g = sym there-g ∙ ap (λ j. getD caught j 0) (s .2) ∙ o .is in
         let few = goes-few w ok g goes in
-        subst (λ j. Catches w j g) (s .2)
-        (subst (Catches w (suc k)) is (caught-there w ok (suc k) (omega arith)))
+        subst (λ j. Waits w j g) (s .2)
+        (subst (Waits w (suc k)) is (caught-there w ok (suc k) (omega arith)))
 
     -- the labels at c stand while walks from c make offers at e
     ride-kept : (x : List ℕ) (i g : ℕ) → Goes w i → Goes w g → station w g ≡ c
@@ -300,7 +304,7 @@ module _
     ride-kept x i g from goes at =
         run-other w caught c e (boarding w c x i) x g
         (λ v m o.
-        let k = offers-catch v g (boarding-stops w ok c x i from v m) goes o in
+        let k = offers-wait v g (boarding-stops w ok c x i from v m) goes o in
         apart (sym at ∙ k .here ∙ o .there-e))
 
     rides-kept : (l x : List ℕ) → ((i : ℕ) → i ∈ l → Goes w i × (station w i ≡ c)) → (g : ℕ) → Goes w g
@@ -376,13 +380,13 @@ module _
         e-waits g goes at = subst (λ s. g ∈ waiting w s) at (waiting-in w ok g goes)
 
         -- an offer to a departure is one to those behind it
-        offer-paid : (f g p : ℕ) → Behind (waiting w e) f g → Goes w g → station w g ≡ e
+        offer-paid : (f g p : ℕ) → Behind (waiting w e) f g → Boards w g → station w g ≡ e
             → Offered w caught c e (boardings w c start (waiting w c)) f p → Paid w a d (e ∷ rev) g p
-        offer-paid f g p b goes at o =
+        offer-paid f g p b boards at o =
             let v = o .v in
             let rode = boardings-arrived w ok c start a d rev labels v (o .listed) in
             let f-goes = waiting-out w e f (behind-in (waiting w e) f g b) .0 in
-            let k = offers-catch v f (arrived-behind w a d rev (v .stop) (v .paid) rode) f-goes (o .offers) in
+            let k = offers-wait v f (arrived-behind w a d rev (v .stop) (v .paid) rode) f-goes (o .offers) in
             let late = behind-departs w ok e f g b in
             record {
               at = v .stop;
@@ -391,16 +395,19 @@ module _
               here = o .offers .there-e;
               catches =
                   record {
-                    goes = goes;
+                    alights = k .alights;
+                    boards = boards;
                     here = at ∙ sym (o .offers .there-e);
                     timely = omega (arith, k .timely);
                   };
               total = o .is;
             }
 
-        attained : (g : ℕ) → Goes w g → station w g ≡ e → last g < unreached → Paid w a d (e ∷ rev) g (last g)
-        attained g goes at h =
-            elim (fall-from (waiting w e) unreached offered g (waiting-distinct w ok e) within (e-waits g goes at)) [
+        attained : (g : ℕ) → Boards w g → station w g ≡ e → last g < unreached → Paid w a d (e ∷ rev) g (last g)
+        attained g boards at h =
+            elim
+            (fall-from (waiting w e) unreached offered g (waiting-distinct w ok e) within
+            (e-waits g (boards .goes) at)) [
               | inl q ↦ absurd (omega arith)
               | inr r ↦ subst (Paid w a d (e ∷ rev) g) (sym (r .is)) (from r)
             ]
@@ -412,11 +419,11 @@ module _
                 let is = r .is in
                 elim (run-from w caught c e (boardings w c start (waiting w c)) start (r .f) few) [
                   | inl q ↦ absurd (omega (arith, start-word (r .f) m))
-                  | inr o ↦ offer-paid (r .f) g (getD offered (r .f) 0) (r .behind) goes at o
+                  | inr o ↦ offer-paid (r .f) g (getD offered (r .f) 0) (r .behind) boards at o
                 ]
 
-        below : (g p : ℕ) → Goes w g → station w g ≡ e → Paid w a d (e ∷ rev) g p → last g ≤ p
-        below g p goes at h =
+        below : (g p : ℕ) → Boards w g → station w g ≡ e → Paid w a d (e ∷ rev) g p → last g ≤ p
+        below g p boards at h =
             let j = h .at in
             let s = arrived-behind w a d rev j (h .before) (h .rode) in
             let l = boardings-least w ok c start a d rev labels there-c j (h .before) (h .rode) in
@@ -439,6 +446,7 @@ module _
             (record {
               attained = attained;
               below = below;
-              capped = λ g goes at.
-                  fall-top (waiting w e) unreached offered g (waiting-distinct w ok e) within (e-waits g goes at);
+              capped = λ g boards at.
+                  fall-top (waiting w e) unreached offered g (waiting-distinct w ok e) within
+                  (e-waits g (boards .goes) at);
             })

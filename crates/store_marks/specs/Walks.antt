@@ -1,5 +1,5 @@
 -- Walks along a trip, as the code does them: one who boards at a stop rides on until the trip ends or comes back to the
--- station of boarding, and at each arrival something is done to an array.
+-- station of boarding where one can board again, and at each arrival something is done to an array.
 use mathlib.Core.Bool.{Bool, cond, not, _&&_}
 use mathlib.Core.List.{List, [], _∷_}
 use Prim.Native.Nat.{ℕ, zero, suc, _+_, _-_}
@@ -7,6 +7,8 @@ use lib.Dec.{ltb, eqb}
 use lib.ListN.{getD}
 use Rattle.lists.specs.Lists.{concatMap}
 use Rattle.timetable.specs.Timetable.{Stop}
+use Rattle.timetable.specs.Words.{stopAt}
+use Rattle.connections.specs.Rides.{mayBoard}
 use Rattle.store_stops.specs.Stopwise.{station, depart, points, changePoints, unreached}
 use Rattle.store_departures.specs.Order.{waiting}
 use Rattle.store_points.specs.Lowered.{lowered}
@@ -20,16 +22,24 @@ pub record Visit : Type 0 where
 abbrev pub visit : (j y : ℕ) → Visit
 visit j y = record { stop = j; paid = y }
 
+-- a stop at station c where one can board again
+unfoldable pub comesBack : Stop → (c : ℕ) → Bool
+comesBack s c = eqb (s .station) c && mayBoard s
+
 -- the points of the ride onward from a stop, 101 where the trip ends or comes back to station c: no ride costs as much
 unfoldable pub onwardPoints : Stop → (c : ℕ) → ℕ
-onwardPoints s c = cond (ltb 0 (s .depart) && not (eqb (s .station) c)) (s .points) 101
+onwardPoints s c = cond (ltb 0 (s .depart) && not (comesBack s c)) (s .points) 101
+
+-- what one has paid who boards at stop i, where x has the labels: no one boards where it is closed
+unfoldable pub labelAt : (w x : List ℕ) (i : ℕ) → ℕ
+labelAt w x i = cond (mayBoard (stopAt w i)) (getD x i 0) unreached
 
 module _ (w : List ℕ) (c : ℕ) where
   -- behind stop j the walk goes on
   abbrev pub goesOn : ℕ → Bool
-  goesOn j = ltb 0 (depart w j) && not (eqb (station w j) c)
+  goesOn j = ltb 0 (depart w j) && not (comesBack (stopAt w j) c)
 
-  -- the arrivals of one who leaves stop j, having paid y, up to the next one at station c, n at most
+  -- the arrivals of one who leaves stop j, having paid y, up to the next one where the trip comes back to c, n at most
   unfoldable pub visits : (n j y : ℕ) → List Visit
   visits zero j y = []
   visits (suc n) j y =
@@ -37,7 +47,7 @@ module _ (w : List ℕ) (c : ℕ) where
 
   -- those of one who boards at stop i, having paid what x says there
   unfoldable pub boarding : (x : List ℕ) (i : ℕ) → List Visit
-  boarding x i = cond (ltb (getD x i 0) unreached) (visits (2048 - i) i (getD x i 0)) []
+  boarding x i = cond (ltb (labelAt w x i) unreached) (visits (2048 - i) i (labelAt w x i)) []
 
   -- of all who board at the stops of a list
   unfoldable pub boardings : (x l : List ℕ) → List Visit

@@ -16,6 +16,8 @@ ghost use Rattle.store_departures.specs.Order.{waiting};
 ghost use Rattle.store_points.specs.Lowered.{lowered};
 ghost use Rattle.store_marks.specs.Arrays.{fill, fall, raised};
 ghost use Rattle.store_marks.specs.Walks.{
+  comesBack,
+  labelAt,
   onwardPoints,
   visit,
   visits,
@@ -112,6 +114,16 @@ fn offer(catch: &[u16], e: usize, b: usize, j: usize, v: Points, x: &mut [u32])
     }
 }
 
+// Whether the trip comes back at a stop to station c, where one can board again.
+fn comes_back(s: Stop, c: usize) -> bool
+    ensures { λ r. ⌜ r ≡ comesBack s c ⌝ }
+{
+    if s.station as usize == c {
+        return store_departures::may_board(s);
+    }
+    false
+}
+
 // The points of the ride onward from a stop, for one who boarded at station c; NO_MORE where the trip ends or comes
 // back to c.
 fn onward(s: Stop, c: usize) -> Points
@@ -120,7 +132,7 @@ fn onward(s: Stop, c: usize) -> Points
     if s.depart == 0 {
         return NO_MORE;
     }
-    if s.station as usize == c {
+    if comes_back(s, c) {
         return NO_MORE;
     }
     store_points::of_ride(s)
@@ -189,6 +201,18 @@ fn ride_on(words: &[u16], catch: &[u16], c: usize, e: usize, i: usize, paid: Poi
     }
 }
 
+// What one has paid who boards at stop i, with labels x; no one boards where it is closed.
+fn label_at(words: &[u16], x: &[u32], i: usize) -> Points
+    requires { ⌜ (16384 ≤ length (now words)) × (isTimetable (now words) ≡ true) ⌝ }
+    requires { ⌜ (i < 2048) × (length (now x) ≡ 2048) ⌝ }
+    ensures { λ r. ⌜ r .0 ≡ labelAt (now (words .entry)) (now (x .entry)) i ⌝ }
+{
+    if store_departures::may_board(timetable::stop_at(words, i)) {
+        return query_minutes::points_at(x, i);
+    }
+    UNREACHED
+}
+
 // Who can board at stop i, at station c, rides on and can change at station e.
 fn ride_to(words: &[u16], catch: &[u16], c: usize, e: usize, i: usize, x: &mut [u32])
     requires { ⌜ (16384 ≤ length (now words)) × (isTimetable (now words) ≡ true) × Goes (now words) i ⌝ }
@@ -199,7 +223,7 @@ fn ride_to(words: &[u16], catch: &[u16], c: usize, e: usize, i: usize, x: &mut [
         (boarding (now (words .entry)) c (now (x .entry)) i) (now (x .entry)) ⌝ }
     ensures { λ _. ⌜ length (now (x .exit)) ≡ 2048 ⌝ }
 {
-    let paid = query_minutes::points_at(x, i);
+    let paid = label_at(words, x, i);
     if query_minutes::at_least(paid, UNREACHED) {
         return;
     }
@@ -461,7 +485,7 @@ fn mark_ride(
         (boarding (now (words .entry)) c (now (x .entry)) i) (now (kids .entry)) ⌝ }
     ensures { λ _. ⌜ (length (now (arcs .exit)) ≡ 64) × (length (now (kids .exit)) ≡ 64) ⌝ }
 {
-    let paid = query_minutes::points_at(x, i);
+    let paid = label_at(words, x, i);
     if query_minutes::at_least(paid, UNREACHED) {
         return;
     }

@@ -1,5 +1,6 @@
 -- A stop and its station as the code reads them, and what it makes of them.
 use mathlib.Core.Path.{_≡_, ap, _∙_}
+use mathlib.Core.Bool.{Bool}
 use mathlib.Core.List.{List}
 use Prim.Native.Nat.{ℕ, _+_, _^_, _≤_, _<_, min}
 use native.Mathlib.Omega.{arith}
@@ -14,8 +15,9 @@ use Rattle.store_penalties.specs.Boarding.{boarding}
 pub waits : (low low′ : List ℕ) (c x g : ℕ) → low′ ≡ lowered c x low → x ≡ g → low′ ≡ lowered c g low
 waits low low′ c x g is e = is ∙ ap (λ z. lowered c z low) e
 
-pub boards : (a c r stay change g h : ℕ) → r ≡ boarding a c stay change → stay ≡ g → change ≡ h → r ≡ boarding a c g h
-boards a c r stay change g h is e f = rw (is, e, f)
+pub boards : (o : Bool) (a c r stay change g h : ℕ) → r ≡ boarding o a c stay change → stay ≡ g → change ≡ h
+    → r ≡ boarding o a c g h
+boards o a c r stay change g h is e f = rw (is, e, f)
 
 module _ (w : List ℕ) (j : ℕ) (s : Stop) (is : s ≡ stopAt w j) where
   pub station-some : 1 ≤ station w j → 1 ≤ s .station

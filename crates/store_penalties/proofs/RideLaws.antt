@@ -1,5 +1,6 @@
 -- A ride as the code takes it: s is the stop where it begins.
 use mathlib.Core.Path.{_≡_}
+use mathlib.Core.Bool.{Bool}
 use mathlib.Core.List.{List}
 use Prim.Native.Nat.{ℕ, suc, _+_, _^_, _≤_, _<_, min}
 use native.Mathlib.Numerals.{add-one}
@@ -7,6 +8,7 @@ use native.Mathlib.Omega.{arith}
 use lib.ListN.{length, getD, set}
 use Rattle.timetable.specs.Timetable.{Stop}
 use Rattle.timetable.specs.Words.{stopAt}
+use Rattle.connections.specs.Rides.{mayBoard}
 use Rattle.store_stops.specs.Stopwise.{station, depart, changePoints, unreached}
 use Rattle.store_points.specs.Lowered.{lowered}
 use Rattle.store_penalties.specs.Boarding.{boarding}
@@ -46,14 +48,16 @@ module _ (w caught : List ℕ) (i : ℕ) (v q : List ℕ) (r : Departing w caugh
     sum-fits b h = rw stop (omega (arith, r .timely .cheap i (r .goes)))
 
     module _
+        (opens : Bool)
+        (is-open : opens ≡ mayBoard s)
         (a : ℕ)
         (low low′ : List ℕ)
         (waits : low′ ≡ lowered (s .station) (getD q i 0) low)
         (b : ℕ)
-        (paid : b ≡ boarding a (s .station) (getD v i 0) (getD low′ (s .station) 0))
+        (paid : b ≡ boarding opens a (s .station) (getD v i 0) (getD low′ (s .station) 0))
       where
         pub passed : unreached ≤ b → Turned w a (s .depart) i v q low v q low′
-        passed h = rw stop (unboarded w caught a i v q low r low′ (rw stop at waits) b (rw stop at paid) h)
+        passed h = rw stop (unboarded w caught a i v q low r low′ (rw stop at waits) b (rw (is-open, stop) at paid) h)
 
         pub ridden : (v′ q′ : List ℕ) (more : ℕ) → 2048 ≤ length v → more ≡ b + s .points
             → v′ ≡ set v (i + 1) (min unreached more)
@@ -76,7 +80,7 @@ module _ (w caught : List ℕ) (i : ℕ) (v q : List ℕ) (r : Departing w caugh
             low′
             (rw stop at waits)
             b
-            (rw stop at paid)
+            (rw (is-open, stop) at paid)
             v′
             q′
             long

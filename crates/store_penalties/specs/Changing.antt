@@ -12,7 +12,7 @@ use lib.ListN.{getD}
 use Rattle.lists.specs.Lists.{_∈_}
 use Rattle.lists.specs.Members.{cons-cases, append-cases, none}
 use Rattle.store_stops.specs.Stopwise.{station, changePoints, unreached, Catches}
-use Rattle.store_departures.specs.Order.{catch}
+use Rattle.store_departures.specs.Order.{catch, Waits}
 use Rattle.store_penalties.specs.Swept.{changed, Offered, Waited, Swept, Turned}
 use Rattle.store_penalties.specs.Split.{
   Place,
@@ -21,8 +21,8 @@ use Rattle.store_penalties.specs.Split.{
   goes-done,
   fresh,
   caught-before,
-  can-board,
-  can-board-now,
+  can-wait,
+  can-wait-now,
   caught-later,
 }
 
@@ -37,11 +37,11 @@ module _ (done : List ℕ) (i : ℕ) where
   pub more-cases : {G : Type 0} {k : ℕ} → k ∈ done ++ (i ∷ []) → (k ∈ done → G) → (k ≡ i → G) → G
   more-cases m f g = append-cases done m f (λ n. cons-cases n g none)
 
--- an arrival of which i can be boarded by a change, for penalty p
+-- an arrival after which one can wait for i, for penalty p
 pub record Changing (w done v : List ℕ) (i p : ℕ) : Type 0 where
   pub k : ℕ
   pub gone : k ∈ done
-  pub catches : Catches w (suc k) i
+  pub waits : Waits w (suc k) i
   pub is : p ≡ changed w v k
 
 module _
@@ -128,14 +128,14 @@ module _
               record {
                 k = r .k;
                 gone = r .gone;
-                catches = can-board p (r .k) (r .gone) (r .caught) (sym (r .here));
+                waits = can-wait p (r .k) (r .gone) (r .caught) (sym (r .here));
                 is = r .is;
               }
           | inr r ↦
               record {
                 k = r .k;
                 gone = r .gone;
-                catches = can-board-now p (r .k) (goes-done p (r .k) (r .gone)) (r .catches);
+                waits = can-wait-now p (r .k) (goes-done p (r .k) (r .gone)) (r .catches);
                 is = r .is;
               }
         ]
@@ -179,7 +179,7 @@ module _
       where
         caught-now : k ∈ done → catch w (suc k) ≡ i → getD low′ (station w (suc k)) 0 ≤ changed w v′ k
         caught-now l e =
-            let c = can-board-now p k (goes-done p k l) e in
+            let c = can-wait-now p k (goes-done p k l) e in
             omega (arith, offer-here k l e, ap (λ z. getD low′ z 0) (c .here), v-done k l)
 
         before : k ∈ done → getD low′ (station w (suc k)) 0 ≤ changed w v′ k
@@ -197,7 +197,7 @@ module _
         at-once : Offered w done v i (getD low′ (station w i) 0)
             → Waited w more v′ (station w i) (getD low′ (station w i) 0)
         at-once r =
-            let c = can-board-now p (r .k) (goes-done p (r .k) (r .gone)) (r .catches) in
+            let c = can-wait-now p (r .k) (goes-done p (r .k) (r .gone)) (r .catches) in
             record {
               k = r .k;
               gone = kept done i (r .gone);

@@ -1,20 +1,23 @@
--- One ride, from stop i to the next: who boards at stop i has come from the start, stayed aboard or changed, and
+-- One ride, from stop i to the next: who leaves stop i has come from the start, stayed aboard or changed, and
 -- arrives at the next stop, where a change catches another departure.
-use mathlib.Core.Path.{_≡_, refl, _∙_}
+use mathlib.Core.Path.{_≡_, refl, sym, subst, _∙_}
+use mathlib.Core.Bool.{Bool, true, false}
 use mathlib.Core.Logic.{_⊎_, _≢_, inl, inr}
 use mathlib.Core.List.{List}
 use Prim.Native.Nat.{ℕ, suc, _+_, _≤_, _<_, min}
 use native.Mathlib.Omega.{arith}
 use native.Mathlib.Decide.{decLe, ℕ-discrete}
+use lib.Dec.{T}
 use lib.ListN.{length, getD, set}
 use lib.Seq.{getD-set-same, getD-set-other}
-use Rattle.timetable.specs.Words.{stationCount}
-use Rattle.store_stops.specs.Stopwise.{station, depart, points, changePoints, unreached, Goes}
+use Rattle.timetable.specs.Words.{stationCount, stopAt}
+use Rattle.connections.specs.Rides.{mayBoard}
+use Rattle.store_stops.specs.Stopwise.{station, depart, points, changePoints, unreached, Goes, Boards}
 use Rattle.store_stops.specs.Settled.{Timely}
 use Rattle.store_departures.specs.Order.{catch}
 use Rattle.store_points.specs.Lowered.{lowered, lowered-here, lowered-else}
-use Rattle.store_penalties.specs.Boarding.{boarding, boards-free, boards-least}
-use Rattle.store_penalties.specs.Swept.{Boards, Turned}
+use Rattle.store_penalties.specs.Boarding.{boarding, boards-closed, boards-free, boards-least}
+use Rattle.store_penalties.specs.Swept.{Aboard, Turned}
 
 -- where the ride begins: no one has arrived by it
 pub record Departing (w caught : List ℕ) (i : ℕ) (v q : List ℕ) : Type 0 where
@@ -36,32 +39,58 @@ module _
     (low′ : List ℕ)
     (taken : low′ ≡ lowered (station w i) (getD q i 0) low)
     (b : ℕ)
-    (is : b ≡ boarding a (station w i) (getD v i 0) (getD low′ (station w i) 0))
+    (is : b ≡ boarding (mayBoard (stopAt w i)) a (station w i) (getD v i 0) (getD low′ (station w i) 0))
   where
-    boards : Boards w a (depart w i) i v low′ b
-    boards =
-        elim (ℕ-discrete (station w i) a) [
-          | yes e ↦ free (is ∙ boards-free a (station w i) (getD v i 0) (getD low′ (station w i) 0) e) e
-          | no e ↦ least (is ∙ boards-least a (station w i) (getD v i 0) (getD low′ (station w i) 0) e) e
-        ]
-      where
-        free : b ≡ 0 → station w i ≡ a → Boards w a (depart w i) i v low′ b
-        free z e =
-            record {
-              at-start = λ h g. z;
-              by-staying = omega arith;
-              by-changing = omega arith;
-              attained = λ g. inl (e, omega arith, z);
-            }
+    abbrev stay : ℕ
+    stay = getD v i 0
 
-        least : b ≡ min (getD v i 0) (getD low′ (station w i) 0) → station w i ≢ a → Boards w a (depart w i) i v low′ b
-        least m e =
-            record {
-              at-start = λ h g. absurd (e h);
-              by-staying = omega arith;
-              by-changing = omega arith;
-              attained = λ g. inr (min-cases (getD v i 0) (getD low′ (station w i) 0) m);
-            }
+    abbrev change : ℕ
+    change = getD low′ (station w i) 0
+
+    -- the stop is closed: only who stays aboard leaves it
+    closed : mayBoard (stopAt w i) ≡ false → Aboard w a (depart w i) i v low′ b
+    closed o =
+        let z = is ∙ boards-closed (mayBoard (stopAt w i)) a (station w i) stay change o in
+        let never : ¬ Boards w i = (λ k. subst T o (k .opens)) in
+        record {
+          at-start = λ k. absurd (never k);
+          by-staying = omega (arith, z);
+          by-changing = λ k. absurd (never k);
+          attained = λ g. inr (inl z);
+        }
+
+    -- it is open
+    module _ (o : mayBoard (stopAt w i) ≡ true) where
+      here-boards : Boards w i
+      here-boards = record { goes = r .goes; opens = subst T (sym o) tt }
+
+      free : station w i ≡ a → Aboard w a (depart w i) i v low′ b
+      free e =
+          let z = is ∙ boards-free (mayBoard (stopAt w i)) a (station w i) stay change o e in
+          record {
+            at-start = λ k h g. z;
+            by-staying = omega (arith, z);
+            by-changing = λ k. omega (arith, z);
+            attained = λ g. inl (here-boards, e, omega arith, z);
+          }
+
+      least : station w i ≢ a → Aboard w a (depart w i) i v low′ b
+      least e =
+          let m = is ∙ boards-least (mayBoard (stopAt w i)) a (station w i) stay change o e in
+          record {
+            at-start = λ k h g. absurd (e h);
+            by-staying = omega (arith, m);
+            by-changing = λ k. omega (arith, m);
+            attained = λ g.
+                inr (elim (min-cases stay change m) [ inl q ↦ inl q | inr q ↦ inr (here-boards, q) ]);
+          }
+
+    aboard : Aboard w a (depart w i) i v low′ b
+    aboard = go (mayBoard (stopAt w i)) refl
+      where
+        go : (o : Bool) → mayBoard (stopAt w i) ≡ o → Aboard w a (depart w i) i v low′ b
+        go false o = closed o
+        go true o = elim (ℕ-discrete (station w i) a) [ yes e ↦ free o e | no e ↦ least o e ]
 
     low-here : getD low′ (station w i) 0 ≡ min (getD low (station w i) 0) (getD q i 0)
     low-here = rw taken (lowered-here low (station w i) (getD q i 0))
@@ -74,7 +103,7 @@ module _
     unboarded h =
         record {
           b = b;
-          boards = boards;
+          aboard = aboard;
           low-here = low-here;
           low-else = low-else;
           v-here = omega (arith, r .fresh);
@@ -106,7 +135,7 @@ module _
         boarded =
             record {
               b = b;
-              boards = boards;
+              aboard = aboard;
               low-here = low-here;
               low-else = low-else;
               v-here = v-here;
@@ -121,12 +150,12 @@ pub from-earlier : {w : List ℕ} {a d i : ℕ} {v q low v′ q′ low′ : List
 from-earlier on t =
     record {
       b = t .b;
-      boards =
+      aboard =
           record {
-            at-start = λ e g. t .boards .at-start e (omega arith);
-            by-staying = t .boards .by-staying;
-            by-changing = t .boards .by-changing;
-            attained = λ g. elim (t .boards .attained g) [ inl o ↦ inl (o .0, on, o .2) | inr o ↦ inr o ];
+            at-start = λ b e g. t .aboard .at-start b e (omega arith);
+            by-staying = t .aboard .by-staying;
+            by-changing = t .aboard .by-changing;
+            attained = λ g. elim (t .aboard .attained g) [ inl o ↦ inl (o .0, o .1, on, o .3) | inr o ↦ inr o ];
           };
       low-here = t .low-here;
       low-else = t .low-else;

@@ -12,7 +12,7 @@ use Rattle.lists.specs.Members.{cons-cases, append-cases, none}
 use Rattle.timetable.specs.Words.{stationCount}
 use Rattle.store_stops.specs.Stopwise.{station, depart, nowhere, Goes, Catches}
 use Rattle.store_stops.specs.Settled.{Timely}
-use Rattle.store_departures.specs.Order.{order, catch, InOrder}
+use Rattle.store_departures.specs.Order.{order, catch, InOrder, Waits, waits-for}
 
 -- a list in which x stands, before x and behind it
 pub record Around (x : ℕ) (l : List ℕ) : Type 0 where
@@ -85,12 +85,12 @@ module _ {w done left : List ℕ} {i : ℕ} (p : Place w done left i) where
       omega (arith, p .timely .before i goes-now, p .timely .waits i goes-now g, earlier (suc i) m)
 
   -- and so is what is caught there
-  pub not-caught : (k g : ℕ) → k ≡ i → g ∈ done → ¬ Catches w (suc k) g
+  pub not-caught : (k g : ℕ) → k ≡ i → g ∈ done → ¬ Waits w (suc k) g
   not-caught k g e m c =
       let now : Goes w k = subst (Goes w) (sym e) goes-now in
       omega (arith, p .timely .before k now, c .timely, earlier g m, ap (depart w) e)
 
-  not-itself : ¬ Catches w (suc i) i
+  not-itself : ¬ Waits w (suc i) i
   not-itself c = omega (arith, p .timely .before i goes-now, c .timely)
 
   pub left-before : (k : ℕ) → Goes w k → Catches w (suc k) i → k ∈ done
@@ -99,7 +99,7 @@ module _ {w done left : List ℕ} {i : ℕ} (p : Place w done left i) where
       k
       g
       (λ m. m)
-      (λ e. absurd (not-itself (subst (λ z. Catches w (suc z) i) e c)))
+      (λ e. absurd (not-itself (subst (λ z. Waits w (suc z) i) e (waits-for w c))))
       (λ m. absurd (omega (arith, p .timely .before k g, c .timely, later k m)))
 
   small : (k : ℕ) → Goes w k → k < nowhere
@@ -110,7 +110,7 @@ module _ {w done left : List ℕ} {i : ℕ} (p : Place w done left i) where
   caught-before k g c =
       elim (decLt (catch w (suc k)) nowhere) [
         | yes h ↦ caught h
-        | no h ↦ absurd (p .ordered .caught-none k i g (omega arith) c)
+        | no h ↦ absurd (p .ordered .caught-none k i g (omega arith) (waits-for w c))
       ]
     where
       behind : catch w (suc k) ∈ left → ⊥
@@ -119,7 +119,7 @@ module _ {w done left : List ℕ} {i : ℕ} (p : Place w done left i) where
           let f = catch w (suc k) in
           let whole : order w ≡ (done ++ (i ∷ r .before)) ++ (f ∷ r .behind) =
           p .split ∙ ap (λ l. done ++ (i ∷ l)) (r .whole) ∙ sym (append-assoc done (i ∷ r .before) (f ∷ r .behind)) in
-          let n = p .ordered .caught-first k i (done ++ (i ∷ r .before)) (r .behind) g whole c in
+          let n = p .ordered .caught-first k i (done ++ (i ∷ r .before)) (r .behind) g whole (waits-for w c) in
           single (subst (λ l. i ∈ l) (sym (r .whole)) (Memᴰ·append-right (r .before) n))
 
       caught : catch w (suc k) < nowhere → (catch w (suc k) ∈ done) ⊎ (catch w (suc k) ≡ i)
@@ -131,9 +131,9 @@ module _ {w done left : List ℕ} {i : ℕ} (p : Place w done left i) where
           inr
           (λ m. absurd (behind m))
 
-  -- whoever has caught one before i can change to i
-  pub can-board : (k : ℕ) → k ∈ done → catch w (suc k) ∈ done → station w i ≡ station w (suc k) → Catches w (suc k) i
-  can-board k m n e =
+  -- whoever has caught one before i can wait for i
+  pub can-wait : (k : ℕ) → k ∈ done → catch w (suc k) ∈ done → station w i ≡ station w (suc k) → Waits w (suc k) i
+  can-wait k m n e =
       let r = around n in
       let f = catch w (suc k) in
       let whole : order w ≡ r .before ++ (f ∷ (r .behind ++ (i ∷ left))) =
@@ -141,8 +141,8 @@ module _ {w done left : List ℕ} {i : ℕ} (p : Place w done left i) where
       p .ordered .caught-behind k i (r .before) (r .behind ++ (i ∷ left)) (goes-done k m) whole
       (Memᴰ·append-right (r .behind) (here refl)) e
 
-  pub can-board-now : (k : ℕ) → Goes w k → catch w (suc k) ≡ i → Catches w (suc k) i
-  can-board-now k g e = subst (Catches w (suc k)) e (p .ordered .caught k g (rw e (small i goes-now)))
+  pub can-wait-now : (k : ℕ) → Goes w k → catch w (suc k) ≡ i → Waits w (suc k) i
+  can-wait-now k g e = subst (Waits w (suc k)) e (p .ordered .caught k g (rw e (small i goes-now)))
 
   pub caught-later : ¬ (catch w (suc i) ∈ done ++ (i ∷ []))
   caught-later m =
@@ -150,4 +150,4 @@ module _ {w done left : List ℕ} {i : ℕ} (p : Place w done left i) where
       done
       m
       (λ n. not-caught i (catch w (suc i)) refl n (p .ordered .caught i goes-now (small _ (goes-done _ n))))
-      (λ n. cons-cases n (λ e. not-itself (can-board-now i goes-now e)) none)
+      (λ n. cons-cases n (λ e. not-itself (can-wait-now i goes-now e)) none)

@@ -51,7 +51,7 @@ module _ (w : List ℕ) (a d : ℕ) (done : List ℕ) (timely : Timely w) (goes 
         waited = λ c h g. absurd (omega (arith, no-low .each c h));
         v-most = no-v .most;
         reached = λ j h g. absurd (omega (arith, no-v .each j h));
-        starts = λ i o e h. absurd (omega (arith, early i o));
+        starts = λ i o b e h. absurd (omega (arith, early i o));
         stays = λ i g o. omega (arith, no-v .most (suc (suc i)), far i g);
         changes = λ i g h o c. omega (arith, no-v .most (suc g), far i h);
         attained = λ i o h. absurd (omega (arith, far i (goes i o)));
@@ -61,9 +61,9 @@ module _ (w : List ℕ) (a d : ℕ) (done : List ℕ) (timely : Timely w) (goes 
 pub settles : (w : List ℕ) (a d : ℕ) (v q low : List ℕ) → InOrder w → Swept w a d (order w) v q low → Settled w a d v
 settles w a d v q low o s =
     record {
-      starts = λ i g. s .starts i (o .all i g);
+      starts = λ i b. s .starts i (o .all i (b .goes)) b;
       stays = λ i g h. s .stays i g (o .all (suc i) h);
-      changes = λ i g h c. s .changes i g h (o .all g (c .goes)) c;
+      changes = λ i g h c. s .changes i g h (o .all g (c .boards .goes)) c;
       attained = λ i g. s .attained i (o .all i g);
       capped = λ i g. s .v-most (suc i);
     }

@@ -7,7 +7,7 @@ use mathlib.Core.List.{List}
 use Prim.Native.Nat.{ℕ, suc, _+_, _≤_, _<_, min}
 use lib.ListN.{getD}
 use Rattle.lists.specs.Lists.{_∈_}
-use Rattle.store_stops.specs.Stopwise.{station, depart, points, changePoints, unreached, Goes, Catches}
+use Rattle.store_stops.specs.Stopwise.{station, depart, points, changePoints, unreached, Goes, Boards, Catches}
 use Rattle.store_stops.specs.Settled.{FromStart, FromStop, FromChange}
 use Rattle.store_departures.specs.Order.{catch}
 
@@ -48,25 +48,26 @@ pub record Swept (w : List ℕ) (a d : ℕ) (done v q low : List ℕ) : Type 0 w
   pub waited : (c : ℕ) → c < 65 → getD low c 0 < unreached → Waited w done v c (getD low c 0)
   pub v-most : (j : ℕ) → getD v j 0 ≤ unreached
   pub reached : (j : ℕ) → j < 2048 → getD v j 0 < unreached → Behind w d done j
-  pub starts : (i : ℕ) → i ∈ done → station w i ≡ a → d ≤ depart w i → getD v (suc i) 0 ≤ points w i
+  pub starts : (i : ℕ) → i ∈ done → Boards w i → station w i ≡ a → d ≤ depart w i → getD v (suc i) 0 ≤ points w i
   pub stays : (i : ℕ) → Goes w i → suc i ∈ done → getD v (suc (suc i)) 0 ≤ getD v (suc i) 0 + points w (suc i)
   pub changes : (i g : ℕ) → Goes w i → g ∈ done → Catches w (suc i) g → getD v (suc g) 0 ≤ changed w v i + points w g
   pub attained : (i : ℕ) → i ∈ done → getD v (suc i) 0 < unreached
       → FromStart w a d v i ⊎ (FromStop w a d v i ⊎ FromChange w a d v i)
 
 module _ (w : List ℕ) (a d i : ℕ) where
-  -- b is the least that one has paid who boards at stop i
-  pub record Boards (v low : List ℕ) (b : ℕ) : Type 0 where
-    pub at-start : station w i ≡ a → d ≤ depart w i → b ≡ 0
+  -- b is the least that one has paid who leaves stop i
+  pub record Aboard (v low : List ℕ) (b : ℕ) : Type 0 where
+    pub at-start : Boards w i → station w i ≡ a → d ≤ depart w i → b ≡ 0
     pub by-staying : b ≤ getD v i 0
-    pub by-changing : b ≤ getD low (station w i) 0
+    pub by-changing : Boards w i → b ≤ getD low (station w i) 0
     pub attained : b < unreached
-        → ((station w i ≡ a) × (d ≤ depart w i) × (b ≡ 0)) ⊎ ((b ≡ getD v i 0) ⊎ (b ≡ getD low (station w i) 0))
+        → (Boards w i × (station w i ≡ a) × (d ≤ depart w i) × (b ≡ 0))
+        ⊎ ((b ≡ getD v i 0) ⊎ (Boards w i × (b ≡ getD low (station w i) 0)))
 
   -- what departure i makes of v, q and low
   pub record Turned (v q low v′ q′ low′ : List ℕ) : Type 0 where
     pub b : ℕ
-    pub boards : Boards v low′ b
+    pub aboard : Aboard v low′ b
     pub low-here : getD low′ (station w i) 0 ≡ min (getD low (station w i) 0) (getD q i 0)
     pub low-else : (c : ℕ) → c ≢ station w i → getD low′ c 0 ≡ getD low c 0
     pub v-here : getD v′ (suc i) 0 ≡ min unreached (b + points w i)

@@ -9,8 +9,9 @@ use native.Mathlib.Omega.{arith}
 use native.Mathlib.Decide.{ℕ-discrete}
 use lib.ListN.{getD}
 use Rattle.lists.specs.Lists.{_∈_}
-use Rattle.store_stops.specs.Stopwise.{station, depart, points, unreached, Goes, Catches}
+use Rattle.store_stops.specs.Stopwise.{station, depart, points, unreached, Goes, Boards, Catches}
 use Rattle.store_stops.specs.Settled.{FromStart, FromStop, FromChange}
+use Rattle.store_departures.specs.Order.{waits-for, boards-at}
 use Rattle.store_penalties.specs.Swept.{changed, Behind, Swept, Turned}
 use Rattle.store_penalties.specs.Underway.{on-the-way}
 use Rattle.store_penalties.specs.Split.{
@@ -74,10 +75,10 @@ module _
 
       boarded-timely : d ≤ depart w i
       boarded-timely =
-          elim (t .boards .attained paid) [
-            | inl r ↦ r .1
+          elim (t .aboard .attained paid) [
+            | inl r ↦ r .2
             | inr o ↦
-                elim o [ inl e ↦ on-the-way p s i (stop-few p) (omega (arith, paid)) | inr e ↦ changed-timely e ]
+                elim o [ inl e ↦ on-the-way p s i (stop-few p) (omega (arith, paid)) | inr e ↦ changed-timely (e .1) ]
           ]
 
     -- who stays aboard has paid what they had
@@ -104,17 +105,17 @@ module _
             }
 
     -- ---- no one has paid less
-    starts : (k : ℕ) → k ∈ more → station w k ≡ a → d ≤ depart w k → getD v′ (suc k) 0 ≤ points w k
+    starts : (k : ℕ) → k ∈ more → Boards w k → station w k ≡ a → d ≤ depart w k → getD v′ (suc k) 0 ≤ points w k
     starts k m =
         more-cases
         done
         i
         m
-        (λ n e h. omega (arith, v-done p s t k n, s .starts k n e h))
-        (λ z. subst Starts (sym z) (λ e h. omega (arith, t .v-here, t .boards .at-start e h)))
+        (λ n b e h. omega (arith, v-done p s t k n, s .starts k n b e h))
+        (λ z. subst Starts (sym z) (λ b e h. omega (arith, t .v-here, t .aboard .at-start b e h)))
       where
         Starts : ℕ → Type 0
-        Starts z = station w z ≡ a → d ≤ depart w z → getD v′ (suc z) 0 ≤ points w z
+        Starts z = Boards w z → station w z ≡ a → d ≤ depart w z → getD v′ (suc z) 0 ≤ points w z
 
     stays : (k : ℕ) → Goes w k → suc k ∈ more → getD v′ (suc (suc k)) 0 ≤ getD v′ (suc k) 0 + points w (suc k)
     stays k g m = more-cases done i m before here-too
@@ -128,7 +129,7 @@ module _
             omega (arith, v-done p s t (suc k) n, t .v-else (suc k) other, s .stays k g n)
 
         here-too : suc k ≡ i → Stays (suc k)
-        here-too e = subst Stays (sym e) (omega (arith, t .v-here, t .boards .by-staying, stayed))
+        here-too e = subst Stays (sym e) (omega (arith, t .v-here, t .aboard .by-staying, stayed))
 
     changes : (k g : ℕ) → Goes w k → g ∈ more → Catches w (suc k) g
         → getD v′ (suc g) 0 ≤ changed w v′ k + points w g
@@ -139,13 +140,13 @@ module _
 
         before : g ∈ done → Changes g
         before n c =
-            let other : suc k ≢ suc i = (λ e. not-caught p k g (suc-inj e) n c) in
+            let other : suc k ≢ suc i = (λ e. not-caught p k g (suc-inj e) n (waits-for w c)) in
             omega (arith, v-done p s t g n, t .v-else (suc k) other, s .changes k g h n c)
 
         here-too : Changes i
         here-too c =
             let n = left-before p k h c in
-            omega (arith, t .v-here, t .boards .by-changing, change-least p s t k n c, v-done p s t k n)
+            omega (arith, t .v-here, t .aboard .by-changing (c .boards), change-least p s t k n c, v-done p s t k n)
 
     -- ---- someone has paid that much
     abbrev From : ℕ → Type 0
@@ -153,7 +154,8 @@ module _
 
     module _ (k : ℕ) (n : k ∈ done) where
       start-kept : FromStart w a d v k → FromStart w a d v′ k
-      start-kept r = record { here = r .here; timely = r .timely; is = v-done p s t k n ∙ r .is }
+      start-kept r =
+          record { boards = r .boards; here = r .here; timely = r .timely; is = v-done p s t k n ∙ r .is }
 
       stop-kept : FromStop w a d v k → FromStop w a d v′ k
       stop-kept r =
@@ -167,7 +169,7 @@ module _
 
       change-kept : FromChange w a d v k → FromChange w a d v′ k
       change-kept r =
-          let other : suc (r .k) ≢ suc i = (λ e. not-caught p (r .k) k (suc-inj e) n (r .catches)) in
+          let other : suc (r .k) ≢ suc i = (λ e. not-caught p (r .k) k (suc-inj e) n (waits-for w (r .catches))) in
           record {
             k = r .k;
             goes = r .goes;
@@ -193,21 +195,22 @@ module _
             is = omega (arith, arrived h, e, stayed);
           }
 
-      by-changing : t .b ≡ getD low′ (station w i) 0 → FromChange w a d v′ i
-      by-changing e =
+      by-changing : Boards w i → t .b ≡ getD low′ (station w i) 0 → FromChange w a d v′ i
+      by-changing b e =
           let r = change-from p s t (omega (arith, paid h)) in
           record {
             k = r .k;
             goes = goes-done p (r .k) (r .gone);
-            catches = r .catches;
+            catches = boards-at w (r .waits) b;
             is = omega (arith, arrived h, e, r .is, v-done p s t (r .k) (r .gone));
           }
 
       here-too : From i
       here-too =
-          elim (t .boards .attained (paid h)) [
-            | inl r ↦ inl (record { here = r .0; timely = r .1; is = omega (arith, arrived h, r .2) })
-            | inr o ↦ elim o [ inl e ↦ inr (inl (by-staying e)) | inr e ↦ inr (inr (by-changing e)) ]
+          elim (t .aboard .attained (paid h)) [
+            | inl r ↦
+                inl (record { boards = r .0; here = r .1; timely = r .2; is = omega (arith, arrived h, r .3) })
+            | inr o ↦ elim o [ inl e ↦ inr (inl (by-staying e)) | inr e ↦ inr (inr (by-changing (e .0) (e .1))) ]
           ]
 
     attained : (k : ℕ) → k ∈ more → getD v′ (suc k) 0 < unreached → From k

@@ -32,26 +32,38 @@ fn fill(a: &mut [u32])
     }
 }
 
-// The least that one has paid who boards at station c.
-fn boarding(source: usize, c: usize, stay: Points, change: Points) -> Points
-    ensures { λ r. ⌜ r .0 ≡ boarding source c (stay .0) (change .0) ⌝ }
+// The least that one has paid who leaves a stop at station c, which is open to boarding or is not.
+fn boarding(opens: bool, source: usize, c: usize, stay: Points, change: Points) -> Points
+    ensures { λ r. ⌜ r .0 ≡ boarding opens source c (stay .0) (change .0) ⌝ }
 {
+    if !opens {
+        return stay;
+    }
     if c == source {
         return Points(0);
     }
     query_minutes::lesser(stay, change)
 }
 
-// Who has caught departure i, at station c, can board there from now on. Returns the least that one has paid who boards
-// at i.
-fn board(source: usize, c: usize, i: usize, v: &[u32], q: &[u32], low: &mut [u32]) -> Points
+// Who has caught departure i, at station c, can board there from now on, where a stop is open to that. Returns the
+// least that one has paid who leaves at i.
+fn board(
+    opens: bool,
+    source: usize,
+    c: usize,
+    i: usize,
+    v: &[u32],
+    q: &[u32],
+    low: &mut [u32],
+) -> Points
     requires { ⌜ (i < length (now v)) × (i < length (now q)) × (c < length (now low)) ⌝ }
     ensures { λ _. ⌜ now (low .exit) ≡ lowered c (getD (now (q .entry)) i 0) (now (low .entry)) ⌝ }
-    ensures { λ r. ⌜ r .0 ≡ boarding source c (getD (now (v .entry)) i 0) (getD (now (low .exit)) c 0) ⌝ }
+    ensures { λ r. ⌜ r .0 ≡ boarding opens source c (getD (now (v .entry)) i 0) (getD (now (low .exit)) c 0) ⌝ }
     ensures { λ _. ⌜ length (now (low .exit)) ≡ length (now (low .entry)) ⌝ }
 {
     store_points::lower(low, c, query_minutes::points_at(q, i));
     boarding(
+        opens,
         source,
         c,
         query_minutes::points_at(v, i),
@@ -115,7 +127,8 @@ fn ride(
         × (length (now (q .exit)) ≡ length (now (q .entry)))
         × (length (now (low .exit)) ≡ length (now (low .entry))) ⌝ }
 {
-    let b = board(source, s.station as usize, i, v, q, low);
+    let opens = store_departures::may_board(s);
+    let b = board(opens, source, s.station as usize, i, v, q, low);
     if query_minutes::at_least(b, UNREACHED) {
         return;
     }

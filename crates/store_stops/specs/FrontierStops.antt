@@ -11,7 +11,7 @@ use lib.ListN.{getD}
 use Rattle.timetable.specs.Words.{isTimetable}
 use Rattle.lists.specs.Tests.{either}
 use Rattle.optimality.specs.Along.{Arrives, Frontier}
-use Rattle.store_stops.specs.Stopwise.{station, arrive, unreached, Goes}
+use Rattle.store_stops.specs.Stopwise.{station, arrive, unreached, Goes, Alights}
 use Rattle.store_stops.specs.Paid.{Arrived, LeastArrivals, OnFrontier}
 use Rattle.store_stops.specs.Settled.{Timely}
 use Rattle.store_stops.specs.RideStops.{netOf}
@@ -28,6 +28,7 @@ module _ (w : List ℕ) (yes : isTimetable w ≡ true) (a d : ℕ) (v : List ℕ
   record Met (b u q : ℕ) : Type 0 where
     i : ℕ
     goes : Goes w i
+    alights : Alights w (suc i)
     here : station w (suc i) ≡ b
     minute : arrive w (suc i) ≡ u
     low : getD v (suc i) 0 ≤ q
@@ -38,18 +39,19 @@ module _ (w : List ℕ) (yes : isTimetable w ≡ true) (a d : ℕ) (v : List ℕ
       record {
         i = e .i;
         goes = e .goes;
+        alights = e .alights;
         here = e .here;
         minute = e .minute;
         low = least .below (e .i) q (e .goes) (record { changed = h .changed; arrived = e .arrived });
       }
 
   -- the other way round, where someone arrives
-  reaches : (i : ℕ) → Goes w i → getD v (suc i) 0 < unreached
+  reaches : (i : ℕ) → Goes w i → Alights w (suc i) → getD v (suc i) 0 < unreached
       → Arrives (netOf w) a d (station w (suc i)) (arrive w (suc i)) (getD v (suc i) 0)
-  reaches i g h =
+  reaches i g alights h =
       let z = least .attained i g h in
       let r = z .changed in
-      record { changed = r; ends = arrived-ends w yes a d r (suc i) (getD v (suc i) 0) (z .arrived) }
+      record { changed = r; ends = arrived-ends w yes a d r (suc i) (getD v (suc i) 0) (z .arrived) alights }
 
   pub on-frontier-lies : (i : ℕ) → OnFrontier w a v (suc i)
       → Frontier (netOf w) a d (station w (suc i)) (arrive w (suc i)) (getD v (suc i) 0)
@@ -60,21 +62,22 @@ module _ (w : List ℕ) (yes : isTimetable w ≡ true) (a d : ℕ) (v : List ℕ
       lies u q h g =
           let m = met (station w (suc i)) u q h in
           let e = m .minute in
-          omega (arith, m .low, f .least (m .i) (m .goes) (m .here) (omega arith))
+          omega (arith, m .low, f .least (m .i) (m .goes) (m .alights) (m .here) (omega arith))
 
       lies-first : (u q : ℕ) → Arrives (netOf w) a d (station w (suc i)) u q → u < arrive w (suc i)
           → getD v (suc i) 0 < q
       lies-first u q h g =
           let m = met (station w (suc i)) u q h in
           let e = m .minute in
-          omega (arith, m .low, f .first (m .i) (m .goes) (m .here) (omega arith))
+          omega (arith, m .low, f .first (m .i) (m .goes) (m .alights) (m .here) (omega arith))
 
   -- an arrival whose minute and penalty lie on the frontier: the penalty is that of v
-  pub lies-on-frontier : Timely w → (rev : List ℕ) (i p : ℕ) → Goes w i → Arrived w a d rev (suc i) p
+  pub lies-on-frontier : Timely w → (rev : List ℕ) (i p : ℕ) → Goes w i → Alights w (suc i)
+      → Arrived w a d rev (suc i) p
       → Frontier (netOf w) a d (station w (suc i)) (arrive w (suc i)) p → station w (suc i) ≢ a → Lies w a v i p
-  lies-on-frontier timely rev i p g h f other =
+  lies-on-frontier timely rev i p g alights h f other =
       record {
-        on = record { elsewhere = other; reached = reached; least = on-least; first = on-first };
+        on = record { alights = alights; elsewhere = other; reached = reached; least = on-least; first = on-first };
         is = is;
       }
     where
@@ -88,38 +91,43 @@ module _ (w : List ℕ) (yes : isTimetable w ≡ true) (a d : ℕ) (v : List ℕ
       reached = omega (arith, low, bound)
 
       is : p ≡ getD v (suc i) 0
-      is = omega (arith, low, f .least (arrive w (suc i)) (getD v (suc i) 0) (reaches i g reached) (omega arith))
+      is =
+          omega (arith, low, f .least (arrive w (suc i)) (getD v (suc i) 0) (reaches i g alights reached) (omega arith))
 
       -- what v has elsewhere at this station is that of someone who arrives, or is larger than any
-      compare : (k : ℕ) → Goes w k → station w (suc k) ≡ station w (suc i) → {G : Type 0}
+      compare : (k : ℕ) → Goes w k → Alights w (suc k) → station w (suc k) ≡ station w (suc i) → {G : Type 0}
           → (Arrives (netOf w) a d (station w (suc i)) (arrive w (suc k)) (getD v (suc k) 0) → G)
           → (unreached ≤ getD v (suc k) 0 → G)
           → G
-      compare k goes e some none =
+      compare k goes may e some none =
           either
           (ltb (getD v (suc k) 0) unreached)
           (λ t. some (subst
           (λ b. Arrives (netOf w) a d b (arrive w (suc k)) (getD v (suc k) 0))
           e
-          (reaches k goes (ltb→lt (getD v (suc k) 0) unreached t))))
+          (reaches k goes may (ltb→lt (getD v (suc k) 0) unreached t))))
           (λ t. none (nltb→le (getD v (suc k) 0) unreached t))
 
-      on-least : (k : ℕ) → Goes w k → station w (suc k) ≡ station w (suc i) → arrive w (suc k) ≤ arrive w (suc i)
+      on-least : (k : ℕ) → Goes w k → Alights w (suc k) → station w (suc k) ≡ station w (suc i)
+          → arrive w (suc k) ≤ arrive w (suc i)
           → getD v (suc i) 0 ≤ getD v (suc k) 0
-      on-least k goes e late =
+      on-least k goes may e late =
           compare
           k
           goes
+          may
           e
           (λ z. omega (arith, is, f .least (arrive w (suc k)) (getD v (suc k) 0) z late))
           (λ z. omega (arith, reached))
 
-      on-first : (k : ℕ) → Goes w k → station w (suc k) ≡ station w (suc i) → arrive w (suc k) < arrive w (suc i)
+      on-first : (k : ℕ) → Goes w k → Alights w (suc k) → station w (suc k) ≡ station w (suc i)
+          → arrive w (suc k) < arrive w (suc i)
           → getD v (suc i) 0 < getD v (suc k) 0
-      on-first k goes e late =
+      on-first k goes may e late =
           compare
           k
           goes
+          may
           e
           (λ z. omega (arith, is, f .first (arrive w (suc k)) (getD v (suc k) 0) z late))
           (λ z. omega (arith, reached))

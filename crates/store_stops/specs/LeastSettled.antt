@@ -118,7 +118,7 @@ module _ (w : List ℕ) (a d : ℕ) where
               subst
               (Arrived w a d [] (suc i))
               (omega (arith, f .is))
-              (arrived-next [] i 0 g (g, f .here, f .timely, refl));
+              (arrived-next [] i 0 g (f .boards, f .here, f .timely, refl));
         }
 
     from-stop : (i : ℕ) → Goes w i → (f : FromStop w a d v i) → Attained (f .k) → Attained i

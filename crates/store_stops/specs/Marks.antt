@@ -6,8 +6,10 @@ use mathlib.Core.Logic.{_⊎_, inl, inr, _≢_, _↔_}
 use mathlib.Core.List.{List, [], _∷_, reverseAux}
 use Prim.Native.Nat.{ℕ, zero, suc, _+_, _≤_, _<_}
 use native.Mathlib.Omega.{arith}
+use lib.Dec.{T}
 use lib.ListN.{getD}
-use Rattle.timetable.specs.Words.{isTimetable}
+use Rattle.timetable.specs.Words.{stopAt, isTimetable}
+use Rattle.connections.specs.Rides.{mayBoard}
 use Rattle.connections.specs.Connections.{Net, Connection, direct, onward, Feasible, ready}
 use Rattle.connections.specs.Connections.{arrival, penalty, stations}
 use Rattle.connections.specs.Feasibility.{earlier, has-stations}
@@ -24,6 +26,8 @@ use Rattle.store_stops.specs.Stopwise.{
   points,
   changePoints,
   Goes,
+  Boards,
+  Alights,
   Ridden,
   ridden,
   Catches,
@@ -103,7 +107,7 @@ module _
         let k = allows .within (h .i) (h .paid) (h .goes) .0 (h .within) in
         let low = least .below (h .i) (h .paid) (h .goes) (record { changed = rev; arrived = h .arrived }) in
         let is : getD v j 0 ≡ h .paid = omega (arith, low, k .1) in
-        let there = arrived-ends w yes a d rev j (h .paid) (h .arrived) in
+        let there = arrived-ends w yes a d rev j (h .paid) (h .arrived) (k .0 .alights) in
         let lies = subst
         (λ p. Frontier n a d (station w j) (arrive w j) p)
         is
@@ -118,12 +122,13 @@ module _
         )
 
     -- who arrives on the frontier, elsewhere than at a, ends well
-    ends-within : (rev : List ℕ) (i p b u : ℕ) → Goes w i → Arrived w a d rev (suc i) p → station w (suc i) ≡ b
+    ends-within : (rev : List ℕ) (i p b u : ℕ) → Goes w i → Alights w (suc i) → Arrived w a d rev (suc i) p
+        → station w (suc i) ≡ b
         → arrive w (suc i) ≡ u → Frontier n a d b u p → b ≢ a → p < getD e (suc i) 0
-    ends-within rev i p b u g h here minute f other =
+    ends-within rev i p b u g alights h here minute f other =
         let at = subst (λ b. Frontier n a d b (arrive w (suc i)) p) (sym here)
         (subst (λ u. Frontier n a d b u p) (sym minute) f) in
-        let l = lies-on-frontier w yes a d v least timely rev i p g h at (λ q. other (sym here ∙ q)) in
+        let l = lies-on-frontier w yes a d v least timely rev i p g alights h at (λ q. other (sym here ∙ q)) in
         allows .within i p g .1 (l .on, omega (arith, l .is))
 
     closes-ends : (rev : List ℕ) (b : ℕ) → Closing n ok a d rev b → b ≢ a → EndsWell w a d e rev b
@@ -143,6 +148,7 @@ module _
               b
               (h .minute)
               (k .goes)
+              (k .alights)
               (k .arrived)
               (k .here)
               (k .minute)
@@ -166,12 +172,13 @@ module _
       within : x + penalty connection ≤ allowed
 
     -- to end after a ride of m + 1 stops
-    rest-ends : (m i x : ℕ) → Ridden w i (suc m) → x + ridden w i (suc m) < getD e (suc (i + m)) 0 → Rest i x
-    rest-ends m i x r h =
-        let s = ride-of w yes i (suc m) (omega arith) r in
+    rest-ends : (m i x : ℕ) → T (mayBoard (stopAt w i)) → Ridden w i (suc m)
+        → x + ridden w i (suc m) < getD e (suc (i + m)) 0 → Rest i x
+    rest-ends m i x b r h =
         let q : i + suc m ≡ suc (i + m) = omega arith in
         let g = r m (omega arith) in
         let k = allows .within (i + m) (x + ridden w i (suc m)) g .0 h in
+        let s = ride-of w yes i (suc m) (omega arith) r b (subst (Alights w) (sym q) (k .0 .alights)) in
         let lies = on-frontier-lies w yes a d v least (i + m) (k .0) in
         record {
           target = station w (suc (i + m));
@@ -187,11 +194,11 @@ module _
         }
 
     -- to change there
-    rest-changes : (m i x g : ℕ) → Ridden w i (suc m) → Catches w (suc (i + m)) g
+    rest-changes : (m i x g : ℕ) → T (mayBoard (stopAt w i)) → Ridden w i (suc m) → Catches w (suc (i + m)) g
         → Rest g (x + ridden w i (suc m) + changePoints w (station w (suc (i + m)))) → Rest i x
-    rest-changes m i x g r c k =
-        let s = ride-of w yes i (suc m) (omega arith) r in
+    rest-changes m i x g b r c k =
         let q : i + suc m ≡ suc (i + m) = omega arith in
+        let s = ride-of w yes i (suc m) (omega arith) r b (subst (Alights w) (sym q) (c .alights)) in
         let goes = r m (omega arith) in
         let y = station w (suc (i + m)) in
         let z = change-of w yes y (timely .next-first (i + m) goes) (timely .next-listed (i + m) goes) in
@@ -214,9 +221,10 @@ module _
           within = omega (arith, k .within, s .same .costs, f .costs);
         }
 
-    rest-of : (k m i x : ℕ) → Ridden w i (suc m) → OnwardIn w e k (i + m) (x + ridden w i m) → Rest i x
-    rest-of zero m i x r h = absurd h
-    rest-of (suc k) m i x r h = go h (rest-of k)
+    rest-of : (k m i x : ℕ) → T (mayBoard (stopAt w i)) → Ridden w i (suc m)
+        → OnwardIn w e k (i + m) (x + ridden w i m) → Rest i x
+    rest-of zero m i x b r h = absurd h
+    rest-of (suc k) m i x b r h = go h (rest-of k)
       where
         total : x + ridden w i m + points w (i + m) ≡ x + ridden w i (suc m)
         total = omega (arith, ridden-more w i m)
@@ -224,15 +232,17 @@ module _
         go : (x + ridden w i m + points w (i + m) < getD e (suc (i + m)) 0)
             ⊎ ((Goes w (suc (i + m)) × OnwardIn w e k (suc (i + m)) (x + ridden w i m + points w (i + m)))
             ⊎ Onto w e (OnwardIn w e k) (suc (i + m)) (x + ridden w i m + points w (i + m)))
-            → ((m i x : ℕ) → Ridden w i (suc m) → OnwardIn w e k (i + m) (x + ridden w i m) → Rest i x)
+            → ((m i x : ℕ) → T (mayBoard (stopAt w i)) → Ridden w i (suc m)
+            → OnwardIn w e k (i + m) (x + ridden w i m) → Rest i x)
             → Rest i x
-        go (inl t) ih = rest-ends m i x r (omega (arith, t, total))
+        go (inl t) ih = rest-ends m i x b r (omega (arith, t, total))
         go (inr (inl t)) ih =
             let next : suc (i + m) ≡ i + suc m = omega arith in
             ih
             (suc m)
             i
             x
+            b
             (ridden-on w i (suc m) r (subst (Goes w) next (t .0)))
             (onward-at
             w
@@ -260,7 +270,8 @@ module _
             (omega arith)
             (omega (arith, total, ridden-none w g))
             (t .leaves) in
-            rest-changes m i x g r (t .catches) (ih 0 g y (ridden-once w g (t .catches .goes)) on)
+            let boards = t .catches .boards in
+            rest-changes m i x g b r (t .catches) (ih 0 g y (boards .opens) (ridden-once w g (boards .goes)) on)
 
     goes-continues : (rev : List ℕ) (b : ℕ) → GoesOn w a d e rev b → Begins n a d (b ∷ rev)
     goes-continues rev b h =
@@ -278,8 +289,8 @@ module _
         p : ℕ
         p = h .paid + changePoints w b
 
-        goes : Goes w g
-        goes = h .onto .catches .goes
+        boards : Boards w g
+        boards = h .onto .catches .boards
 
         leaves : Onward w e g p
         leaves =
@@ -292,7 +303,8 @@ module _
             0
             g
             p
-            (ridden-once w g goes)
+            (boards .opens)
+            (ridden-once w g (boards .goes))
             (onward-at
             w
             e
@@ -327,7 +339,7 @@ module _
               paid = p;
               allowed = r .allowed;
               rest = c;
-              along = paid-along w yes a d (b ∷ rev) g p goes .0 paid;
+              along = paid-along w yes a d (b ∷ rev) g p boards .0 paid;
               feasible = r .feasible;
               is = refl;
               frontier = r .frontier;
@@ -337,7 +349,7 @@ module _
     -- one who is at x at minute u, having paid p, boards at a stop from which there is a good end
     record Boarding (x u p : ℕ) : Type 0 where
       g : ℕ
-      goes : Goes w g
+      boards : Boards w g
       here : station w g ≡ x
       late : u ≤ depart w g
       well : Onward w e g p
@@ -351,11 +363,12 @@ module _
         let q = p + r .points in
         let goes = k .rides (k .m) (omega arith) in
         let here : station w (suc i) ≡ b = sym (k .to) ∙ f .1 in
-        let within = ends-within rev i q b (r .arrive) goes (k .arrived) here (sym (k .comes)) front other in
+        let within = ends-within rev i q b (r .arrive) goes (k .alights) (k .arrived) here (sym (k .comes)) front
+        other in
         let paid : p + ridden w (k .i) (k .m) + points w i ≡ q = omega (arith, k .costs, ridden-more w (k .i) (k .m)) in
         record {
           g = k .i;
-          goes = ridden-goes w (k .i) (suc (k .m)) (omega arith) (k .rides);
+          boards = k .boards;
           here = sym (k .from) ∙ f .0 .here;
           late = omega (arith, f .0 .timely, k .leaves);
           well = onward-staying w e (k .m) 1 (k .i) p (k .rides) (inl (omega (arith, within, paid)));
@@ -394,12 +407,13 @@ module _
             record {
               g = o .g;
               catches =
-                  catches-of w yes r z j (o .g) (f .1) (k .to) (k .comes) (o .goes) (o .here) (o .late);
+                  catches-of w yes r z j (o .g) (f .1) (k .to) (k .comes) (k .alights) (o .boards) (o .here)
+                  (o .late);
               leaves = subst (OnwardIn w e steps (o .g)) paid (o .well .on);
             } in
             record {
               g = k .i;
-              goes = ridden-goes w (k .i) (suc (k .m)) (omega arith) (k .rides);
+              boards = k .boards;
               here = sym (k .from) ∙ f .0 .here;
               late = omega (arith, f .0 .timely, k .leaves);
               well = onward-staying w e (k .m) (suc steps) (k .i) p (k .rides) (inr (inr onto));
@@ -438,7 +452,8 @@ module _
                     changes
                     (sym (z .here))
                     (sym (z .minute))
-                    (o .goes)
+                    (z .alights)
+                    (o .boards)
                     (o .here ∙ sym (k .along .to))
                     late;
                 leaves = subst (Onward w e (o .g)) paid (o .well);

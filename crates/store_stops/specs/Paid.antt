@@ -5,8 +5,8 @@ use mathlib.Core.Logic.{_≢_}
 use mathlib.Core.List.{List, [], _∷_}
 use Prim.Native.Nat.{ℕ, suc, _+_, _≤_, _<_}
 use lib.ListN.{getD}
-use Rattle.store_stops.specs.Stopwise.{station, arrive, depart, changePoints, unreached, Goes}
-use Rattle.store_stops.specs.Stopwise.{Ridden, ridden, Catches}
+use Rattle.store_stops.specs.Stopwise.{station, arrive, depart, changePoints, unreached, Goes, Boards}
+use Rattle.store_stops.specs.Stopwise.{Alights, Ridden, ridden, Catches}
 
 module _ (w : List ℕ) (a d : ℕ) where
   -- aboard on arrival at stop j, having paid p, from a boarding as told below
@@ -31,7 +31,7 @@ module _ (w : List ℕ) (a d : ℕ) where
 
   -- can board at stop g, having paid p and changed at these stations, the last one first
   abbrev pub Paid : (changed : List ℕ) (g p : ℕ) → Type 0
-  Paid [] g p = Goes w g × (station w g ≡ a) × (d ≤ depart w g) × (p ≡ 0)
+  Paid [] g p = Boards w g × (station w g ≡ a) × (d ≤ depart w g) × (p ≡ 0)
   Paid (c ∷ rev) g p = Changed (Paid rev) c g p
 
   -- is aboard on arrival at stop j, having paid p and changed at these stations
@@ -51,16 +51,17 @@ module _ (w : List ℕ) (a d : ℕ) where
 
   -- x has for each boarding at station c the least that can have been paid by who changed at these stations
   pub record Labelled (rev : List ℕ) (c : ℕ) (x : List ℕ) : Type 0 where
-    pub attained : (g : ℕ) → Goes w g → station w g ≡ c → getD x g 0 < unreached → Paid rev g (getD x g 0)
-    pub below : (g p : ℕ) → Goes w g → station w g ≡ c → Paid rev g p → getD x g 0 ≤ p
-    pub capped : (g : ℕ) → Goes w g → station w g ≡ c → getD x g 0 ≤ unreached
+    pub attained : (g : ℕ) → Boards w g → station w g ≡ c → getD x g 0 < unreached → Paid rev g (getD x g 0)
+    pub below : (g p : ℕ) → Boards w g → station w g ≡ c → Paid rev g p → getD x g 0 ≤ p
+    pub capped : (g : ℕ) → Boards w g → station w g ≡ c → getD x g 0 ≤ unreached
 
--- "minute and penalty lie on the frontier": the arrival at stop j, where v has the least for each arrival, is elsewhere
--- than at a, no one is there by then for less, and earlier only for more
+-- "minute and penalty lie on the frontier": one may alight at stop j, which is elsewhere than at a; where v has the
+-- least for each arrival, no one alights there by then for less, and earlier only for more
 pub record OnFrontier (w : List ℕ) (a : ℕ) (v : List ℕ) (j : ℕ) : Type 0 where
+  pub alights : Alights w j
   pub elsewhere : station w j ≢ a
   pub reached : getD v j 0 < unreached
-  pub least : (i : ℕ) → Goes w i → station w (suc i) ≡ station w j → arrive w (suc i) ≤ arrive w j
+  pub least : (i : ℕ) → Goes w i → Alights w (suc i) → station w (suc i) ≡ station w j → arrive w (suc i) ≤ arrive w j
       → getD v j 0 ≤ getD v (suc i) 0
-  pub first : (i : ℕ) → Goes w i → station w (suc i) ≡ station w j → arrive w (suc i) < arrive w j
+  pub first : (i : ℕ) → Goes w i → Alights w (suc i) → station w (suc i) ≡ station w j → arrive w (suc i) < arrive w j
       → getD v j 0 < getD v (suc i) 0

@@ -14,9 +14,10 @@ use Rattle.timetable.specs.Check.{length-stations, length-trips}
 use Rattle.timetable.specs.Access.{station-is, trip-is, trip-long, stop-is, trip-stops, spelled-valid}
 use Rattle.lists.specs.Lists.{_∈_}
 use Rattle.lists.specs.Tests.{either}
-use Rattle.connections.specs.Rides.{Ride, noStop, ridePoints, rideIn}
+use Rattle.connections.specs.Rides.{Ride, noStop, ridePoints, rideIn, mayBoard}
 use Rattle.connections.specs.Connections.{Change, Net, net, Changes, ready, noStation, changeAt}
-use Rattle.connections.specs.RideLaws.{rides-in, rides-out, changes-in, changes-out, points-split, points-more}
+use Rattle.connections.specs.RideLaws.{rides-in, rides-out, board-alike, alight-alike, changes-in}
+use Rattle.connections.specs.RideLaws.{changes-out, points-split, points-more}
 use Rattle.connections.specs.Sound.{Sound, sound}
 use Rattle.store_stops.specs.Stopwise.{
   station,
@@ -26,6 +27,8 @@ use Rattle.store_stops.specs.Stopwise.{
   changeMinutes,
   changePoints,
   Goes,
+  Boards,
+  Alights,
   Ridden,
   ridden,
   Catches,
@@ -73,6 +76,8 @@ module _ (w : List ℕ) where
     pub listed : r ∈ (netOf w) .rides
     pub some : 1 ≤ n
     pub rides : Ridden w i n
+    pub boards : T (mayBoard (stopAt w i))
+    pub alights : Alights w (i + n)
     pub from : r .from ≡ station w i
     pub to : r .to ≡ station w (i + n)
     pub leaves : r .depart ≡ depart w i
@@ -177,12 +182,17 @@ module _ (w : List ℕ) (yes : isTimetable w ≡ true) where
         let q = ride-points x n (omega arith) in
         omega (arith, m, s, k, i, q, ap (ridePoints trip x) e)
 
-    ride-there : (x n : ℕ) → 1 ≤ n → x + n < length trip
+    ride-there : (x n : ℕ) → 1 ≤ n → x + n < length trip → T (mayBoard (stopAt w (startAt w z + x)))
+        → Alights w (startAt w z + x + n)
         → SameRide w (rideIn (timetableOf w) z x (x + n)) (startAt w z + x) n
-    ride-there x n o g =
+    ride-there x n o g b a =
+        let from = stop-there x (omega arith) in
         let e : startAt w z + (x + n) ≡ startAt w z + x + n = omega arith in
+        let to = stop-there (x + n) g ∙ ap (stopAt w) e in
         record {
-          listed = rides-in (timetableOf w) z x (x + n) (omega (arith, length-trips w)) (omega arith) g;
+          listed =
+              rides-in (timetableOf w) z x (x + n) (omega (arith, length-trips w)) (omega arith) g
+              (board-alike _ _ (ap (λ s. s .mark) (sym from)) b) (alight-alike _ _ (ap (λ s. s .mark) (sym to)) a);
           some = o;
           rides =
               λ k i.
@@ -192,16 +202,18 @@ module _ (w : List ℕ) (yes : isTimetable w ≡ true) where
                 begun = omega arith;
                 inside = omega (arith, trip-length);
               };
-          from = ap (λ s. s .station) (stop-there x (omega arith));
-          to = ap (λ s. s .station) (stop-there (x + n) g ∙ ap (stopAt w) e);
-          leaves = ap (λ s. s .depart) (stop-there x (omega arith));
-          comes = ap (λ s. s .arrive) (stop-there (x + n) g ∙ ap (stopAt w) e);
+          boards = b;
+          alights = a;
+          from = ap (λ s. s .station) from;
+          to = ap (λ s. s .station) to;
+          leaves = ap (λ s. s .depart) from;
+          comes = ap (λ s. s .arrive) to;
           costs = ride-points x n (omega arith);
         }
 
   -- who boards at a stop and rides on takes a ride
-  pub ride-of : (i n : ℕ) → 1 ≤ n → Ridden w i n → RideOf w i n
-  ride-of i n o r =
+  pub ride-of : (i n : ℕ) → 1 ≤ n → Ridden w i n → T (mayBoard (stopAt w i)) → Alights w (i + n) → RideOf w i n
+  ride-of i n o r boards alights =
       let g = ridden-goes w i n o r in
       let z = g .trip in
       let x = i - startAt w z in
@@ -214,7 +226,9 @@ module _ (w : List ℕ) (yes : isTimetable w ≡ true) where
             subst
             (λ j. SameRide w (rideIn (timetableOf w) z x (x + n)) j n)
             e
-            (ride-there z (g .listed) x n o (omega (arith, end, trip-length z (g .listed))));
+            (ride-there z (g .listed) x n o (omega (arith, end, trip-length z (g .listed)))
+            (subst (λ j. T (mayBoard (stopAt w j))) (sym e) boards)
+            (subst (λ j. Alights w (j + n)) (sym e) alights));
       }
 
   -- each ride is taken so
@@ -226,6 +240,7 @@ module _ (w : List ℕ) (yes : isTimetable w ≡ true) where
       let there : z < tripCount w = omega (arith, length-trips w, k .listed) in
       let m = k .y - suc (k .x) in
       let e : k .x + suc m ≡ k .y = omega arith in
+      let at : startAt w z + k .y ≡ startAt w z + k .x + suc m = omega arith in
       record {
         i = startAt w z + k .x;
         m = m;
@@ -233,7 +248,10 @@ module _ (w : List ℕ) (yes : isTimetable w ≡ true) where
             subst
             (λ r. SameRide w r (startAt w z + k .x) (suc m))
             (ap (rideIn (timetableOf w) z (k .x)) e ∙ k .is)
-            (ride-there z there (k .x) (suc m) (omega arith) (omega (arith, k .inside)));
+            (ride-there z there (k .x) (suc m) (omega arith) (omega (arith, k .inside))
+            (board-alike _ _ (ap (λ s. s .mark) (stop-there z there (k .x) (omega (arith, k .inside)))) (k .boards))
+            (alight-alike _ _ (ap (λ s. s .mark) (stop-there z there (k .y) (k .inside) ∙ ap (stopAt w) at))
+            (k .alights)));
       }
 
   -- ---- changes
@@ -266,12 +284,13 @@ module _ (w : List ℕ) (yes : isTimetable w ≡ true) where
 
   -- who came by a ride to stop j and changes by x can board at stop g
   pub catches-of : (r : Ride) (x : Change) (j g : ℕ) → Changes (netOf w) r x → r .to ≡ station w j
-      → r .arrive ≡ arrive w j → Goes w g → station w g ≡ x .to → ready r x ≤ depart w g → Catches w j g
-  catches-of r x j g k to comes goes here timely =
+      → r .arrive ≡ arrive w j → Alights w j → Boards w g → station w g ≡ x .to → ready r x ≤ depart w g → Catches w j g
+  catches-of r x j g k to comes alights boards here timely =
       let s = change-is x (k .listed) in
       let at : x .from ≡ station w j = k .here ∙ to in
       record {
-        goes = goes;
+        alights = alights;
+        boards = boards;
         here = here ∙ s .to ∙ at;
         timely = omega (arith, timely, comes, s .minutes, ap (changeMinutes w) at);
       }

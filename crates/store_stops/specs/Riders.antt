@@ -12,7 +12,8 @@ use Rattle.lists.specs.Lists.{_∈_}
 use Rattle.connections.specs.Rides.{Ride}
 use Rattle.connections.specs.Connections.{Net}
 use Rattle.optimality.specs.Along.{Along, Ends}
-use Rattle.store_stops.specs.Stopwise.{station, arrive, depart, changeMinutes, changePoints, Goes, Ridden, ridden}
+use Rattle.store_stops.specs.Stopwise.{station, arrive, depart, changeMinutes, changePoints, Goes, Boards}
+use Rattle.store_stops.specs.Stopwise.{Alights, Ridden, ridden}
 use Rattle.store_stops.specs.Paid.{Changed, Paid, Arrived}
 use Rattle.store_stops.specs.RideStops.{
   netOf,
@@ -29,6 +30,7 @@ use Rattle.store_stops.specs.RideStops.{
 pub record Ended (w : List ℕ) (a d : ℕ) (rev : List ℕ) (b v p : ℕ) : Type 0 where
   pub i : ℕ
   pub goes : Goes w i
+  pub alights : Alights w (suc i)
   pub arrived : Arrived w a d rev (suc i) p
   pub here : station w (suc i) ≡ b
   pub minute : arrive w (suc i) ≡ v
@@ -38,6 +40,8 @@ pub record Aboard (w : List ℕ) (a d : ℕ) (rev : List ℕ) (r : Ride) (p : �
   pub i : ℕ
   pub m : ℕ
   pub rides : Ridden w i (suc m)
+  pub boards : Boards w i
+  pub alights : Alights w (suc (i + m))
   pub from : r .from ≡ station w i
   pub to : r .to ≡ station w (suc (i + m))
   pub leaves : r .depart ≡ depart w i
@@ -53,10 +57,18 @@ module _ (w : List ℕ) (yes : isTimetable w ≡ true) (a d : ℕ) where
   abbrev ToAlong : List ℕ → Type 0
   ToAlong rev = (g p : ℕ) → Paid w a d rev g p → Along n a d rev (station w g) (depart w g) p
 
-  arrived-to : (rev : List ℕ) → ToAlong rev → (j p : ℕ) → Arrived w a d rev j p
+  -- who can board at a stop boards there
+  paid-boards : (rev : List ℕ) (g p : ℕ) → Paid w a d rev g p → Boards w g
+  paid-boards [] g p h = h .0
+  paid-boards (c ∷ rev) g p h = h .catches .boards
+
+  arrived-to : (rev : List ℕ) → ToAlong rev → (j p : ℕ) → Arrived w a d rev j p → Alights w j
       → Ends n a d rev (station w j) (arrive w j) p
-  arrived-to rev along j p h =
-      let k = ride-of w yes (h .from) (h .stops) (h .some) (h .rides) in
+  arrived-to rev along j p h alights =
+      let boards = paid-boards rev (h .from) (h .paid) (h .boards) in
+      let k =
+      ride-of w yes (h .from) (h .stops) (h .some) (h .rides) (boards .opens)
+      (subst (Alights w) (sym (h .to)) alights) in
       let r = k .ride in
       let s = k .same in
       let b = along (h .from) (h .paid) (h .boards) in
@@ -98,7 +110,9 @@ module _ (w : List ℕ) (yes : isTimetable w ≡ true) (a d : ℕ) where
 
   paid-to : (rev : List ℕ) → ToAlong rev
   paid-to [] g p h = (h .1, h .2, h .3)
-  paid-to (c ∷ rev) g p h = change-to rev c g p h (arrived-to rev (paid-to rev) (h .at) (h .before) (h .rode))
+  paid-to (c ∷ rev) g p h =
+      change-to rev c g p h
+      (arrived-to rev (paid-to rev) (h .at) (h .before) (h .rode) (h .catches .alights))
 
   -- ---- from rides to stops
   along-at : (rev : List ℕ) (p : ℕ) {x y u v : ℕ} → x ≡ y → u ≡ v → Along n a d rev x u p → Along n a d rev y v p
@@ -106,19 +120,22 @@ module _ (w : List ℕ) (yes : isTimetable w ≡ true) (a d : ℕ) where
       subst (λ z. Along n a d rev z v p) e (subst (λ z. Along n a d rev x z p) f h)
 
   abbrev ToPaid : List ℕ → Type 0
-  ToPaid rev = (g p : ℕ) → Goes w g → Along n a d rev (station w g) (depart w g) p → Paid w a d rev g p
+  ToPaid rev = (g p : ℕ) → Boards w g → Along n a d rev (station w g) (depart w g) p → Paid w a d rev g p
 
   ride-from : (rev : List ℕ) → ToPaid rev → (r : Ride) (p : ℕ) → r ∈ n .rides
       → Along n a d rev (r .from) (r .depart) p → Aboard w a d rev r p
   ride-from rev paid r p l h =
       let k = stops-of w yes r l in
       let s = k .same in
-      let g = ridden-goes w (k .i) (suc (k .m)) (s .some) (s .rides) in
+      let goes = ridden-goes w (k .i) (suc (k .m)) (s .some) (s .rides) in
+      let g : Boards w (k .i) = record { goes = goes; opens = s .boards } in
       let end : k .i + suc (k .m) ≡ suc (k .i + k .m) = omega arith in
       record {
         i = k .i;
         m = k .m;
         rides = s .rides;
+        boards = g;
+        alights = subst (Alights w) end (s .alights);
         from = s .from;
         to = s .to ∙ ap (station w) end;
         leaves = s .leaves;
@@ -143,6 +160,7 @@ module _ (w : List ℕ) (yes : isTimetable w ≡ true) (a d : ℕ) where
       record {
         i = k .i + k .m;
         goes = k .rides (k .m) (omega arith);
+        alights = k .alights;
         arrived = subst (Arrived w a d rev (suc (k .i + k .m))) (sym (e .total)) (k .arrived);
         here = sym (k .to) ∙ e .to;
         minute = sym (k .comes) ∙ e .minute;
@@ -162,9 +180,9 @@ module _ (w : List ℕ) (yes : isTimetable w ≡ true) (a d : ℕ) where
         total = refl;
       }
 
-  change-from : (rev : List ℕ) → ToPaid rev → (c g p : ℕ) → Goes w g
+  change-from : (rev : List ℕ) → ToPaid rev → (c g p : ℕ) → Boards w g
       → Along n a d (c ∷ rev) (station w g) (depart w g) p → Paid w a d (c ∷ rev) g p
-  change-from rev paid c g p goes h =
+  change-from rev paid c g p boards h =
       let r = h .ride in
       let x = h .change in
       let q = h .paid + r .points in
@@ -178,22 +196,23 @@ module _ (w : List ℕ) (yes : isTimetable w ≡ true) (a d : ℕ) where
         rode = e .arrived;
         here = here;
         catches =
-            catches-of w yes r x j g (h .changes) (sym (e .here)) (sym (e .minute)) goes (sym (h .to)) (h .timely);
+            catches-of w yes r x j g (h .changes) (sym (e .here)) (sym (e .minute)) (e .alights) boards (sym (h .to))
+            (h .timely);
         total = omega (arith, h .total, costs, ap (changePoints w) here);
       }
 
   paid-from : (rev : List ℕ) → ToPaid rev
-  paid-from [] g p goes h = (goes, h .0, h .1, h .2)
-  paid-from (c ∷ rev) g p goes h = change-from rev (paid-from rev) c g p goes h
+  paid-from [] g p boards h = (boards, h .0, h .1, h .2)
+  paid-from (c ∷ rev) g p boards h = change-from rev (paid-from rev) c g p boards h
 
   -- ---- the same riders
-  pub paid-along : (rev : List ℕ) (g p : ℕ) → Goes w g
+  pub paid-along : (rev : List ℕ) (g p : ℕ) → Boards w g
       → Paid w a d rev g p ↔ Along (netOf w) a d rev (station w g) (depart w g) p
-  paid-along rev g p goes = (paid-to rev g p, paid-from rev g p goes)
+  paid-along rev g p boards = (paid-to rev g p, paid-from rev g p boards)
 
-  pub arrived-ends : (rev : List ℕ) (j p : ℕ) → Arrived w a d rev j p
+  pub arrived-ends : (rev : List ℕ) (j p : ℕ) → Arrived w a d rev j p → Alights w j
       → Ends (netOf w) a d rev (station w j) (arrive w j) p
-  arrived-ends rev j p h = arrived-to rev (paid-to rev) j p h
+  arrived-ends rev j p h alights = arrived-to rev (paid-to rev) j p h alights
 
   pub ends-arrived : (rev : List ℕ) (b v p : ℕ) → Ends (netOf w) a d rev b v p → Ended w a d rev b v p
   ends-arrived rev b v p e = ends-to rev (paid-from rev) b v p e

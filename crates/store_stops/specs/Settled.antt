@@ -15,12 +15,14 @@ use Rattle.store_stops.specs.Stopwise.{
   changePoints,
   unreached,
   Goes,
+  Boards,
   Catches,
 }
 
 module _ (w : List ℕ) (a d : ℕ) (v : List ℕ) where
   -- who boards at stop i comes from nowhere else: it is the start,
   pub record FromStart (i : ℕ) : Type 0 where
+    pub boards : Boards w i
     pub here : station w i ≡ a
     pub timely : d ≤ depart w i
     pub is : getD v (suc i) 0 ≡ points w i
@@ -40,7 +42,7 @@ module _ (w : List ℕ) (a d : ℕ) (v : List ℕ) where
     pub is : getD v (suc i) 0 ≡ getD v (suc k) 0 + changePoints w (station w (suc k)) + points w i
 
   pub record Settled : Type 0 where
-    pub starts : (i : ℕ) → Goes w i → station w i ≡ a → d ≤ depart w i → getD v (suc i) 0 ≤ points w i
+    pub starts : (i : ℕ) → Boards w i → station w i ≡ a → d ≤ depart w i → getD v (suc i) 0 ≤ points w i
     pub stays : (i : ℕ) → Goes w i → Goes w (suc i)
         → getD v (suc (suc i)) 0 ≤ getD v (suc i) 0 + points w (suc i)
     pub changes : (i g : ℕ) → Goes w i → Catches w (suc i) g

@@ -3,7 +3,9 @@
 use mathlib.Core.Path.{_≡_}
 use mathlib.Core.List.{List}
 use Prim.Native.Nat.{ℕ, zero, suc, _+_, _-_, _≤_, _<_}
+use lib.Dec.{T}
 use Rattle.timetable.specs.Words.{tripCount, stationAt, stopAt, startAt}
+use Rattle.connections.specs.Rides.{mayBoard, mayAlight}
 
 -- 2,879 * 1,100 + 1: no one who is on the way has paid as much, by the laws of reckoning/Bounds
 abbrev pub unreached : ℕ
@@ -45,6 +47,14 @@ module _ (w : List ℕ) where
     pub begun : startAt w trip ≤ i
     pub inside : suc i < startAt w (trip + 1)
 
+  -- riders may board there, and may alight at a stop: "no ride may use a stop against its mark"
+  pub record Boards (i : ℕ) : Type 0 where
+    pub goes : Goes i
+    pub opens : T (mayBoard (stopAt w i))
+
+  abbrev pub Alights : ℕ → Type 0
+  Alights j = T (mayAlight (stopAt w j))
+
   -- one who boards at stop i rides n stops on
   abbrev pub Ridden : (i n : ℕ) → Type 0
   Ridden i n = (k : ℕ) → k < n → Goes (i + k)
@@ -56,6 +66,7 @@ module _ (w : List ℕ) where
 
   -- one who arrives at stop j can board at stop g by a change
   pub record Catches (j g : ℕ) : Type 0 where
-    pub goes : Goes g
+    pub alights : Alights j
+    pub boards : Boards g
     pub here : station g ≡ station j
     pub timely : ready j ≤ depart g

@@ -1,10 +1,11 @@
 -- Labels fall along the departures of a station: who can board there can board there later, too, for the same. So what
--- one trip leads to beyond a second visit of the station is had from there for no more, and a walk may end there.
+-- one trip leads to beyond a second visit of the station, where one may board again, is had from there for no more, and
+-- a walk may end there.
 use mathlib.Core.Path.{_≡_, ap, subst, _∙_}
 use mathlib.Core.List.{List, [], _∷_}
 use Prim.Native.Nat.{ℕ, zero, suc, _+_, _≤_}
 use native.Mathlib.Omega.{arith}
-use Rattle.store_stops.specs.Stopwise.{station, depart, Goes, Ridden}
+use Rattle.store_stops.specs.Stopwise.{station, depart, Goes, Boards, Ridden}
 use Rattle.store_stops.specs.Paid.{Paid}
 use Rattle.store_stops.specs.Settled.{Timely}
 
@@ -22,10 +23,10 @@ module _ (w : List ℕ) (timely : Timely w) where
 
 module _ (w : List ℕ) (a d : ℕ) where
   -- who can board can board at the same station later
-  pub paid-later : (rev : List ℕ) (g h p : ℕ) → Paid w a d rev g p → Goes w h → station w h ≡ station w g
+  pub paid-later : (rev : List ℕ) (g h p : ℕ) → Paid w a d rev g p → Boards w h → station w h ≡ station w g
       → depart w g ≤ depart w h → Paid w a d rev h p
-  paid-later [] g h p b goes here late = (goes, here ∙ b .1, omega (arith, b .2), b .3)
-  paid-later (c ∷ rev) g h p b goes here late =
+  paid-later [] g h p b boards here late = (boards, here ∙ b .1, omega (arith, b .2), b .3)
+  paid-later (c ∷ rev) g h p b boards here late =
       record {
         at = b .at;
         before = b .before;
@@ -33,7 +34,8 @@ module _ (w : List ℕ) (a d : ℕ) where
         here = b .here;
         catches =
             record {
-              goes = goes;
+              alights = b .catches .alights;
+              boards = boards;
               here = here ∙ b .catches .here;
               timely = omega (arith, b .catches .timely);
             };

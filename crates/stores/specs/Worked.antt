@@ -6,7 +6,7 @@ use mathlib.Core.List.{List, [], _∷_, _++_}
 use Prim.Native.Nat.{ℕ, zero, suc}
 use Rattle.timetable.specs.Timetable.{Timetable}
 use Rattle.results.specs.Results.{dominates, equal, entries, result}
-use Rattle.connections.specs.Rides.{ridePoints, ridesOf}
+use Rattle.connections.specs.Rides.{mayBoard, mayAlight, ridePoints, ridesOf}
 use Rattle.connections.specs.Connections.{net, changesOf}
 use Rattle.connections.specs.Planner.{connections, plannerList, tieKey, rowsOf}
 use Rattle.timetable.specs.Worked.{variant, M, station, stop}
@@ -15,28 +15,28 @@ use Rattle.stores.specs.Stored.{optimals, optimalStations, stored}
 use Rattle.stores.specs.Words.{nodes, arcs, encode, storeWords, readable, wellMade, keptList, answer}
 
 pub case-b : storeWords (net M) 1 ≡ 1 ∷ 3 ∷ 2 ∷ 0 ∷ 2 ∷ 0 ∷ 3 ∷ 0 ∷ 3 ∷ 1 ∷ []
-unfolding M variant ridesOf ridePoints changesOf plannerList connections dominates
+unfolding M variant ridesOf mayBoard mayAlight ridePoints changesOf plannerList connections dominates
     stored storeWords encode nodes arcs optimalStations optimals
 case-b = refl
 
 pub case-c : storeWords (net M) 2 ≡ 0 ∷ 1 ∷ 3 ∷ 0 ∷ []
-unfolding M variant ridesOf ridePoints changesOf plannerList connections dominates
+unfolding M variant ridesOf mayBoard mayAlight ridePoints changesOf plannerList connections dominates
     stored storeWords encode nodes arcs optimalStations optimals
 case-c = refl
 
 pub case-d : storeWords (net M) 3 ≡ 0 ∷ 0 ∷ []
-unfolding M variant ridesOf ridePoints changesOf plannerList connections dominates
+unfolding M variant ridesOf mayBoard mayAlight ridePoints changesOf plannerList connections dominates
     stored storeWords encode nodes arcs optimalStations optimals
 case-d = refl
 
 pub case-i : storeWords (net (variant 4 520)) 1 ≡ 0 ∷ 2 ∷ 2 ∷ 0 ∷ 3 ∷ 0 ∷ []
-unfolding variant ridesOf ridePoints changesOf plannerList connections dominates
+unfolding variant ridesOf mayBoard mayAlight ridePoints changesOf plannerList connections dominates
     stored storeWords encode nodes arcs optimalStations optimals
 case-i = refl
 
 pub case-j : answer (net M) (0 ∷ 1 ∷ 3 ∷ 0 ∷ []) 1 470 3 ≡ oneRide 90 0 1 1 3 ∷ []
-unfolding M variant ridesOf ridePoints changesOf plannerList connections entries result dominates equal rowsOf tieKey
-    answer keptList readable
+unfolding M variant ridesOf mayBoard mayAlight ridePoints changesOf plannerList connections entries result dominates
+    equal rowsOf tieKey answer keptList readable
 case-j = refl
 
 -- Two ways to station 4 of one cost, by station 2 and by station 3: both are stored.
@@ -54,7 +54,8 @@ forked =
     }
 
 pub ties-stored : optimalStations (net forked) 1 (480 ∷ []) (4 ∷ []) ≡ (2 ∷ 4 ∷ []) ∷ (3 ∷ 4 ∷ []) ∷ []
-unfolding forked ridesOf ridePoints changesOf plannerList connections dominates equal tieKey optimalStations optimals
+unfolding forked ridesOf mayBoard mayAlight ridePoints changesOf plannerList connections dominates equal tieKey
+    optimalStations optimals
 ties-stored = refl
 
 -- and their words

@@ -1,5 +1,5 @@
 -- The ways out of `shape`. The fields are read from the part of the line behind its first two bytes, and their values
--- stand in a local array, of which as many words count as there are fields, seven at most.
+-- stand in a local array, of which as many words count as there are fields, eight at most.
 use mathlib.Core.Path.{_≡_, refl, sym, ap, _∙_}
 use mathlib.Core.List.{List}
 use Prim.Native.Nat.{ℕ, _-_, _≤_, _<_, min}
@@ -34,8 +34,8 @@ behind-is line = take-all (length line - 2) (drop 2 line) (omega (arith, length-
 
 module _ (line values old : List ℕ) (count : ℕ)
     (comma : getD line 1 0 ≡ 44)
-    (counted : count ≡ min 7 (length (lineValues (getD line 0 0) (behind line))))
-    (held : values ≡ put 0 (take 7 (lineValues (getD line 0 0) (behind line))) old)
+    (counted : count ≡ min 8 (length (lineValues (getD line 0 0) (behind line))))
+    (held : values ≡ put 0 (take 8 (lineValues (getD line 0 0) (behind line))) old)
   where
     abbrev fields : List (List ℕ)
     fields = pieces 44 (drop 2 line)
@@ -43,15 +43,15 @@ module _ (line values old : List ℕ) (count : ℕ)
     abbrev kind : ℕ
     kind = getD line 0 0
 
-    counted-fields : count ≡ min 7 (length fields)
+    counted-fields : count ≡ min 8 (length fields)
     counted-fields = rw behind-is at (rw length-values at counted)
 
-    -- where the line has n fields, and n is at most 6, value i of the array is that of field i
-    read : (n i : ℕ) → length fields ≡ n → n ≤ 6 → i < n → getD values i 0 ≡ valueAt kind i (field fields i)
+    -- where the line has n fields, and n is at most 7, value i of the array is that of field i
+    read : (n i : ℕ) → length fields ≡ n → n ≤ 7 → i < n → getD values i 0 ≡ valueAt kind i (field fields i)
     read n i e h g =
         let long : length (lineValues kind (drop 2 line)) ≡ n = length-values kind 0 fields ∙ e in
-        let all : take 7 (lineValues kind (drop 2 line)) ≡ lineValues kind (drop 2 line) =
-        take-all 7 (lineValues kind (drop 2 line)) (omega arith) in
+        let all : take 8 (lineValues kind (drop 2 line)) ≡ lineValues kind (drop 2 line) =
+        take-all 8 (lineValues kind (drop 2 line)) (omega arith) in
         rw (held, behind-is, all) (getD-put (lineValues kind (drop 2 line)) old i (omega arith))
         ∙ values-at kind 0 i fields (omega arith)
         ∙ ap (λ k. valueAt kind k (field fields i)) (zero-add i)
@@ -80,22 +80,22 @@ module _ (line values old : List ℕ) (count : ℕ)
         read 3 i three (omega arith) g ∙ sym (value-other-kind kind i (field fields i) _ refl (λ k. omega arith))) in
         h ∙ rw (station-kind e, three, v 0 (omega arith), v 1 (omega arith), v 2 (omega arith))
 
-    pub stop-fields : kind ≡ 84 → (count ≡ 6 → ⊥) → Shapeless ≡ shapeOf line
+    pub stop-fields : kind ≡ 84 → (count ≡ 7 → ⊥) → Shapeless ≡ shapeOf line
     unfolding stopShape
     stop-fields e n =
-        let other : length fields ≡ 6 → ⊥ = (λ l. n (omega (arith, counted-fields))) in
-        sym (stop-kind e ∙ simp (ne-eqb (length fields) 6 other))
+        let other : length fields ≡ 7 → ⊥ = (λ l. n (omega (arith, counted-fields))) in
+        sym (stop-kind e ∙ simp (ne-eqb (length fields) 7 other))
 
-    pub stop-shape : kind ≡ 84 → count ≡ 6 → (r : Line)
+    pub stop-shape : kind ≡ 84 → count ≡ 7 → (r : Line)
         → r ≡ stopOf (getD values 0 0) (getD values 1 0) (getD values 2 0) (getD values 3 0) (getD values 4 0)
-        (getD values 5 0)
+        (getD values 5 0) (getD values 6 0)
         → r ≡ shapeOf line
     unfolding stopShape
     stop-shape e n r h =
-        let six : length fields ≡ 6 = omega (arith, counted-fields) in
-        let v : (i : ℕ) → i < 6 → getD values i 0 ≡ valueAt kind i (field fields i) =
-        (λ i g. read 6 i six (omega arith) g) in
-        let number : (i : ℕ) → i < 6 → (i ≡ 3 → ⊥) → (i ≡ 4 → ⊥) → getD values i 0 ≡ fieldValue (field fields i) =
+        let seven : length fields ≡ 7 = omega (arith, counted-fields) in
+        let v : (i : ℕ) → i < 7 → getD values i 0 ≡ valueAt kind i (field fields i) =
+        (λ i g. read 7 i seven (omega arith) g) in
+        let number : (i : ℕ) → i < 7 → (i ≡ 3 → ⊥) → (i ≡ 4 → ⊥) → getD values i 0 ≡ fieldValue (field fields i) =
         (λ i g a d. v i g ∙ sym (value-other-field kind i (field fields i) _ refl e a d)) in
         let arrive : getD values 3 0 ≡ timeValue (field fields 3) =
         v 3 (omega arith) ∙ sym (value-arrive kind 3 (field fields 3) _ refl e refl) in
@@ -104,13 +104,14 @@ module _ (line values old : List ℕ) (count : ℕ)
         h
         ∙ rw (
           stop-kind e,
-          six,
+          seven,
           number 0 (omega arith) (λ x. omega arith) (λ x. omega arith),
           number 1 (omega arith) (λ x. omega arith) (λ x. omega arith),
           number 2 (omega arith) (λ x. omega arith) (λ x. omega arith),
           arrive,
           depart,
           number 5 (omega arith) (λ x. omega arith) (λ x. omega arith),
+          number 6 (omega arith) (λ x. omega arith) (λ x. omega arith),
         )
 
 pub other-kind : (line : List ℕ) → getD line 1 0 ≡ 44 → (getD line 0 0 ≡ 83 → ⊥) → (getD line 0 0 ≡ 84 → ⊥)

@@ -63,8 +63,8 @@ module _
     (in-s : from ≤ length s)
     (within : end ≤ length s)
     (is-value : x ≡ valueAt kind k (take (end - from) (drop from s)))
-    (room : length old ≡ 7)
-    (few : k < 7)
+    (room : length old ≡ 8)
+    (few : k < 8)
   where
     -- the values of all fields
     abbrev all : List ℕ
@@ -79,9 +79,9 @@ module _
         length-take-le k all (omega (arith, length-next all k x r e)) in
         rw (held, take-next all k x r e) (put-next k (take k all) old x long (omega arith))
 
-    -- with the seventh value the rest does not matter
-    seven-counted : (r : List ℕ) → drop k all ≡ x ∷ r → k + 1 ≡ 7 → k + 1 ≡ min 7 (length all)
-    seven-counted r e h = omega (arith, length-next all k x r e)
+    -- with the eightth value the rest does not matter
+    eight-counted : (r : List ℕ) → drop k all ≡ x ∷ r → k + 1 ≡ 8 → k + 1 ≡ min 8 (length all)
+    eight-counted r e h = omega (arith, length-next all k x r e)
 
     more : (end ≡ length s → ⊥) → drop k all ≡ x ∷ left-from kind (k + 1) s (end + 1)
     more n = next (left-from kind (k + 1) s (end + 1)) (first-value kind k s from end ends in-s within n)
@@ -96,21 +96,21 @@ module _
           | no n ↦ (left-from kind (k + 1) s (end + 1), more n)
         ]
 
-    pub seven-count : k + 1 ≡ 7 → k + 1 ≡ min 7 (length all)
-    seven-count h = seven-counted (some .0) (some .1) h
+    pub eight-count : k + 1 ≡ 8 → k + 1 ≡ min 8 (length all)
+    eight-count h = eight-counted (some .0) (some .1) h
 
-    pub seven-stored : k + 1 ≡ 7 → set values k x ≡ put 0 (take 7 all) old
-    seven-stored h = rw h at (stored (some .0) (some .1))
+    pub eight-stored : k + 1 ≡ 8 → set values k x ≡ put 0 (take 8 all) old
+    eight-stored h = rw h at (stored (some .0) (some .1))
 
-    pub last-count : end ≡ length s → k + 1 ≡ min 7 (length all)
+    pub last-count : end ≡ length s → k + 1 ≡ min 8 (length all)
     last-count e = omega (arith, length-next all k x [] (last e))
 
-    pub last-stored : end ≡ length s → set values k x ≡ put 0 (take 7 all) old
+    pub last-stored : end ≡ length s → set values k x ≡ put 0 (take 8 all) old
     last-stored e =
         let long : length all ≡ k + 1 = omega (arith, length-next all k x [] (last e)) in
         let whole : take (k + 1) all ≡ all = take-all (k + 1) all (omega arith) in
-        let seven : take 7 all ≡ all = take-all 7 all (omega arith) in
-        rw seven (rw whole at (stored [] (last e)))
+        let eight : take 8 all ≡ all = take-all 8 all (omega arith) in
+        rw eight (rw whole at (stored [] (last e)))
 
     pub more-left : (end ≡ length s → ⊥) → drop (k + 1) all ≡ left-from kind (k + 1) s (end + 1)
     more-left n = drop-next all k x (left-from kind (k + 1) s (end + 1)) (more n)

@@ -1,6 +1,7 @@
 -- "Value ranges: change minutes 0 to 240, change penalty 1 to 1,000, times 0 to 2,879 (minutes from midnight, two
--- days), ride penalty 0 to 100." By the field's kind number: 1 change minutes, 2 change penalty, 3 time, 4 ride
--- penalty. "An empty field has no range": as a 0 it passes, for times and ride penalties may be 0.
+-- days), ride penalty 0 to 100." Document 02, Two: "Each T line gains a last field: 0 both, 1 boarding only, 2 setting
+-- down only, any other number 3." By the field's kind number: 1 change minutes, 2 change penalty, 3 time, 4 ride
+-- penalty, 5 mark. "An empty field has no range": as a 0 it passes, for times and ride penalties may be 0.
 use mathlib.Core.Path.{_≡_, refl, _∙_}
 use mathlib.Core.Bool.{Bool, true, false, cond, _&&_}
 use Prim.Native.Nat.{ℕ, _≤_}
@@ -17,7 +18,8 @@ inRange kind v =
     cond (eqb kind 1) (within 0 240 v)
     (cond (eqb kind 2) (within 1 1000 v)
     (cond (eqb kind 3) (within 0 2879 v)
-    (cond (eqb kind 4) (within 0 100 v) true)))
+    (cond (eqb kind 4) (within 0 100 v)
+    (cond (eqb kind 5) (within 0 2 v) true))))
 
 -- 0, or the refusal's number
 unfoldable pub rangeNumber : ℕ → ℕ → ℕ
@@ -40,6 +42,14 @@ module _ (kind v n : ℕ) (is : n ≡ rangeNumber kind v) where
       by-test : (t : Bool) → n ≡ cond t 0 3 → t ≡ false
       by-test true h = absurd (e h)
       by-test false h = refl
+
+  pub range-test : inRange kind v ≡ eqb n 0
+  unfolding rangeNumber
+  range-test = by-test (inRange kind v) is
+    where
+      by-test : (t : Bool) → n ≡ cond t 0 3 → t ≡ eqb n 0
+      by-test true h = rw h
+      by-test false h = rw h
 
 -- a number other than 0 is the refusal's
 pub range-three : (kind v n : ℕ) → n ≡ rangeNumber kind v → (n ≡ 0 → ⊥) → n ≡ 3
@@ -66,3 +76,7 @@ time-bound v e = (within-bounds 0 2879 v e) .1
 pub ride-bound : (v : ℕ) → inRange 4 v ≡ true → v ≤ 100
 unfolding inRange
 ride-bound v e = (within-bounds 0 100 v e) .1
+
+pub mark-bound : (v : ℕ) → inRange 5 v ≡ true → v ≤ 2
+unfolding inRange
+mark-bound v e = (within-bounds 0 2 v e) .1

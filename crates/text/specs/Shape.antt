@@ -42,14 +42,20 @@ departFits stop depart points =
 unfoldable pub filled : ℕ → ℕ
 filled v = cond (eqb v emptyField) 0 v
 
--- "Stop: `T,trip,stop,station,arrive,depart,ride penalty`", from the values behind the T
-unfoldable pub stopOf : (trip stop station arrive depart points : ℕ) → Line
-stopOf trip stop station arrive depart points =
-    cond (isNumber trip
+-- "Stop: `T,trip,stop,station,arrive,depart,ride penalty`", and document 02, Two: "Each T line gains a last field"
+unfoldable pub stopFits : (trip stop station arrive depart points mark : ℕ) → Bool
+stopFits trip stop station arrive depart points mark =
+    isNumber trip
     && isNumber stop
     && isNumber station
     && arriveFits stop arrive
-    && departFits stop depart points)
+    && departFits stop depart points
+    && isNumber mark
+
+-- a stop line from the values behind the T
+unfoldable pub stopOf : (trip stop station arrive depart points mark : ℕ) → Line
+stopOf trip stop station arrive depart points mark =
+    cond (stopFits trip stop station arrive depart points mark)
     (Stop (record {
       trip = trip;
       stop = stop;
@@ -57,6 +63,7 @@ stopOf trip stop station arrive depart points =
       arrive = filled arrive;
       depart = filled depart;
       points = filled points;
+      mark = mark;
       last = eqb depart emptyField;
     }))
     Shapeless
@@ -64,9 +71,9 @@ stopOf trip stop station arrive depart points =
 -- arrive and depart are read by `time`
 unfoldable pub stopShape : (time : List ℕ → ℕ) → List (List ℕ) → Line
 stopShape time f =
-    cond (eqb (length f) 6)
+    cond (eqb (length f) 7)
     (stopOf (fieldValue (field f 0)) (fieldValue (field f 1)) (fieldValue (field f 2)) (time (field f 3))
-    (time (field f 4)) (fieldValue (field f 5)))
+    (time (field f 4)) (fieldValue (field f 5)) (fieldValue (field f 6)))
     Shapeless
 
 -- "Is it of a shape above?" A line begins with S (byte 83) or T (byte 84) and a comma (byte 44). "Fields stand ..
@@ -82,62 +89,58 @@ shapeBy time line =
 abbrev pub shapeOf : List ℕ → Line
 shapeOf line = shapeBy timeValue line
 
--- ---- the ways in which six values make no stop line, and the one in which they do
-module _ (trip stop station arrive depart points : ℕ) where
-  pub trip-shapeless : 9999 < trip → Shapeless ≡ stopOf trip stop station arrive depart points
-  unfolding stopOf
-  trip-shapeless h = simp (lt-leb trip 9999 h)
+-- ---- the tests on seven values, one after the other
+module _ (trip stop station arrive depart points mark : ℕ) where
+  abbrev pub fitting : Bool
+  fitting = stopFits trip stop station arrive depart points mark
 
-  pub stop-shapeless : trip ≤ 9999 → 9999 < stop → Shapeless ≡ stopOf trip stop station arrive depart points
-  unfolding stopOf
-  stop-shapeless t h = simp (le-leb trip 9999 t, lt-leb stop 9999 h)
+  pub trip-unfit : 9999 < trip → false ≡ fitting
+  unfolding stopFits
+  trip-unfit h = simp (lt-leb trip 9999 h)
+
+  pub stop-unfit : trip ≤ 9999 → 9999 < stop → false ≡ fitting
+  unfolding stopFits
+  stop-unfit t h = simp (le-leb trip 9999 t, lt-leb stop 9999 h)
 
   module _ (t : trip ≤ 9999) (k : stop ≤ 9999) where
-    pub station-shapeless : 9999 < station → Shapeless ≡ stopOf trip stop station arrive depart points
-    unfolding stopOf
-    station-shapeless h = simp (le-leb trip 9999 t, le-leb stop 9999 k, lt-leb station 9999 h)
+    pub station-unfit : 9999 < station → false ≡ fitting
+    unfolding stopFits
+    station-unfit h = simp (le-leb trip 9999 t, le-leb stop 9999 k, lt-leb station 9999 h)
 
     module _ (s : station ≤ 9999) (fits : Bool) (f : fits ≡ arriveFits stop arrive) where
-      pub arrive-shapeless : not fits ≡ true → Shapeless ≡ stopOf trip stop station arrive depart points
-      unfolding stopOf
-      arrive-shapeless h =
+      pub arrive-unfit : not fits ≡ true → false ≡ fitting
+      unfolding stopFits
+      arrive-unfit h =
           simp (le-leb trip 9999 t, le-leb stop 9999 k, le-leb station 9999 s, ← f, not-true fits h)
 
       module _ (a : not fits ≡ false) (goes : Bool) (g : goes ≡ departFits stop depart points) where
-        pub depart-shapeless : not goes ≡ true → Shapeless ≡ stopOf trip stop station arrive depart points
-        unfolding stopOf
-        depart-shapeless h =
-            simp (
-              le-leb trip 9999 t,
-              le-leb stop 9999 k,
-              le-leb station 9999 s,
-              ← f,
-              not-false fits a,
-              ← g,
-              not-true goes h,
-            )
+        by-rest : fitting ≡ (goes && isNumber mark)
+        unfolding stopFits
+        by-rest =
+            simp (le-leb trip 9999 t, le-leb stop 9999 k, le-leb station 9999 s, ← f, not-false fits a, ← g)
 
-        pub stop-shaped : not goes ≡ false → (x y z : ℕ) → x ≡ filled arrive → y ≡ filled depart → z ≡ filled points
-            → Stop (record {
-              trip = trip;
-              stop = stop;
-              station = station;
-              arrive = x;
-              depart = y;
-              points = z;
-              last = eqb depart 10000;
-            }) ≡ stopOf trip stop station arrive depart points
-        unfolding stopOf
-        stop-shaped h x y z p q r =
-            simp (
-              le-leb trip 9999 t,
-              le-leb stop 9999 k,
-              le-leb station 9999 s,
-              ← f,
-              not-false fits a,
-              ← g,
-              not-false goes h,
-              p,
-              q,
-              r,
-            )
+        pub depart-unfit : not goes ≡ true → false ≡ fitting
+        depart-unfit h = rw (by-rest, not-true goes h)
+
+        pub mark-decides : not goes ≡ false → isNumber mark ≡ fitting
+        mark-decides h = rw (by-rest, not-false goes h)
+
+  -- ---- the line that they make
+  module _ (fits : Bool) (f : fits ≡ fitting) where
+    pub unfit-shapeless : not fits ≡ true → Shapeless ≡ stopOf trip stop station arrive depart points mark
+    unfolding stopOf
+    unfit-shapeless h = rw (← f, not-true fits h)
+
+    pub stop-shaped : not fits ≡ false → (x y z : ℕ) → x ≡ filled arrive → y ≡ filled depart → z ≡ filled points
+        → Stop (record {
+          trip = trip;
+          stop = stop;
+          station = station;
+          arrive = x;
+          depart = y;
+          points = z;
+          mark = mark;
+          last = eqb depart 10000;
+        }) ≡ stopOf trip stop station arrive depart points mark
+    unfolding stopOf
+    stop-shaped h x y z p q r = simp (← f, not-false fits h, p, q, r)

@@ -6,7 +6,7 @@ ghost use Rattle.words.specs.Put.{put};
 ghost use Rattle.text.specs.Piece.{pieceLength};
 ghost use Rattle.text.specs.Number.{digitValue, fieldValue};
 ghost use Rattle.text.specs.Time.{pairValue, timeValue};
-ghost use Rattle.text.specs.Shape.{stationOf, stopOf, arriveFits, departFits, filled, shapeOf};
+ghost use Rattle.text.specs.Shape.{stationOf, stopFits, stopOf, arriveFits, departFits, filled, shapeOf};
 ghost use Rattle.text.specs.Values.{valueAt, lineValues};
 ghost use Rattle.text.specs.Range.{rangeNumber};
 
@@ -44,7 +44,7 @@ const PAST_TIMES: u32 = 2880;
 // The fields after the first of a station line and of a stop line.
 const STATION_FIELDS: usize = 3;
 
-const STOP_FIELDS: usize = 6;
+const STOP_FIELDS: usize = 7;
 
 // Which of the fields after the first of a stop line are times.
 const ARRIVE: usize = 3;
@@ -63,6 +63,8 @@ pub const TIME: u8 = 3;
 
 pub const RIDE_PENALTY: u8 = 4;
 
+pub const MARK: u8 = 5;
+
 // A line `S,station,change minutes,change penalty`.
 pub struct StationLine {
     pub number: u32,
@@ -70,7 +72,8 @@ pub struct StationLine {
     pub points: u32,
 }
 
-// A line `T,trip,stop,station,arrive,depart,ride penalty`; an empty field is 0, and last says that depart is empty.
+// A line `T,trip,stop,station,arrive,depart,ride penalty,mark`; an empty field is 0, and last says that depart is
+// empty.
 pub struct StopLine {
     pub trip: u32,
     pub stop: u32,
@@ -78,6 +81,7 @@ pub struct StopLine {
     pub arrive: u32,
     pub depart: u32,
     pub points: u32,
+    pub mark: u32,
     pub last: bool,
 }
 
@@ -211,11 +215,11 @@ fn value_at(kind: u8, k: usize, field: &[u8]) -> u32
     field_value(field)
 }
 
-// Writes the values of the first seven fields of s, by the kind of its line, and returns how many it wrote.
+// Writes the values of the first eight fields of s, by the kind of its line, and returns how many it wrote.
 fn field_values(kind: u8, s: &[u8], values: &mut [u32]) -> usize
-    requires { ⌜ length (now values) ≡ 7 ⌝ }
-    ensures { λ r. ⌜ (r ≡ min 7 (length (lineValues kind (now (s .entry)))))
-        × (now (values .exit) ≡ put 0 (take 7 (lineValues kind (now (s .entry)))) (now (values .entry))) ⌝ }
+    requires { ⌜ length (now values) ≡ 8 ⌝ }
+    ensures { λ r. ⌜ (r ≡ min 8 (length (lineValues kind (now (s .entry)))))
+        × (now (values .exit) ≡ put 0 (take 8 (lineValues kind (now (s .entry)))) (now (values .entry))) ⌝ }
 {
     let n = s.len();
     let mut from = 0;
@@ -290,23 +294,49 @@ fn fill(value: u32) -> u32
     value
 }
 
-// The stop line of six values.
-fn stop_line(trip: u32, stop: u32, station: u32, arrive: u32, depart: u32, points: u32) -> Line
-    ensures { λ r. ⌜ r ≡ stopOf trip stop station arrive depart points ⌝ }
+// The seven values are those of a stop line.
+fn stop_fits(
+    trip: u32,
+    stop: u32,
+    station: u32,
+    arrive: u32,
+    depart: u32,
+    points: u32,
+    mark: u32,
+) -> bool
+    ensures { λ r. ⌜ r ≡ stopFits trip stop station arrive depart points mark ⌝ }
 {
     if NUMBER_MOST < trip {
-        return Line::Shapeless;
+        return false;
     }
     if NUMBER_MOST < stop {
-        return Line::Shapeless;
+        return false;
     }
     if NUMBER_MOST < station {
-        return Line::Shapeless;
+        return false;
     }
     if !arrive_fits(stop, arrive) {
-        return Line::Shapeless;
+        return false;
     }
     if !depart_fits(stop, depart, points) {
+        return false;
+    }
+    mark <= NUMBER_MOST
+}
+
+// The stop line of seven values.
+fn stop_line(
+    trip: u32,
+    stop: u32,
+    station: u32,
+    arrive: u32,
+    depart: u32,
+    points: u32,
+    mark: u32,
+) -> Line
+    ensures { λ r. ⌜ r ≡ stopOf trip stop station arrive depart points mark ⌝ }
+{
+    if !stop_fits(trip, stop, station, arrive, depart, points, mark) {
         return Line::Shapeless;
     }
     Line::Stop(StopLine {
@@ -316,6 +346,7 @@ fn stop_line(trip: u32, stop: u32, station: u32, arrive: u32, depart: u32, point
         arrive: fill(arrive),
         depart: fill(depart),
         points: fill(points),
+        mark,
         last: depart == EMPTY,
     })
 }
@@ -351,6 +382,7 @@ pub fn shape(line: &[u8]) -> Line
             values[3],
             values[4],
             values[5],
+            values[6],
         );
     }
     Line::Shapeless
@@ -375,6 +407,10 @@ pub fn range_number(kind: u8, value: u32) -> u32
         },
         RIDE_PENALTY => match value {
             0..=100 => 0,
+            _ => 3,
+        },
+        MARK => match value {
+            0..=2 => 0,
             _ => 3,
         },
         _ => 0,

@@ -1,12 +1,12 @@
 -- Parts of a timetable's words that are copied: those of stations, of stops, and the numbers of trips.
-use mathlib.Core.Path.{_≡_, refl, sym, ap, _∙_}
+use mathlib.Core.Path.{_≡_, sym, ap, _∙_}
 use mathlib.Core.List.{List}
 use Prim.Native.Nat.{ℕ, _+_, _-_, _*_, _≤_}
 use native.Mathlib.Omega.{arith}
 use lib.ListN.{length, getD, take, drop}
 use lib.Seq.{take-take}
 use Rattle.words.specs.Put.{put}
-use Rattle.timetable.specs.Words.{stationWords, stopWords, stationCount, tripCount, stopCount}
+use Rattle.timetable.specs.Words.{stationWords, stopWords, stationCount}
 use Rattle.timetable.specs.Check.{stationsAt, stopsAt, numbersAt}
 use Rattle.timetable.specs.Parts.{stations-part, stops-part, numbers-part}
 
@@ -30,15 +30,15 @@ pub stops-copied : (w body out : List ℕ) (s first end at : ℕ) → 16384 ≤ 
     → s ≡ getD w 0 0 → first ≤ end → end ≤ 2048
     → out
     ≡ put at
-    (take (4 * (end - first)) (take (3 + 2 * s + 4 * first + 4 * (end - first) - (3 + 2 * s + 4 * first))
-    (drop (3 + 2 * s + 4 * first) w)))
+    (take (5 * (end - first)) (take (3 + 2 * s + 5 * first + 5 * (end - first) - (3 + 2 * s + 5 * first))
+    (drop (3 + 2 * s + 5 * first) w)))
     body
     → out ≡ put at (stopWords (stopsAt w first end)) body
 stops-copied w body out s first end at long few is h g e =
     e
     ∙ ap (λ l. put at l body)
-    (part-whole w (3 + 2 * s + 4 * first) (4 * (end - first))
-    ∙ ap (λ k. take (4 * (end - first)) (drop (3 + 2 * k + 4 * first) w)) is
+    (part-whole w (3 + 2 * s + 5 * first) (5 * (end - first))
+    ∙ ap (λ k. take (5 * (end - first)) (drop (3 + 2 * k + 5 * first) w)) is
     ∙ sym (stops-part w first end h (omega arith)))
 
 pub numbers-copied : (w numbers out : List ℕ) (s t n first end at : ℕ) → 16384 ≤ length w → getD w 0 0 ≤ 64
@@ -46,13 +46,13 @@ pub numbers-copied : (w numbers out : List ℕ) (s t n first end at : ℕ) → 1
     → out
     ≡ put at
     (take (end - first)
-    (take (3 + 2 * s + 4 * n + (t + 1) + first + (end - first) - (3 + 2 * s + 4 * n + (t + 1) + first))
-    (drop (3 + 2 * s + 4 * n + (t + 1) + first) w)))
+    (take (3 + 2 * s + 5 * n + (t + 1) + first + (end - first) - (3 + 2 * s + 5 * n + (t + 1) + first))
+    (drop (3 + 2 * s + 5 * n + (t + 1) + first) w)))
     numbers
     → out ≡ put at (numbersAt w first end) numbers
 numbers-copied w numbers out s t n first end at long few-s few-t few-n is-s is-t is-n h g e =
     e
     ∙ ap (λ l. put at l numbers)
-    (part-whole w (3 + 2 * s + 4 * n + (t + 1) + first) (end - first)
-    ∙ (λ i. take (end - first) (drop (3 + 2 * is-s i + 4 * is-n i + (is-t i + 1) + first) w))
+    (part-whole w (3 + 2 * s + 5 * n + (t + 1) + first) (end - first)
+    ∙ (λ i. take (end - first) (drop (3 + 2 * is-s i + 5 * is-n i + (is-t i + 1) + first) w))
     ∙ sym (numbers-part w first end h (omega arith)))

@@ -3,8 +3,18 @@ use mathlib.Core.Path.{_≡_}
 use mathlib.Core.Bool.{Bool, true, false, not}
 use Prim.Native.Nat.{ℕ, _≤_, _<_}
 use borrow.Author.Tests.{lt-ltb, le-ltb, le-leb, lt-leb, eq-eqb, ne-eqb, not-true, not-false}
-use lib.Dec.{leb, eqb}
-use Rattle.timetable.specs.Timetable.{Station, Stop, validStation, listed, leaves, ends, follows, lastMinute}
+use lib.Dec.{leb}
+use Rattle.timetable.specs.Timetable.{
+  Station,
+  Stop,
+  validStation,
+  listed,
+  leaves,
+  ends,
+  follows,
+  lastMinute,
+  marked,
+}
 
 module _ (s : Station) where
   pub minutes-above : 240 < s .minutes → false ≡ validStation s
@@ -34,17 +44,27 @@ module _ (s : Stop) where
   unfolding leaves
   depart-above h = simp (lt-leb (s .depart) lastMinute h)
 
-  pub ride-decides : s .depart ≤ lastMinute → leb (s .points) 100 ≡ leaves s
-  unfolding leaves
-  ride-decides h = simp (le-leb (s .depart) lastMinute h)
+  module _ (h : s .depart ≤ lastMinute) where
+    pub ride-above : 100 < s .points → false ≡ leaves s
+    unfolding leaves
+    ride-above g = simp (le-leb (s .depart) lastMinute h, lt-leb (s .points) 100 g)
+
+    pub leaving-mark : s .points ≤ 100 → marked s ≡ leaves s
+    unfolding leaves
+    leaving-mark g = simp (le-leb (s .depart) lastMinute h, le-leb (s .points) 100 g)
 
   pub depart-some : (s .depart ≡ 0 → ⊥) → false ≡ ends s
   unfolding ends
   depart-some h = simp (ne-eqb (s .depart) 0 h)
 
-  pub ride-none : s .depart ≡ 0 → eqb (s .points) 0 ≡ ends s
-  unfolding ends
-  ride-none h = simp (eq-eqb (s .depart) 0 h)
+  module _ (h : s .depart ≡ 0) where
+    pub ride-some : (s .points ≡ 0 → ⊥) → false ≡ ends s
+    unfolding ends
+    ride-some g = simp (eq-eqb (s .depart) 0 h, ne-eqb (s .points) 0 g)
+
+    pub ending-mark : s .points ≡ 0 → marked s ≡ ends s
+    unfolding ends
+    ending-mark g = simp (eq-eqb (s .depart) 0 h, eq-eqb (s .points) 0 g)
 
 module _ (n : ℕ) (b s : Stop) (t : Bool) (is : t ≡ listed n s) where
   pub unlisted : not t ≡ true → false ≡ follows n b s

@@ -4,7 +4,7 @@ use mathlib.Core.List.{List}
 use Prim.Native.Nat.{ℕ, _+_, _*_}
 use lib.ListN.{getD}
 use Rattle.timetable.specs.Timetable.{Station, Stop}
-use Rattle.timetable.specs.Words.{stationAt, stopAt, startAt, numberAt}
+use Rattle.timetable.specs.Words.{stationAt, stopIn, stopAt, startAt, numberAt}
 
 module _ (w : List ℕ) (i : ℕ) where
   pub station-there : (a b : ℕ) → a ≡ getD w (3 + 2 * i) 0 → b ≡ getD w (3 + 2 * i + 1) 0
@@ -12,21 +12,22 @@ module _ (w : List ℕ) (i : ℕ) where
   unfolding stationAt
   station-there a b e f = rw (e, f)
 
-  module _ (n : ℕ) (is : n ≡ getD w 0 0) where
-    pub stop-there : (a b c d : ℕ)
-        → a ≡ getD w (3 + 2 * n + 4 * i) 0
-        → b ≡ getD w (3 + 2 * n + 4 * i + 1) 0
-        → c ≡ getD w (3 + 2 * n + 4 * i + 2) 0
-        → d ≡ getD w (3 + 2 * n + 4 * i + 3) 0
-        → _≡_ {A = Stop} (record { station = a; arrive = b; depart = c; points = d }) (stopAt w i)
-    unfolding stopAt
-    stop-there a b c d e f g h = rw (e, f, g, h, is)
+  pub stop-read : (a b c d m : ℕ) → a ≡ getD w i 0 → b ≡ getD w (i + 1) 0 → c ≡ getD w (i + 2) 0
+      → d ≡ getD w (i + 3) 0 → m ≡ getD w (i + 4) 0
+      → _≡_ {A = Stop} (record { station = a; arrive = b; depart = c; points = d; mark = m }) (stopIn w i)
+  unfolding stopIn
+  stop-read a b c d m e f g h k = rw (e, f, g, h, k)
 
-    pub start-there : (m r : ℕ) → m ≡ getD w 2 0 → r ≡ getD w (3 + 2 * n + 4 * m + i) 0 → r ≡ startAt w i
+  module _ (n : ℕ) (is : n ≡ getD w 0 0) where
+    pub stop-there : (s : Stop) → s ≡ stopIn w (3 + 2 * n + 5 * i) → s ≡ stopAt w i
+    unfolding stopAt
+    stop-there s e = e ∙ rw is
+
+    pub start-there : (m r : ℕ) → m ≡ getD w 2 0 → r ≡ getD w (3 + 2 * n + 5 * m + i) 0 → r ≡ startAt w i
     unfolding startAt
     start-there m r e f = f ∙ rw (is, e)
 
     pub number-there : (m t r : ℕ) → m ≡ getD w 2 0 → t ≡ getD w 1 0
-        → r ≡ getD w (3 + 2 * n + 4 * m + (t + 1) + i) 0 → r ≡ numberAt w i
+        → r ≡ getD w (3 + 2 * n + 5 * m + (t + 1) + i) 0 → r ≡ numberAt w i
     unfolding numberAt
     number-there m t r e g f = f ∙ rw (is, e, g)

@@ -15,21 +15,21 @@ module _ (stations trips stops : ℕ) (few-stations : stations ≤ 64) (few-trip
     starts-enough starts e = omega arith
 
     pub starts-fit : (old headed bodied : List ℕ) → 16384 ≤ length old → length headed ≡ length old
-        → length bodied ≡ length headed → 3 + (2 * stations + 4 * stops) + (trips + 1) ≤ length bodied
+        → length bodied ≡ length headed → 3 + (2 * stations + 5 * stops) + (trips + 1) ≤ length bodied
     starts-fit old headed bodied room kept e = omega arith
 
     module _ (body starts numbers old headed bodied started table : List ℕ) where
       abbrev length-body : ℕ
-      length-body = 2 * stations + 4 * stops
+      length-body = 2 * stations + 5 * stops
 
       abbrev counts : List ℕ
       counts = stations ∷ trips ∷ stops ∷ []
 
       pub table-written : table
-          ≡ put (3 + (2 * stations + 4 * stops) + (trips + 1)) (take trips numbers) started
-          → started ≡ put (3 + (2 * stations + 4 * stops)) (take (trips + 1) starts) bodied
-          → bodied ≡ put 3 (take (2 * stations + 4 * stops) body) headed
-          → headed ≡ put 0 (stations ∷ trips ∷ stops ∷ []) old → 16384 ≤ length old → length body ≡ 8320
+          ≡ put (3 + (2 * stations + 5 * stops) + (trips + 1)) (take trips numbers) started
+          → started ≡ put (3 + (2 * stations + 5 * stops)) (take (trips + 1) starts) bodied
+          → bodied ≡ put 3 (take (2 * stations + 5 * stops) body) headed
+          → headed ≡ put 0 (stations ∷ trips ∷ stops ∷ []) old → 16384 ≤ length old → length body ≡ 10368
           → length starts ≡ 257 → table ≡ put 0 (joined stations trips stops body starts numbers) old
       table-written k g f e room long enough =
           let front = take length-body body in

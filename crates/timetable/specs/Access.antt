@@ -18,6 +18,7 @@ use Rattle.timetable.specs.Timetable.{
   numberOf,
   lastMinute,
   listed,
+  marked,
   leaves,
   ends,
   follows,
@@ -97,28 +98,59 @@ trip-valid n [] k d e h = absurd (omega arith)
 trip-valid n (t ∷ l) zero d e h = and-left (validTrip n t) (validTrips n l) e
 trip-valid n (t ∷ l) (suc k) d e h = trip-valid n l k d (and-right (validTrip n t) (validTrips n l) e) (omega arith)
 
--- ---- ride penalties of a valid timetable: none is above 100, and at a trip's last stop there is none
+-- ---- ride penalties of a valid timetable: none is above 100, and at a trip's last stop there is none; and marks: none
+-- is above 2
 leaves-cheap : (s : Stop) → leaves s ≡ true → s .points ≤ 100
 unfolding leaves
-leaves-cheap s e = leb-true (s .points) 100 (and-right (leb (s .depart) lastMinute) (leb (s .points) 100) e)
+leaves-cheap s e =
+    let goes = leb (s .depart) lastMinute in
+    let cheap = leb (s .points) 100 in
+    leb-true (s .points) 100 (and-right goes cheap (and-left (goes && cheap) (marked s) e))
 
 ends-free : (s : Stop) → ends s ≡ true → s .points ≡ 0
 unfolding ends
-ends-free s e = eqb-true (s .points) 0 (and-right (eqb (s .depart) 0) (eqb (s .points) 0) e)
+ends-free s e =
+    let stays = eqb (s .depart) 0 in
+    eqb-true (s .points) 0 (and-right stays (eqb (s .points) 0) (and-left (stays && eqb (s .points) 0) (marked s) e))
+
+leaves-marked : (s : Stop) → leaves s ≡ true → s .mark ≤ 2
+unfolding leaves
+leaves-marked s e = leb-true (s .mark) 2 (and-right (leb (s .depart) lastMinute && leb (s .points) 100) (marked s) e)
+
+ends-marked : (s : Stop) → ends s ≡ true → s .mark ≤ 2
+unfolding ends
+ends-marked s e = leb-true (s .mark) 2 (and-right (eqb (s .depart) 0 && eqb (s .points) 0) (marked s) e)
+
+-- what holds of stops that their trip leaves and of those that end it, holds of all stops of a trip
+module _
+    (n : ℕ)
+    (d : Stop)
+    (P : Stop → Type 0)
+    (going : (s : Stop) → leaves s ≡ true → P s)
+    (ending : (s : Stop) → ends s ≡ true → P s)
+  where
+    run-all : (b : Stop) (l : List Stop) → runs n b l ≡ true → (p : ℕ) → p < length l → P (getD l p d)
+    unfolding runs
+    run-all b [] e p h = absurd (omega arith)
+    run-all b (s ∷ []) e zero h = ending s (and-right (follows n b s) (ends s) e)
+    run-all b (s ∷ []) e (suc p) h = absurd (omega arith)
+    run-all b (s ∷ u ∷ l) e zero h =
+        let came = follows n b s && leb (s .arrive) (s .depart) in
+        going s (and-right came (leaves s) (and-left (came && leaves s) (runs n s (u ∷ l)) e))
+    run-all b (s ∷ u ∷ l) e (suc p) h =
+        let came = follows n b s && leb (s .arrive) (s .depart) in
+        run-all s (u ∷ l) (and-right (came && leaves s) (runs n s (u ∷ l)) e) p (omega arith)
+
+    trip-all : (t : Trip) → validTrip n t ≡ true → (p : ℕ) → p < length t → P (getD t p d)
+    unfolding validTrip
+    trip-all [] e p h = absurd (omega arith)
+    trip-all (s ∷ l) e zero h =
+        let here = listed n s && eqb (s .arrive) 0 in
+        going s (and-right here (leaves s) (and-left (here && leaves s) (runs n s l) e))
+    trip-all (s ∷ l) e (suc p) h =
+        run-all s l (and-right (listed n s && eqb (s .arrive) 0 && leaves s) (runs n s l) e) p (omega arith)
 
 module _ (n : ℕ) (d : Stop) where
-  run-cheap : (b : Stop) (l : List Stop) → runs n b l ≡ true → (p : ℕ) → p < length l → (getD l p d) .points ≤ 100
-  unfolding runs
-  run-cheap b [] e p h = absurd (omega arith)
-  run-cheap b (s ∷ []) e zero h = omega (arith, ends-free s (and-right (follows n b s) (ends s) e))
-  run-cheap b (s ∷ []) e (suc p) h = absurd (omega arith)
-  run-cheap b (s ∷ u ∷ l) e zero h =
-      let came = follows n b s && leb (s .arrive) (s .depart) in
-      leaves-cheap s (and-right came (leaves s) (and-left (came && leaves s) (runs n s (u ∷ l)) e))
-  run-cheap b (s ∷ u ∷ l) e (suc p) h =
-      let came = follows n b s && leb (s .arrive) (s .depart) in
-      run-cheap s (u ∷ l) (and-right (came && leaves s) (runs n s (u ∷ l)) e) p (omega arith)
-
   run-free : (b : Stop) (l : List Stop) → runs n b l ≡ true → (p : ℕ) → p + 1 ≡ length l → (getD l p d) .points ≡ 0
   unfolding runs
   run-free b [] e p h = absurd (omega arith)
@@ -130,13 +162,10 @@ module _ (n : ℕ) (d : Stop) where
       run-free s (u ∷ l) (and-right (came && leaves s) (runs n s (u ∷ l)) e) p (omega arith)
 
   pub trip-cheap : (t : Trip) → validTrip n t ≡ true → (p : ℕ) → p < length t → (getD t p d) .points ≤ 100
-  unfolding validTrip
-  trip-cheap [] e p h = absurd (omega arith)
-  trip-cheap (s ∷ l) e zero h =
-      let here = listed n s && eqb (s .arrive) 0 in
-      leaves-cheap s (and-right here (leaves s) (and-left (here && leaves s) (runs n s l) e))
-  trip-cheap (s ∷ l) e (suc p) h =
-      run-cheap s l (and-right (listed n s && eqb (s .arrive) 0 && leaves s) (runs n s l) e) p (omega arith)
+  trip-cheap = trip-all n d (λ s. s .points ≤ 100) leaves-cheap (λ s e. omega (arith, ends-free s e))
+
+  pub trip-marked : (t : Trip) → validTrip n t ≡ true → (p : ℕ) → p < length t → (getD t p d) .mark ≤ 2
+  trip-marked = trip-all n d (λ s. s .mark ≤ 2) leaves-marked ends-marked
 
   pub trip-free : (t : Trip) → validTrip n t ≡ true → (p : ℕ) → p + 1 ≡ length t → (getD t p d) .points ≡ 0
   unfolding validTrip
@@ -254,17 +283,27 @@ module _ (w : List ℕ) (yes : isTimetable w ≡ true) where
       let two = two-stops (length (t .stations)) (getD (t .trips) k []) (one-valid k h) in
       omega (arith, two, ap length (trip-is w k [] h), trip-long w k)
 
-  pub stop-cheap : (k p : ℕ) → k < tripCount w → startAt w k + p < startAt w (k + 1)
-      → (stopAt w (startAt w k + p)) .points ≤ 100
-  stop-cheap k p h g =
-      let t = timetableOf w in
-      let here = trip-is w k [] h in
-      let inside : p < startAt w (k + 1) - startAt w k = omega arith in
-      let cheap =
-      trip-cheap (length (t .stations)) (stopAt w 0) (getD (t .trips) k []) (one-valid k h) p
-      (omega (arith, ap length here, trip-long w k)) in
-      let is = ap (λ l. getD l p (stopAt w 0)) here ∙ stop-is w k p (stopAt w 0) inside in
-      omega (arith, cheap, ap (λ s. s .points) is)
+  module _ (k p : ℕ) (h : k < tripCount w) (g : startAt w k + p < startAt w (k + 1)) where
+    -- the stop at place p of trip k, in the trip and in the words
+    stop-both : getD (getD ((timetableOf w) .trips) k []) p (stopAt w 0) ≡ stopAt w (startAt w k + p)
+    stop-both = ap (λ l. getD l p (stopAt w 0)) (trip-is w k [] h) ∙ stop-is w k p (stopAt w 0) (omega arith)
+
+    inside : p < length (getD ((timetableOf w) .trips) k [])
+    inside = omega (arith, ap length (trip-is w k [] h), trip-long w k)
+
+    pub stop-cheap : (stopAt w (startAt w k + p)) .points ≤ 100
+    stop-cheap =
+        let t = timetableOf w in
+        let here = getD (t .trips) k [] in
+        let cheap = trip-cheap (length (t .stations)) (stopAt w 0) here (one-valid k h) p inside in
+        omega (arith, cheap, ap (λ s. s .points) stop-both)
+
+    pub stop-marked : (stopAt w (startAt w k + p)) .mark ≤ 2
+    stop-marked =
+        let t = timetableOf w in
+        let here = getD (t .trips) k [] in
+        let few = trip-marked (length (t .stations)) (stopAt w 0) here (one-valid k h) p inside in
+        omega (arith, few, ap (λ s. s .mark) stop-both)
 
   pub stations-few : stationCount w ≤ 64
   stations-few = counts .stations

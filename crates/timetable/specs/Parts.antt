@@ -1,6 +1,6 @@
 -- Where the words of stations, of stops and of numbers stand: a run of any of them is a part of the timetable's words.
 use mathlib.Core.Path.{_≡_, refl, sym, ap, _∙_}
-use mathlib.Core.List.{List, [], _∷_, map}
+use mathlib.Core.List.{List, _∷_, map}
 use Prim.Native.Nat.{ℕ, zero, suc, _+_, _-_, _*_, _≤_, _<_}
 use native.Mathlib.Numerals.{add-one}
 use native.Mathlib.Omega.{arith}
@@ -10,10 +10,10 @@ use Rattle.lists.specs.Lists.{range}
 use Rattle.timetable.specs.Words.{
   stationWords,
   stopWords,
-  stationCount,
   tripCount,
   stopCount,
   stationAt,
+  stopIn,
   stopPlace,
   stopAt,
   numberAt,
@@ -40,25 +40,28 @@ module _ (w : List ℕ) where
       ∙ ap (λ l. getD w (3 + 2 * k + 1) 0 ∷ l)
       (ap (λ j. take (2 * n) (drop j w)) next ∙ sym (stations-back (suc k) n (omega arith)))))
 
-  stops-back : (k n : ℕ) → stopPlace w (k + n) ≤ length w
-      → stopWords (map (stopAt w) (range k n)) ≡ take (4 * n) (drop (stopPlace w k) w)
-  unfolding stopWords stopAt
+  pub stops-back : (k n : ℕ) → stopPlace w (k + n) ≤ length w
+      → stopWords (map (stopAt w) (range k n)) ≡ take (5 * n) (drop (stopPlace w k) w)
+  unfolding stopWords stopAt stopIn
   stops-back k zero h = refl
   stops-back k (suc n) h =
       let p = stopPlace w k in
-      let four : 4 * suc n ≡ suc (suc (suc (suc (4 * n)))) = omega arith in
+      let five : 5 * suc n ≡ suc (suc (suc (suc (suc (5 * n))))) = omega arith in
       let two : p + 1 + 1 ≡ p + 2 = omega arith in
       let three : p + 2 + 1 ≡ p + 3 = omega arith in
-      let next : p + 3 + 1 ≡ stopPlace w (suc k) = omega arith in
-      let rest = ap (λ j. take (4 * n) (drop j w)) next ∙ sym (stops-back (suc k) n (omega arith)) in
-      let d = take-one w (p + 3) (4 * n) (omega arith) ∙ ap (λ l. getD w (p + 3) 0 ∷ l) rest in
-      let c = take-one w (p + 2) (suc (4 * n)) (omega arith)
-      ∙ ap (λ l. getD w (p + 2) 0 ∷ l) (ap (λ j. take (suc (4 * n)) (drop j w)) three ∙ d) in
-      let b = take-one w (p + 1) (suc (suc (4 * n))) (omega arith)
-      ∙ ap (λ l. getD w (p + 1) 0 ∷ l) (ap (λ j. take (suc (suc (4 * n))) (drop j w)) two ∙ c) in
+      let four : p + 3 + 1 ≡ p + 4 = omega arith in
+      let next : p + 4 + 1 ≡ stopPlace w (suc k) = omega arith in
+      let rest = ap (λ j. take (5 * n) (drop j w)) next ∙ sym (stops-back (suc k) n (omega arith)) in
+      let e = take-one w (p + 4) (5 * n) (omega arith) ∙ ap (λ l. getD w (p + 4) 0 ∷ l) rest in
+      let d = take-one w (p + 3) (suc (5 * n)) (omega arith)
+      ∙ ap (λ l. getD w (p + 3) 0 ∷ l) (ap (λ j. take (suc (5 * n)) (drop j w)) four ∙ e) in
+      let c = take-one w (p + 2) (suc (suc (5 * n))) (omega arith)
+      ∙ ap (λ l. getD w (p + 2) 0 ∷ l) (ap (λ j. take (suc (suc (5 * n))) (drop j w)) three ∙ d) in
+      let b = take-one w (p + 1) (suc (suc (suc (5 * n)))) (omega arith)
+      ∙ ap (λ l. getD w (p + 1) 0 ∷ l) (ap (λ j. take (suc (suc (suc (5 * n)))) (drop j w)) two ∙ c) in
       sym
-      (ap (λ m. take m (drop p w)) four
-      ∙ take-one w p (suc (suc (suc (4 * n)))) (omega arith)
+      (ap (λ m. take m (drop p w)) five
+      ∙ take-one w p (suc (suc (suc (suc (5 * n))))) (omega arith)
       ∙ ap (λ l. getD w p 0 ∷ l) b)
 
   -- where the numbers begin
@@ -84,7 +87,7 @@ module _ (w : List ℕ) where
       ap (λ m. stationWords (map (stationAt w) (range 0 m))) all ∙ stations-back 0 n (omega arith)
 
   pub stops-part : (i n : ℕ) → i ≤ n → stopPlace w n ≤ length w
-      → stopWords (stopsAt w i n) ≡ take (4 * (n - i)) (drop (stopPlace w i) w)
+      → stopWords (stopsAt w i n) ≡ take (5 * (n - i)) (drop (stopPlace w i) w)
   unfolding between
   stops-part i n h g =
       let whole : i + (n - i) ≡ n = omega arith in

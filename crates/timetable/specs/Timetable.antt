@@ -1,8 +1,8 @@
 -- The abstract timetable: stations, trips and their stops. All later work speaks of this, never of words or bytes.
 -- Document 01: "Station: `S,station,change minutes,change penalty`", "Stop: `T,trip,stop,station,arrive,depart,ride
--- penalty`". Stations and the stops of a trip are numbered from 1, by their places in the lists; a trip has a number of
--- its own, and trips stand in rising number. Penalties are counted in points. A field that is empty in the text is 0
--- here: arrive at a trip's first stop, depart and points at its last.
+-- penalty`"; document 02, Two: "The mark is kept with the stop". Stations and the stops of a trip are numbered from 1,
+-- by their places in the lists; a trip has a number of its own, and trips stand in rising number. Penalties are counted
+-- in points. A field that is empty in the text is 0 here: arrive at a trip's first stop, depart and points at its last.
 use mathlib.Core.Bool.{Bool, true, false, not, _&&_}
 use mathlib.Core.List.{List, [], _∷_, _++_}
 use Prim.Native.Nat.{ℕ}
@@ -57,13 +57,17 @@ validStation s = leb (s .minutes) 240 && leb 1 (s .points) && leb (s .points) 10
 unfoldable pub listed : ℕ → Stop → Bool
 listed n s = leb 1 (s .station) && leb (s .station) n
 
+-- "0 both, 1 boarding only, 2 setting down only, any other number 3"
+abbrev pub marked : Stop → Bool
+marked s = leb (s .mark) 2
+
 -- a stop that the trip leaves again: "times 0 to 2,879", "ride penalty 0 to 100"
 unfoldable pub leaves : Stop → Bool
-leaves s = leb (s .depart) lastMinute && leb (s .points) 100
+leaves s = leb (s .depart) lastMinute && leb (s .points) 100 && marked s
 
 -- a stop that ends its trip: depart and ride penalty are empty
 unfoldable pub ends : Stop → Bool
-ends s = eqb (s .depart) 0 && eqb (s .points) 0
+ends s = eqb (s .depart) 0 && eqb (s .points) 0 && marked s
 
 -- stop s comes after stop b: "station listed, unlike the stop before, arrival after the previous departure"
 unfoldable pub follows : ℕ → Stop → Stop → Bool

@@ -13,7 +13,7 @@ unfolding stationWords
 length-stationWords [] = refl
 length-stationWords (s ∷ l) = omega (arith, length-stationWords l)
 
-pub length-stopWords : (l : List Stop) → length (stopWords l) ≡ 4 * length l
+pub length-stopWords : (l : List Stop) → length (stopWords l) ≡ 5 * length l
 unfolding stopWords
 length-stopWords [] = refl
 length-stopWords (s ∷ l) = omega (arith, length-stopWords l)
@@ -32,7 +32,7 @@ pub stopWords-append : (a b : List Stop) → stopWords (a ++ b) ≡ stopWords a 
 unfolding stopWords
 stopWords-append [] b = refl
 stopWords-append (s ∷ a) b =
-    ap (λ w. s .station ∷ s .arrive ∷ s .depart ∷ s .points ∷ w) (stopWords-append a b)
+    ap (λ w. s .station ∷ s .arrive ∷ s .depart ∷ s .points ∷ s .mark ∷ w) (stopWords-append a b)
 
 pub stopsOf-append : (a b : List Trip) → stopsOf (a ++ b) ≡ stopsOf a ++ stopsOf b
 stopsOf-append [] b = refl
@@ -68,9 +68,9 @@ module _
     abbrev front : List ℕ
     front = stationWords (t .stations) ++ stopWords (stopsOf (t .trips))
 
-    body-taken : take (2 * stations + 4 * stops) body ≡ front
+    body-taken : take (2 * stations + 5 * stops) body ≡ front
     body-taken =
-        let many : 2 * stations + 4 * stops ≡ length front =
+        let many : 2 * stations + 5 * stops ≡ length front =
         omega (
           arith,
           is-stations,

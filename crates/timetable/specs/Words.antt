@@ -1,6 +1,6 @@
 -- The words of a timetable (docs/LAYOUT.md): S, T, N; change minutes and penalty of each station; station, arrive,
--- depart and ride penalty of each stop, trip by trip; the place of each trip's first stop among all stops, and N; the
--- number of each trip.
+-- depart, ride penalty and mark of each stop, trip by trip; the place of each trip's first stop among all stops, and N;
+-- the number of each trip.
 use mathlib.Core.Bool.{Bool, _&&_}
 use mathlib.Core.List.{List, [], _∷_, _++_, map}
 use Prim.Native.Nat.{ℕ, _+_, _-_, _*_}
@@ -16,7 +16,7 @@ stationWords (s ∷ l) = s .minutes ∷ s .points ∷ stationWords l
 
 unfoldable pub stopWords : List Stop → List ℕ
 stopWords [] = []
-stopWords (s ∷ l) = s .station ∷ s .arrive ∷ s .depart ∷ s .points ∷ stopWords l
+stopWords (s ∷ l) = s .station ∷ s .arrive ∷ s .depart ∷ s .points ∷ s .mark ∷ stopWords l
 
 -- where each trip begins, k stops standing before the first, and where the last ends
 unfoldable pub startWords : ℕ → List Trip → List ℕ
@@ -37,7 +37,7 @@ joined stations trips stops body starts numbers =
     stations
     ∷ trips
     ∷ stops
-    ∷ (take (2 * stations + 4 * stops) body ++ take (trips + 1) starts ++ take trips numbers)
+    ∷ (take (2 * stations + 5 * stops) body ++ take (trips + 1) starts ++ take trips numbers)
 
 -- ---- the timetable that words spell
 abbrev pub stationCount : List ℕ → ℕ
@@ -53,18 +53,23 @@ stopCount w = getD w 2 0
 unfoldable pub stationAt : List ℕ → ℕ → Station
 stationAt w i = record { minutes = getD w (3 + 2 * i) 0; points = getD w (3 + 2 * i + 1) 0 }
 
+-- the stop whose words begin at place p
+unfoldable pub stopIn : List ℕ → (p : ℕ) → Stop
+stopIn w p =
+    record {
+      station = getD w p 0;
+      arrive = getD w (p + 1) 0;
+      depart = getD w (p + 2) 0;
+      points = getD w (p + 3) 0;
+      mark = getD w (p + 4) 0;
+    }
+
 -- where stop i's words begin, counted from 0 over all trips
 abbrev pub stopPlace : List ℕ → ℕ → ℕ
-stopPlace w i = 3 + 2 * stationCount w + 4 * i
+stopPlace w i = 3 + 2 * stationCount w + 5 * i
 
 unfoldable pub stopAt : List ℕ → ℕ → Stop
-stopAt w i =
-    record {
-      station = getD w (stopPlace w i) 0;
-      arrive = getD w (stopPlace w i + 1) 0;
-      depart = getD w (stopPlace w i + 2) 0;
-      points = getD w (stopPlace w i + 3) 0;
-    }
+stopAt w i = stopIn w (stopPlace w i)
 
 -- the place of trip k's first stop, trips counted from 0
 unfoldable pub startAt : List ℕ → ℕ → ℕ

@@ -1,4 +1,4 @@
--- "Timetable M" of document 01, on which its cases are worked.
+-- "Timetable M" of document 01, on which its cases are worked; document 02, Two: "M's T lines each gain a 0".
 use mathlib.Core.List.{[], _∷_}
 use Prim.Native.Nat.{ℕ}
 use Rattle.timetable.specs.Timetable.{Station, Stop, Timetable}
@@ -7,7 +7,7 @@ abbrev pub station : (minutes points : ℕ) → Station
 station m p = record { minutes = m; points = p }
 
 abbrev pub stop : (station arrive depart points : ℕ) → Stop
-stop s a d p = record { station = s; arrive = a; depart = d; points = p }
+stop s a d p = record { station = s; arrive = a; depart = d; points = p; mark = 0 }
 
 -- M, but for the change minutes at station 2 and the arrival of trip 2
 unfoldable pub variant : (change arrival : ℕ) → Timetable

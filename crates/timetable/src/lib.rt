@@ -22,6 +22,7 @@ ghost use Rattle.timetable.specs.Words.{
   tripCount,
   stopCount,
   stationAt,
+  stopIn,
   stopAt,
   startAt,
   numberAt,
@@ -40,7 +41,7 @@ pub const TRIPS_MOST: u32 = 256;
 pub const STOPS_MOST: u32 = 2048;
 
 // The words of all stations and stops, at the limits, the places where trips begin, and their numbers.
-pub const BODY_WORDS: usize = 2 * STATIONS_MOST as usize + 4 * STOPS_MOST as usize;
+pub const BODY_WORDS: usize = 2 * STATIONS_MOST as usize + 5 * STOPS_MOST as usize;
 
 pub const STARTS_WORDS: usize = TRIPS_MOST as usize + 1;
 
@@ -57,6 +58,8 @@ pub const LAST_MINUTE: u32 = 2879;
 
 const RIDE_PENALTY_MOST: u32 = 100;
 
+const MARK_MOST: u32 = 2;
+
 // A station: what a change there takes and costs.
 pub struct Station {
     pub minutes: u32,
@@ -64,12 +67,14 @@ pub struct Station {
 }
 
 // A stop of a trip. A field that is empty in the text is 0: arrive at a trip's first stop, depart and points at its
-// last. The points are those of the ride to the next stop.
+// last. The points are those of the ride to the next stop. The mark says who may use the stop: 0 who boards and who
+// alights, 1 who boards, 2 who alights.
 pub struct Stop {
     pub station: u32,
     pub arrive: u32,
     pub depart: u32,
     pub points: u32,
+    pub mark: u32,
 }
 
 // ---- the words of a timetable, of which the header's counts are within the limits
@@ -86,18 +91,27 @@ pub fn station_at(words: &[u16], i: usize) -> Station
     }
 }
 
-// Stop i, counted from 0 over all trips.
-pub fn stop_at(words: &[u16], i: usize) -> Stop
-    requires { ⌜ (16384 ≤ length (now words)) × (stationCount (now words) ≤ 64) × (i < 2048) ⌝ }
-    ensures { λ r. ⌜ r ≡ stopAt (now (words .entry)) i ⌝ }
+// The stop whose words begin at a place.
+fn stop_in(words: &[u16], place: usize) -> Stop
+    requires { ⌜ place + 5 ≤ length (now words) ⌝ }
+    ensures { λ r. ⌜ r ≡ stopIn (now (words .entry)) place ⌝ }
 {
-    let place = 3 + 2 * words::word(words, 0) as usize + 4 * i;
     Stop {
         station: words::word(words, place),
         arrive: words::word(words, place + 1),
         depart: words::word(words, place + 2),
         points: words::word(words, place + 3),
+        mark: words::word(words, place + 4),
     }
+}
+
+// Stop i, counted from 0 over all trips.
+pub fn stop_at(words: &[u16], i: usize) -> Stop
+    requires { ⌜ (16384 ≤ length (now words)) × (stationCount (now words) ≤ 64) × (i < 2048) ⌝ }
+    ensures { λ r. ⌜ r ≡ stopAt (now (words .entry)) i ⌝ }
+{
+    let place = 3 + 2 * words::word(words, 0) as usize + 5 * i;
+    stop_in(words, place)
 }
 
 // The place of the first stop of trip k, counted from 0, among all stops; of the trip past the last, their number.
@@ -109,7 +123,7 @@ pub fn start_at(words: &[u16], k: usize) -> usize
     ensures { λ r. ⌜ (r ≡ startAt (now (words .entry)) k) × (r < 65536) ⌝ }
 {
     let stops = 3 + 2 * words::word(words, 0) as usize;
-    let place = stops + 4 * words::word(words, 2) as usize + k;
+    let place = stops + 5 * words::word(words, 2) as usize + k;
     words::word(words, place) as usize
 }
 
@@ -123,14 +137,14 @@ pub fn number_at(words: &[u16], k: usize) -> u32
     ensures { λ r. ⌜ (r ≡ numberAt (now (words .entry)) k) × (r < 65536) ⌝ }
 {
     let stops = 3 + 2 * words::word(words, 0) as usize;
-    let starts = stops + 4 * words::word(words, 2) as usize;
+    let starts = stops + 5 * words::word(words, 2) as usize;
     let place = starts + (words::word(words, 1) as usize + 1) + k;
     words::word(words, place)
 }
 
 // Copies the words of all stations to the beginning of body.
 pub fn copy_stations(words: &[u16], body: &mut [u16])
-    requires { ⌜ (16384 ≤ length (now words)) × (stationCount (now words) ≤ 64) × (length (now body) ≡ 8320) ⌝ }
+    requires { ⌜ (16384 ≤ length (now words)) × (stationCount (now words) ≤ 64) × (length (now body) ≡ 10368) ⌝ }
     ensures { λ _. ⌜ now (body .exit)
         ≡ put 0 (stationWords (stationsAt (now (words .entry)) 0 (stationCount (now (words .entry)))))
         (now (body .entry)) ⌝ }
@@ -148,14 +162,14 @@ pub fn copy_stops(words: &[u16], first: usize, end: usize, body: &mut [u16], at:
         × (stationCount (now words) ≤ 64)
         × (first ≤ end)
         × (end ≤ 2048)
-        × (length (now body) ≡ 8320)
-        × (at + 4 * (end - first) ≤ 8320) ⌝ }
+        × (length (now body) ≡ 10368)
+        × (at + 5 * (end - first) ≤ 10368) ⌝ }
     ensures { λ _. ⌜ now (body .exit)
         ≡ put at (stopWords (stopsAt (now (words .entry)) first end)) (now (body .entry)) ⌝ }
     ensures { λ _. ⌜ length (now (body .exit)) ≡ length (now (body .entry)) ⌝ }
 {
-    let count = 4 * (end - first);
-    let from = 3 + 2 * words::word(words, 0) as usize + 4 * first;
+    let count = 5 * (end - first);
+    let from = 3 + 2 * words::word(words, 0) as usize + 5 * first;
     let part = &words[from..from + count];
     words::copy(body, at, part, count);
 }
@@ -176,7 +190,7 @@ pub fn copy_numbers(words: &[u16], first: usize, end: usize, numbers: &mut [u16]
 {
     let count = end - first;
     let stops = 3 + 2 * words::word(words, 0) as usize;
-    let starts = stops + 4 * words::word(words, 2) as usize;
+    let starts = stops + 5 * words::word(words, 2) as usize;
     let from = starts + (words::word(words, 1) as usize + 1) + first;
     let part = &words[from..from + count];
     words::copy(numbers, at, part, count);
@@ -197,7 +211,7 @@ pub fn write_words(
         × (trips ≤ 256)
         × (stops ≤ 2048)
         × (16384 ≤ length (now timetable))
-        × (length (now body) ≡ 8320)
+        × (length (now body) ≡ 10368)
         × (length (now starts) ≡ 257)
         × (length (now numbers) ≡ 256) ⌝ }
     ensures { λ _. ⌜ now (timetable .exit)
@@ -205,7 +219,7 @@ pub fn write_words(
         (now (timetable .entry)) ⌝ }
     ensures { λ _. ⌜ length (now (timetable .exit)) ≡ length (now (timetable .entry)) ⌝ }
 {
-    let body_length = 2 * stations + 4 * stops;
+    let body_length = 2 * stations + 5 * stops;
     let starts_at = 3 + body_length;
     let starts_length = trips + 1;
     words::put_three(timetable, 0, stations as u32, trips as u32, stops as u32);
@@ -244,7 +258,10 @@ fn stop_leaves(s: Stop) -> bool
     if LAST_MINUTE < s.depart {
         return false;
     }
-    s.points <= RIDE_PENALTY_MOST
+    if RIDE_PENALTY_MOST < s.points {
+        return false;
+    }
+    s.mark <= MARK_MOST
 }
 
 fn stop_ends(s: Stop) -> bool
@@ -253,7 +270,10 @@ fn stop_ends(s: Stop) -> bool
     if s.depart != 0 {
         return false;
     }
-    s.points == 0
+    if s.points != 0 {
+        return false;
+    }
+    s.mark <= MARK_MOST
 }
 
 // Stop s can come after stop b.

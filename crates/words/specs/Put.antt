@@ -71,11 +71,18 @@ pub put-three : (at : ℕ) (old : List ℕ) (a b c : ℕ) → at + 3 ≤ length 
 put-three at old a b c h =
     rw (put-two at old a b (omega arith)) (put-more at 2 (a ∷ b ∷ []) old c refl (omega arith))
 
-pub put-four : (at : ℕ) (old : List ℕ) (a b c d : ℕ) → at + 4 ≤ length old
+put-four : (at : ℕ) (old : List ℕ) (a b c d : ℕ) → at + 4 ≤ length old
     → set (set (set (set old at a) (at + 1) b) (at + 2) c) (at + 3) d ≡ put at (a ∷ b ∷ c ∷ d ∷ []) old
 put-four at old a b c d h =
     rw (put-three at old a b c (omega arith))
     (put-more at 3 (a ∷ b ∷ c ∷ []) old d refl (omega arith))
+
+pub put-five : (at : ℕ) (old : List ℕ) (a b c d e : ℕ) → at + 5 ≤ length old
+    → set (set (set (set (set old at a) (at + 1) b) (at + 2) c) (at + 3) d) (at + 4) e
+    ≡ put at (a ∷ b ∷ c ∷ d ∷ e ∷ []) old
+put-five at old a b c d e h =
+    rw (put-four at old a b c d (omega arith))
+    (put-more at 4 (a ∷ b ∷ c ∷ d ∷ []) old e refl (omega arith))
 
 -- more words, just past what was put
 pub put-append : (at n : ℕ) (a b old : List ℕ) → length a ≡ n → at + n ≤ length old

@@ -85,14 +85,20 @@ pub fn put_three(dst: &mut [u16], at: usize, a: u32, b: u32, c: u32)
     dst[at + 2] = c as u16;
 }
 
-// Writes four numbers as words, from index at on.
-pub fn put_four(dst: &mut [u16], at: usize, a: u32, b: u32, c: u32, d: u32)
-    requires { ⌜ (at + 4 ≤ length (now dst)) × (a < 65536) × (b < 65536) × (c < 65536) × (d < 65536) ⌝ }
-    ensures { λ _. ⌜ now (dst .exit) ≡ put at (a ∷ b ∷ c ∷ d ∷ []) (now (dst .entry)) ⌝ }
+// Writes five numbers as words, from index at on.
+pub fn put_five(dst: &mut [u16], at: usize, a: u32, b: u32, c: u32, d: u32, e: u32)
+    requires { ⌜ (at + 5 ≤ length (now dst))
+        × (a < 65536)
+        × (b < 65536)
+        × (c < 65536)
+        × (d < 65536)
+        × (e < 65536) ⌝ }
+    ensures { λ _. ⌜ now (dst .exit) ≡ put at (a ∷ b ∷ c ∷ d ∷ e ∷ []) (now (dst .entry)) ⌝ }
     ensures { λ _. ⌜ length (now (dst .exit)) ≡ length (now (dst .entry)) ⌝ }
 {
     dst[at] = a as u16;
     dst[at + 1] = b as u16;
     dst[at + 2] = c as u16;
     dst[at + 3] = d as u16;
+    dst[at + 4] = e as u16;
 }

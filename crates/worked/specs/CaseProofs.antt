@@ -13,7 +13,7 @@ use Rattle.timetable.specs.Worked.{variant, M}
 use Rattle.reading.specs.Reading.{Accepted, reading, readReply, readWords}
 use Rattle.accepted.specs.Cases.{bytes, readAll, textM, M-accepted, M-words, case-k}
 use Rattle.results.specs.Results.{dominates, equal, entries, result}
-use Rattle.connections.specs.Rides.{ridePoints, ridesOf}
+use Rattle.connections.specs.Rides.{mayBoard, mayAlight, ridePoints, ridesOf}
 use Rattle.connections.specs.Connections.{net, changesOf}
 use Rattle.connections.specs.Planner.{tieKey, rowsOf}
 use Rattle.connections.specs.Worked.{oneRide, twoRides, case-a, case-a-none, case-g, case-h}
@@ -67,7 +67,7 @@ three-stations = refl
 lines-M : lineCount M ≡ 2
 lines-M = sym (length-map (lines (M .trips)) (map (numberOf M))) ∙ ap length case-e
 
-words-long : length (words M) ≡ 44
+words-long : length (words M) ≡ 51
 words-long = ap length M-words
 
 tables-long : length (tableWords M) ≡ 56
@@ -92,15 +92,17 @@ tables-long = refl
 
 -- ---- direct rides
 direct-g : directRows (net M) 2 501 3 ≡ oneRide 14 0 3 1 2 ∷ []
-unfolding M variant ridesOf ridePoints changesOf directRows directs entries result dominates equal rowsOf tieKey
+unfolding M variant ridesOf mayBoard mayAlight ridePoints changesOf directRows directs entries result dominates equal
+    rowsOf tieKey
 direct-g = refl
 
 direct-h : directRows (net M) 2 503 3 ≡ oneRide 17 0 2 1 2 ∷ []
-unfolding M variant ridesOf ridePoints changesOf directRows directs entries result dominates equal rowsOf tieKey
+unfolding M variant ridesOf mayBoard mayAlight ridePoints changesOf directRows directs entries result dominates equal
+    rowsOf tieKey
 direct-h = refl
 
 direct-none : directs (net M) 1 481 3 ≡ []
-unfolding M variant ridesOf ridePoints changesOf directs
+unfolding M variant ridesOf mayBoard mayAlight ridePoints changesOf directs
 direct-none = refl
 
 -- ---- the calls on M
@@ -159,7 +161,7 @@ module _ (s : Slices) where
       trips-handed s textM M 10 2 known-M line h (omega (arith, lines-M))
       ∙ ap (λ l. getD l (line - 1) []) case-e
 
-  words-m : timetableAfter s textM ≡ words M ++ drop 44 (s .timetable)
+  words-m : timetableAfter s textM ≡ words M ++ drop 51 (s .timetable)
   words-m = read-writes s textM M 10 2 known-M ∙ ap (λ k. words M ++ drop k (s .timetable)) words-long
 
   words-e : tablesAfter s textM ≡ tableWords M ++ drop 56 (s .tables)

@@ -38,15 +38,15 @@ textWith change arrival =
     bytes "S,1,2,10\nS,2,"
     ++ bytes change
     ++ bytes ",10\nS,3,5,10\n"
-    ++ bytes "T,1,1,1,,08:00,0\nT,1,2,2,08:20,08:21,0\nT,1,3,3,09:20,,\n"
-    ++ bytes "T,2,1,2,,08:23,0\nT,2,2,3,"
+    ++ bytes "T,1,1,1,,08:00,0,0\nT,1,2,2,08:20,08:21,0,0\nT,1,3,3,09:20,,,0\n"
+    ++ bytes "T,2,1,2,,08:23,0,0\nT,2,2,3,"
     ++ bytes arrival
-    ++ bytes ",,\nT,3,1,2,,08:22,0\nT,3,2,3,08:35,,\n"
+    ++ bytes ",,,0\nT,3,1,2,,08:22,0,0\nT,3,2,3,08:35,,,0\n"
 
 pub record Cases (s : Slices) : Type 0 where
   -- "Timetable M": 10 lines. "Words past a result keep their values", here and below.
   pub m : read s textM ≡ returned 0 10
-  pub m-words : timetableAfter s textM ≡ words M ++ drop 44 (s .timetable)
+  pub m-words : timetableAfter s textM ≡ words M ++ drop 51 (s .timetable)
   pub m-with : textWith "3" "08:40" ≡ textM
   -- "(a) The two queries above.": `Q,1,3,470,2` with its rows, and `N,1,3,481,14`, each from the store of 1
   pub a : asked s textM 1 3 470 ≡ returned 0 2

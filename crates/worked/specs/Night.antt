@@ -20,12 +20,12 @@ use Rattle.worked.specs.Calls.{Stores, Shows, ShowsNone, IllMade, Asks, 
 unfoldable pub textNight : List ℕ
 textNight =
     bytes "S,1,1,5\nS,2,7,27\nS,3,4,33\nS,4,3,29\nS,5,2,6\n"
-    ++ bytes "T,1,1,4,,00:50,12\nT,1,2,1,00:52,00:55,14\nT,1,3,4,00:58,01:00,19\nT,1,4,5,01:04,,\n"
-    ++ bytes "T,2,1,1,,00:53,8\nT,2,2,5,00:57,01:06,23\nT,2,3,3,01:10,,\n"
-    ++ bytes "T,3,1,2,,00:44,21\nT,3,2,4,00:47,00:48,10\nT,3,3,1,00:54,,\n"
-    ++ bytes "T,4,1,1,,00:53,31\nT,4,2,3,01:10,,\n"
-    ++ bytes "T,5,1,5,,00:59,17\nT,5,2,3,01:10,,\n"
-    ++ bytes "T,6,1,5,,01:05,17\nT,6,2,3,01:10,,\n"
+    ++ bytes "T,1,1,4,,00:50,12,0\nT,1,2,1,00:52,00:55,14,0\nT,1,3,4,00:58,01:00,19,0\nT,1,4,5,01:04,,,0\n"
+    ++ bytes "T,2,1,1,,00:53,8,0\nT,2,2,5,00:57,01:06,23,0\nT,2,3,3,01:10,,,0\n"
+    ++ bytes "T,3,1,2,,00:44,21,0\nT,3,2,4,00:47,00:48,10,0\nT,3,3,1,00:54,,,0\n"
+    ++ bytes "T,4,1,1,,00:53,31,0\nT,4,2,3,01:10,,,0\n"
+    ++ bytes "T,5,1,5,,00:59,17,0\nT,5,2,3,01:10,,,0\n"
+    ++ bytes "T,6,1,5,,01:05,17,0\nT,6,2,3,01:10,,,0\n"
 
 -- the timetable that it is read to
 unfoldable pub night : Timetable
@@ -49,12 +49,12 @@ abbrev pub nightWords : List ℕ
 nightWords =
     (5 ∷ 6 ∷ 16 ∷ [])
     ++ (1 ∷ 5 ∷ 7 ∷ 27 ∷ 4 ∷ 33 ∷ 3 ∷ 29 ∷ 2 ∷ 6 ∷ [])
-    ++ (4 ∷ 0 ∷ 50 ∷ 12 ∷ 1 ∷ 52 ∷ 55 ∷ 14 ∷ 4 ∷ 58 ∷ 60 ∷ 19 ∷ 5 ∷ 64 ∷ 0 ∷ 0 ∷ [])
-    ++ (1 ∷ 0 ∷ 53 ∷ 8 ∷ 5 ∷ 57 ∷ 66 ∷ 23 ∷ 3 ∷ 70 ∷ 0 ∷ 0 ∷ [])
-    ++ (2 ∷ 0 ∷ 44 ∷ 21 ∷ 4 ∷ 47 ∷ 48 ∷ 10 ∷ 1 ∷ 54 ∷ 0 ∷ 0 ∷ [])
-    ++ (1 ∷ 0 ∷ 53 ∷ 31 ∷ 3 ∷ 70 ∷ 0 ∷ 0 ∷ [])
-    ++ (5 ∷ 0 ∷ 59 ∷ 17 ∷ 3 ∷ 70 ∷ 0 ∷ 0 ∷ [])
-    ++ (5 ∷ 0 ∷ 65 ∷ 17 ∷ 3 ∷ 70 ∷ 0 ∷ 0 ∷ [])
+    ++ (4 ∷ 0 ∷ 50 ∷ 12 ∷ 0 ∷ 1 ∷ 52 ∷ 55 ∷ 14 ∷ 0 ∷ 4 ∷ 58 ∷ 60 ∷ 19 ∷ 0 ∷ 5 ∷ 64 ∷ 0 ∷ 0 ∷ 0 ∷ [])
+    ++ (1 ∷ 0 ∷ 53 ∷ 8 ∷ 0 ∷ 5 ∷ 57 ∷ 66 ∷ 23 ∷ 0 ∷ 3 ∷ 70 ∷ 0 ∷ 0 ∷ 0 ∷ [])
+    ++ (2 ∷ 0 ∷ 44 ∷ 21 ∷ 0 ∷ 4 ∷ 47 ∷ 48 ∷ 10 ∷ 0 ∷ 1 ∷ 54 ∷ 0 ∷ 0 ∷ 0 ∷ [])
+    ++ (1 ∷ 0 ∷ 53 ∷ 31 ∷ 0 ∷ 3 ∷ 70 ∷ 0 ∷ 0 ∷ 0 ∷ [])
+    ++ (5 ∷ 0 ∷ 59 ∷ 17 ∷ 0 ∷ 3 ∷ 70 ∷ 0 ∷ 0 ∷ 0 ∷ [])
+    ++ (5 ∷ 0 ∷ 65 ∷ 17 ∷ 0 ∷ 3 ∷ 70 ∷ 0 ∷ 0 ∷ 0 ∷ [])
     ++ (0 ∷ 4 ∷ 7 ∷ 10 ∷ 12 ∷ 14 ∷ 16 ∷ [])
     ++ (1 ∷ 2 ∷ 3 ∷ 4 ∷ 5 ∷ 6 ∷ [])
 
@@ -83,7 +83,7 @@ threeRides d p t x y t′ x′ y′ t″ x″ y″ = d ∷ p ∷ 3 ∷ t ∷ x �
 pub record NightCases (s : Slices) : Type 0 where
   -- ---- reading, building line tables, and the trips of each line
   pub text : read s textNight ≡ returned 0 21
-  pub text-words : timetableAfter s textNight ≡ nightWords ++ drop 90 (s .timetable)
+  pub text-words : timetableAfter s textNight ≡ nightWords ++ drop 106 (s .timetable)
   pub tables : built s textNight ≡ returned 0 5
   pub tables-words : tablesAfter s textNight ≡ nightTables ++ drop 133 (s .tables)
   pub line-1 : tripsOf s textNight 1 ≡ 3 ∷ []

@@ -10,7 +10,7 @@ use Rattle.timetable.specs.Words.{stationWords, stopWords, startWords, words}
 use Rattle.reading.specs.Reading.{Accepted, reading}
 use Rattle.accepted.specs.Cases.{bytes, readAll}
 use Rattle.results.specs.Results.{dominates, equal, entries, result}
-use Rattle.connections.specs.Rides.{ridePoints, ridesOf}
+use Rattle.connections.specs.Rides.{mayBoard, mayAlight, ridePoints, ridesOf}
 use Rattle.connections.specs.Connections.{net, changesOf}
 use Rattle.connections.specs.Planner.{connections, plannerList, tieKey, rowsOf}
 use Rattle.connections.specs.Worked.{planned, oneRide, twoRides}
@@ -59,99 +59,111 @@ night-tables = refl
 -- ---- the stores
 pub stored-1 : storeWords (net night) 1
     ≡ 1 ∷ 4 ∷ 5 ∷ 0 ∷ 3 ∷ 0 ∷ 3 ∷ 1 ∷ 4 ∷ 0 ∷ 5 ∷ 0 ∷ []
-unfolding night ridesOf ridePoints changesOf plannerList connections dominates
+unfolding night ridesOf mayBoard mayAlight ridePoints changesOf plannerList connections dominates
     stored storeWords encode nodes arcs optimalStations optimals
 stored-1 = refl
 
 pub stored-2 : storeWords (net night) 2
     ≡ 6 ∷ 10 ∷ (1 ∷ 0 ∷ 4 ∷ 0 ∷ 5 ∷ 1 ∷ 1 ∷ 2 ∷ 5 ∷ 2 ∷ 5 ∷ 4 ∷ [])
     ++ (1 ∷ 0 ∷ 1 ∷ 2 ∷ 3 ∷ 3 ∷ 3 ∷ 4 ∷ 3 ∷ 5 ∷ 3 ∷ 6 ∷ 4 ∷ 0 ∷ 5 ∷ 1 ∷ 5 ∷ 2 ∷ 5 ∷ 4 ∷ [])
-unfolding night ridesOf ridePoints changesOf plannerList connections dominates
+unfolding night ridesOf mayBoard mayAlight ridePoints changesOf plannerList connections dominates
     stored storeWords encode nodes arcs optimalStations optimals
 stored-2 = refl
 
 pub stored-3 : storeWords (net night) 3
     ≡ 0 ∷ 0 ∷ []
-unfolding night ridesOf ridePoints changesOf plannerList connections dominates
+unfolding night ridesOf mayBoard mayAlight ridePoints changesOf plannerList connections dominates
     stored storeWords encode nodes arcs optimalStations optimals
 stored-3 = refl
 
 pub stored-4 : storeWords (net night) 4
     ≡ 3 ∷ 6 ∷ 1 ∷ 0 ∷ 5 ∷ 0 ∷ 5 ∷ 1 ∷ 1 ∷ 0 ∷ 3 ∷ 1 ∷ 3 ∷ 2 ∷ 3 ∷ 3 ∷ 5 ∷ 0 ∷ 5 ∷ 1 ∷ []
-unfolding night ridesOf ridePoints changesOf plannerList connections dominates
+unfolding night ridesOf mayBoard mayAlight ridePoints changesOf plannerList connections dominates
     stored storeWords encode nodes arcs optimalStations optimals
 stored-4 = refl
 
 pub stored-5 : storeWords (net night) 5
     ≡ 0 ∷ 1 ∷ 3 ∷ 0 ∷ []
-unfolding night ridesOf ridePoints changesOf plannerList connections dominates
+unfolding night ridesOf mayBoard mayAlight ridePoints changesOf plannerList connections dominates
     stored storeWords encode nodes arcs optimalStations optimals
 stored-5 = refl
 
 -- ---- the planner's rows
 pub rows-4-3 : planned night 4 40 3 ≡ twoRides 30 48 1 3 4 2 2 3 ∷ []
-unfolding night ridesOf ridePoints changesOf plannerList connections entries result dominates equal rowsOf tieKey
+unfolding night ridesOf mayBoard mayAlight ridePoints changesOf plannerList connections entries result dominates equal
+    rowsOf tieKey
 rows-4-3 = refl
 
 pub rows-1-3 : planned night 1 40 3 ≡ oneRide 30 31 2 1 3 ∷ []
-unfolding night ridesOf ridePoints changesOf plannerList connections entries result dominates equal rowsOf tieKey
+unfolding night ridesOf mayBoard mayAlight ridePoints changesOf plannerList connections entries result dominates equal
+    rowsOf tieKey
 rows-1-3 = refl
 
 pub rows-2-3 : planned night 2 40 3 ≡ threeRides 30 98 3 1 2 1 1 2 2 1 3 ∷ []
-unfolding night ridesOf ridePoints changesOf plannerList connections entries result dominates equal rowsOf tieKey
+unfolding night ridesOf mayBoard mayAlight ridePoints changesOf plannerList connections entries result dominates equal
+    rowsOf tieKey
 rows-2-3 = refl
 
 pub rows-2-5 : planned night 2 40 5 ≡ threeRides 17 75 3 1 2 1 1 2 2 1 2 ∷ twoRides 24 69 3 1 2 1 3 4 ∷ []
-unfolding night ridesOf ridePoints changesOf plannerList connections entries result dominates equal rowsOf tieKey
+unfolding night ridesOf mayBoard mayAlight ridePoints changesOf plannerList connections entries result dominates equal
+    rowsOf tieKey
 rows-2-5 = refl
 
 pub rows-2-1 : planned night 2 40 1 ≡ twoRides 12 62 3 1 2 1 1 2 ∷ oneRide 14 31 3 1 3 ∷ []
-unfolding night ridesOf ridePoints changesOf plannerList connections entries result dominates equal rowsOf tieKey
+unfolding night ridesOf mayBoard mayAlight ridePoints changesOf plannerList connections entries result dominates equal
+    rowsOf tieKey
 rows-2-1 = refl
 
 pub rows-4-5 : planned night 4 40 5 ≡ twoRides 17 25 1 1 2 2 1 2 ∷ oneRide 24 19 1 3 4 ∷ []
-unfolding night ridesOf ridePoints changesOf plannerList connections entries result dominates equal rowsOf tieKey
+unfolding night ridesOf mayBoard mayAlight ridePoints changesOf plannerList connections entries result dominates equal
+    rowsOf tieKey
 rows-4-5 = refl
 
 pub rows-1-3-at-54 : planned night 1 54 3 ≡ twoRides 16 62 1 2 4 2 2 3 ∷ []
-unfolding night ridesOf ridePoints changesOf plannerList connections entries result dominates equal rowsOf tieKey
+unfolding night ridesOf mayBoard mayAlight ridePoints changesOf plannerList connections entries result dominates equal
+    rowsOf tieKey
 rows-1-3-at-54 = refl
 
 pub rows-5-3-at-66 : planned night 5 66 3 ≡ oneRide 4 23 2 2 3 ∷ []
-unfolding night ridesOf ridePoints changesOf plannerList connections entries result dominates equal rowsOf tieKey
+unfolding night ridesOf mayBoard mayAlight ridePoints changesOf plannerList connections entries result dominates equal
+    rowsOf tieKey
 rows-5-3-at-66 = refl
 
 pub none-2-3 : plannerList (net night) 2 45 3 ≡ []
-unfolding night ridesOf ridePoints changesOf plannerList connections
+unfolding night ridesOf mayBoard mayAlight ridePoints changesOf plannerList connections
 none-2-3 = refl
 
 pub none-3-5 : plannerList (net night) 3 40 5 ≡ []
-unfolding night ridesOf ridePoints changesOf plannerList connections
+unfolding night ridesOf mayBoard mayAlight ridePoints changesOf plannerList connections
 none-3-5 = refl
 
 -- ---- the direct rides
 pub rides-5-3 : directRows (net night) 5 40 3 ≡ oneRide 30 17 6 1 2 ∷ []
-unfolding night ridesOf ridePoints changesOf directRows directs entries result dominates equal rowsOf tieKey
+unfolding night ridesOf mayBoard mayAlight ridePoints changesOf directRows directs entries result dominates equal
+    rowsOf tieKey
 rides-5-3 = refl
 
 pub rides-1-3 : directRows (net night) 1 40 3 ≡ oneRide 30 31 2 1 3 ∷ []
-unfolding night ridesOf ridePoints changesOf directRows directs entries result dominates equal rowsOf tieKey
+unfolding night ridesOf mayBoard mayAlight ridePoints changesOf directRows directs entries result dominates equal
+    rowsOf tieKey
 rides-1-3 = refl
 
 pub rides-4-5 : directRows (net night) 4 40 5 ≡ oneRide 24 19 1 3 4 ∷ []
-unfolding night ridesOf ridePoints changesOf directRows directs entries result dominates equal rowsOf tieKey
+unfolding night ridesOf mayBoard mayAlight ridePoints changesOf directRows directs entries result dominates equal
+    rowsOf tieKey
 rides-4-5 = refl
 
 pub rides-4-1 : directRows (net night) 4 40 1 ≡ oneRide 12 12 1 1 2 ∷ oneRide 14 10 3 2 3 ∷ []
-unfolding night ridesOf ridePoints changesOf directRows directs entries result dominates equal rowsOf tieKey
+unfolding night ridesOf mayBoard mayAlight ridePoints changesOf directRows directs entries result dominates equal
+    rowsOf tieKey
 rides-4-1 = refl
 
 pub no-rides-2-3 : directs (net night) 2 40 3 ≡ []
-unfolding night ridesOf ridePoints changesOf directs
+unfolding night ridesOf mayBoard mayAlight ridePoints changesOf directs
 no-rides-2-3 = refl
 
 pub no-rides-1-3 : directs (net night) 1 54 3 ≡ []
-unfolding night ridesOf ridePoints changesOf directs
+unfolding night ridesOf mayBoard mayAlight ridePoints changesOf directs
 no-rides-1-3 = refl
 
 -- ---- from other stores: no word behind them is read
@@ -171,17 +183,17 @@ module _ (post : List ℕ) where
   well-by-5 = rw (le-leb 6 (length by-5) (omega arith))
 
   pub kept-by-1-5 : answer (net night) by-1-5 2 40 3 ≡ threeRides 30 98 3 1 3 1 2 4 2 2 3 ∷ []
-  unfolding night ridesOf ridePoints changesOf plannerList connections entries result dominates equal rowsOf tieKey
-      answer keptList readable
+  unfolding night ridesOf mayBoard mayAlight ridePoints changesOf plannerList connections entries result dominates
+      equal rowsOf tieKey answer keptList readable
   kept-by-1-5 = refl
 
   pub none-by-1-5 : keptList (net night) by-1-5 2 40 5 ≡ []
-  unfolding night ridesOf ridePoints changesOf plannerList connections keptList readable
+  unfolding night ridesOf mayBoard mayAlight ridePoints changesOf plannerList connections keptList readable
   none-by-1-5 = refl
 
   pub kept-by-5 : answer (net night) by-5 1 40 3 ≡ twoRides 30 31 2 1 2 5 1 2 ∷ []
-  unfolding night ridesOf ridePoints changesOf plannerList connections entries result dominates equal rowsOf tieKey
-      answer keptList readable
+  unfolding night ridesOf mayBoard mayAlight ridePoints changesOf plannerList connections entries result dominates
+      equal rowsOf tieKey answer keptList readable
   kept-by-5 = refl
 
   pub ill-6 : wellMade (length (night .stations)) (0 ∷ 1 ∷ 6 ∷ 0 ∷ post) ≡ false

@@ -32,11 +32,11 @@ returns c =
     let told = entry .pre .1 .0 .0 in (
       drawn-written (a .v .now) (peeked .peek .result) (a .trips) (trips .draw-trips .result)
           (peeked .peek .ensures .0) (trips .draw-trips .ensures .1 .1 .1) (a .numbers .now) told
-          (omega (arith, entry .pre .1 .0 .1, entry .pre .1 .0 .2)) (replicate 8320 0)
+          (omega (arith, entry .pre .1 .0 .1, entry .pre .1 .0 .2)) (replicate 10368 0)
           (stations .draw-stations .last .0) (trips .draw-trips .last .1 .1 .1 .1 .0) (replicate 257 0)
           (trips .draw-trips .last .1 .1 .1 .1 .1 .1 .0) (a .out .now) (write .write-words .last .0)
           (stops-room (a .v .now) (entry .pre .0 .0) (a .trips) few (peeked .peek .result) (peeked .peek .ensures .0)
-          (replicate 8320 0) (length-replicate {A = ℕ} 8320 0)) (stations .draw-stations .ensures .0)
+          (replicate 10368 0) (length-replicate {A = ℕ} 10368 0)) (stations .draw-stations .ensures .0)
           (trips .draw-trips .ensures .0) (trips .draw-trips .ensures .1 .0) (write .write-words .ensures .0),
       search needs,
     )

@@ -1,4 +1,4 @@
--- Four words, three of them looked up.
+-- Five words, four of them looked up.
 use borrow.Author.Needs.{needs}
 use Rattle.lines_alone.proofs.DrawLaws.{stop-drawn}
 use Rattle.lines_alone.proofs.draw_stop.Statement.{statement}
@@ -8,6 +8,8 @@ pub draw-stop-spec : {M : Type 1} → statement M
 draw-stop-spec =
     tie.close
     (tie.spec
+    (λ c. search needs)
+    (λ c. search needs)
     (λ c. search needs)
     (λ c. search needs)
     (λ c. search needs)

@@ -8,7 +8,8 @@ use Rattle.words.specs.Put.{put, put-none}
 use Rattle.lists.specs.Lists.{range}
 use Rattle.timetable.specs.Words.{stopWords}
 use Rattle.lines_lookup.specs.Lookup.{lowAt}
-use Rattle.lines_alone.proofs.DrawLaws.{stopOnward, stop-more, last-stop, stops-none}
+use Rattle.lines_alone.specs.Drawn.{stopOn}
+use Rattle.lines_alone.proofs.DrawLaws.{stop-more, stops-done}
 use Rattle.lines_alone.proofs.draw_trip.Statement.{statement}
 use Rattle.lines_alone.proofs.draw_trip.Tie as tie
 
@@ -18,7 +19,7 @@ Inv-loop v home body₀ at line here₀ p₀ body here p =
     × (length body ≡ length body₀)
     × (here < 65536)
     × (here ≡ lowAt v (home .line) p)
-    × (body ≡ put at (stopWords (map (stopOnward v home) (range 0 p))) body₀)
+    × (body ≡ put at (stopWords (map (stopOn v home) (range 0 p))) body₀)
 
 abbrev μ-loop : tie.MeasureT-loop
 μ-loop v home body₀ at line here₀ p₀ body here p = (home .line) .positions - p
@@ -46,13 +47,7 @@ draw-trip-spec =
     (λ c. search needs)
     (λ c. search needs)
     (λ c. search needs)
+    (λ c. search needs)
     loop-again
     (λ c. search needs)
-    (λ c. search needs)
-    (λ c. search needs)
-    (λ c. search needs)
-    (λ c. search needs)
-    (λ c. search needs)
-    (λ c. (search last-stop, search needs))
-    (λ c. search needs)
-    (λ c. (search stops-none, search needs)))
+    (λ c. (search stops-done, search needs)))

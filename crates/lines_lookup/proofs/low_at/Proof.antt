@@ -1,4 +1,4 @@
--- The word after the station's.
+-- The word after that of station and mark.
 use borrow.Author.Needs.{needs}
 use Rattle.lines_lookup.specs.Lookup.{lowAt}
 use Rattle.lines_lookup.proofs.low_at.Statement.{statement}

@@ -1,4 +1,4 @@
--- The two words after the station's.
+-- The two words after that of station and mark.
 use borrow.Author.Needs.{needs}
 use Rattle.lines_lookup.proofs.LookupLaws.{total-is}
 use Rattle.lines_lookup.proofs.total_at.Statement.{statement}

@@ -1,9 +1,7 @@
--- The questions 3 to 6, in document 01's order: nine ways out, each a law of `stopNumberAt`.
+-- The questions 3 to 6, in document 01's order: seven ways out, each a law of `stopNumberAt`.
 use borrow.Author.Needs.{needs}
 use Rattle.reading.proofs.NumberLaws.{
-  arrive-refused,
-  depart-refused,
-  ride-refused,
+  out-of-range,
   other-trip,
   other-stop,
   trips-full,
@@ -19,11 +17,7 @@ stop-number-spec =
     tie.close
     (tie.spec
     (λ c. search needs)
-    (λ c. search arrive-refused)
-    (λ c. search needs)
-    (λ c. search depart-refused)
-    (λ c. search needs)
-    (λ c. search ride-refused)
+    (λ c. search out-of-range)
     (λ c. search needs)
     (λ c. search needs)
     (λ c. search other-trip)

@@ -6,6 +6,7 @@ use Rattle.reading.proofs.YesLaws.{
   arrive-word,
   depart-word,
   ride-word,
+  mark-word,
   trips-below,
   stops-below,
 }
@@ -29,7 +30,14 @@ take-stop-spec =
     (λ c. search needs)
     (λ c. search needs)
     (λ c. search needs)
-    (λ c κs. (search stop-room, search station-word, search arrive-word, search depart-word, search ride-word))
+    (λ c κs. (
+      search stop-room,
+      search station-word,
+      search arrive-word,
+      search depart-word,
+      search ride-word,
+      search mark-word,
+    ))
     (λ c κs. (search trips-below, search stops-below, search needs))
     (λ c. search needs)
     (λ c. search needs)

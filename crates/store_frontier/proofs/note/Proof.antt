@@ -1,4 +1,4 @@
--- The highest is the larger of what stood there and the bound.
+-- The highest is the larger of what stood there and the bound of one who boards.
 use borrow.Author.Needs.{needs}
 use Rattle.store_frontier.proofs.PassLaws.{noted}
 use Rattle.store_frontier.proofs.note.Statement.{statement}
@@ -8,6 +8,8 @@ pub note-spec : {M : Type 1} → statement M
 note-spec =
     tie.close
     (tie.spec
+    (λ c. search needs)
+    (λ c κs. search needs)
     (λ c κs. search needs)
     (λ c κs. search needs)
     (λ c κs. search needs)

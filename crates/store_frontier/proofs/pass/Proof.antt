@@ -34,7 +34,6 @@ pass-spec =
       search needs,
       search next-caught,
     ))
-    (λ c. search needs)
     (λ c κs. (search inside, search inside, search inside-high))
     (λ c. search needs)
     (λ c. search needs)

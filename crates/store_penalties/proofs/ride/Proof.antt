@@ -22,6 +22,7 @@ ride-spec =
     tie.close
     (tie.spec
     (λ c. search needs)
+    (λ c. search needs)
     (λ c κs. (search read-at, search read-at, search read-low))
     (λ c. search needs)
     (λ c. search needs)

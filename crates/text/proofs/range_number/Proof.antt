@@ -1,4 +1,4 @@
--- Ten ways out: for each kind the values in its range and those out of it; a kind with no range last.
+-- Twelve ways out: for each kind the values in its range and those out of it; a kind with no range last.
 use native.Mathlib.Omega.{arith}
 use lib.Dec.{leb·zero}
 use borrow.Author.Tests.{le-leb, lt-leb, ne-eqb}
@@ -46,11 +46,25 @@ points-out : tie.Need-returns-9
 unfolding rangeNumber inRange
 points-out c = simp (c .before .match .keys4, leb·zero, lt-leb (c .before .before .args .value) 100 (omega arith))
 
-no-range : tie.Need-returns-10
+mark-in : tie.Need-returns-10
+unfolding rangeNumber inRange
+mark-in c = simp (c .before .match .keys5, leb·zero, le-leb (c .before .before .args .value) 2 (omega arith))
+
+mark-out : tie.Need-returns-11
+unfolding rangeNumber inRange
+mark-out c = simp (c .before .match .keys5, leb·zero, lt-leb (c .before .before .args .value) 2 (omega arith))
+
+no-range : tie.Need-returns-12
 unfolding rangeNumber inRange
 no-range c =
     let rest = c .match .rest in
-    simp (ne-eqb _ 1 (rest .0 .0 .0 .1), ne-eqb _ 2 (rest .0 .0 .1), ne-eqb _ 3 (rest .0 .1), ne-eqb _ 4 (rest .1))
+    simp (
+      ne-eqb _ 1 (rest .0 .0 .0 .0 .1),
+      ne-eqb _ 2 (rest .0 .0 .0 .1),
+      ne-eqb _ 3 (rest .0 .0 .1),
+      ne-eqb _ 4 (rest .0 .1),
+      ne-eqb _ 5 (rest .1),
+    )
 
 pub range-number-spec : {M : Type 1} → statement M
 range-number-spec =
@@ -65,4 +79,6 @@ range-number-spec =
     time-out
     points-in
     points-out
+    mark-in
+    mark-out
     no-range)

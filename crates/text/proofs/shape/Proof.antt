@@ -38,5 +38,6 @@ shape-spec =
     (λ c. search needs)
     (λ c. search needs)
     (λ c. search needs)
+    (λ c. search needs)
     (λ c. search stop-shape)
     (λ c. search other-kind))

@@ -1,4 +1,4 @@
--- With counts within the limits all four places stay inside the slice; the words there are the stop by definition.
+-- With counts within the limits all five places stay inside the slice.
 use borrow.Author.Needs.{needs}
 use Rattle.timetable.proofs.WordAtLaws.{stop-there}
 use Rattle.timetable.proofs.stop_at.Statement.{statement}
@@ -8,12 +8,6 @@ pub stop-at-spec : {M : Type 1} → statement M
 stop-at-spec =
     tie.close
     (tie.spec
-    (λ c. search needs)
-    (λ c. search needs)
-    (λ c. search needs)
-    (λ c. search needs)
-    (λ c. search needs)
-    (λ c. search needs)
     (λ c. search needs)
     (λ c. search needs)
     (λ c. search needs)

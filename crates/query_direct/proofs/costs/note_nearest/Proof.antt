@@ -1,6 +1,6 @@
--- Where a call of the line is in front of those that are left, the ride to it is noted; else there is none.
+-- Where there is a place to ride to, the ride to it is noted; else there is none.
 use borrow.Author.Needs.{needs}
-use Rattle.query_direct.proofs.ReachLaws.{noted-none, noted-other, noted-nearest}
+use Rattle.query_direct.proofs.ReachLaws.{noted-none, noted-nearest}
 use Rattle.query_direct.proofs.costs.note_nearest.Statement.{statement}
 use Rattle.query_direct.proofs.costs.note_nearest.Tie as tie
 
@@ -10,9 +10,6 @@ note-nearest-spec =
     (tie.spec
     (λ c. search needs)
     (λ c. (search noted-none, search needs))
-    (λ c. search needs)
-    (λ c. (search noted-other, search needs))
-    (λ c. search needs)
     (λ c. search needs)
     (λ c. search needs)
     (λ c. search needs)
