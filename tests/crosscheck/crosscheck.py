@@ -254,7 +254,7 @@ use mathlib.Core.List.{List, [], _∷_}
 use Rattle.timetable.specs.Timetable.{Timetable, validStation, listed, leaves, ends, follows, runs}
 use Rattle.timetable.specs.Timetable.{validTrip, validStations, validTrips, counted, climb, numbered, valid}
 use Rattle.results.specs.Results.{dominates, equal, entries, result}
-use Rattle.connections.specs.Rides.{ridePoints, ridesOf}
+use Rattle.connections.specs.Rides.{ridePoints, mayBoard, mayAlight, ridesOf}
 use Rattle.connections.specs.Connections.{net, changesOf}
 use Rattle.connections.specs.Planner.{connections, plannerList, tieKey, rowsOf}
 use Rattle.timetable.specs.Worked.{station}
@@ -268,7 +268,7 @@ use Rattle.lines.specs.DirectRides.{directs, directRows}
 OPENED = """validStation listed leaves ends follows runs validTrip validStations validTrips counted climb numbered valid
     dominates equal entries result ridePoints ridesOf changesOf connections plannerList tieKey rowsOf optimals
     optimalStations stored nodes arcs encode storeWords readable wellMade keptList answer inOrder lines calls directs
-    directRows"""
+    directRows mayBoard mayAlight"""
 
 
 def equations(seed):
