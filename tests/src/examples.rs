@@ -13,6 +13,18 @@ T,3,1,2,,08:22,0,0
 T,3,2,3,08:35,,,0
 ";
 
+/// The timetable words of M, by hand.
+#[rustfmt::skip]
+pub const M_WORDS: [u16; 51] = [
+    3, 3, 7,
+    2, 10,  3, 10,  5, 10,
+    1, 0, 480, 0, 0,  2, 500, 501, 0, 0,  3, 560, 0, 0, 0,
+    2, 0, 503, 0, 0,  3, 520, 0, 0, 0,
+    2, 0, 502, 0, 0,  3, 515, 0, 0, 0,
+    0, 3, 5, 7,
+    1, 2, 3,
+];
+
 /// The night timetable of the crate `worked`, in which no two values are alike but where a tie or a line asks for it.
 pub const NIGHT: &str = "\
 S,1,1,5

@@ -2,7 +2,7 @@
 
 use dairyepoch_tests::damage::damaged;
 use dairyepoch_tests::direct::Query;
-use dairyepoch_tests::examples::{M, NIGHT};
+use dairyepoch_tests::examples::{M, M_WORDS, NIGHT};
 use dairyepoch_tests::expected;
 use dairyepoch_tests::ffi::{self, Reply};
 use dairyepoch_tests::generate::{
@@ -92,17 +92,6 @@ impl Room {
 fn second(trip: u32) -> String {
     format!("T,{trip},1,2,,08:23,0,0\nT,{trip},2,3,08:40,,,0\n")
 }
-
-#[rustfmt::skip]
-const M_WORDS: [u16; 51] = [
-    3, 3, 7,
-    2, 10,  3, 10,  5, 10,
-    1, 0, 480, 0, 0,  2, 500, 501, 0, 0,  3, 560, 0, 0, 0,
-    2, 0, 503, 0, 0,  3, 520, 0, 0, 0,
-    2, 0, 502, 0, 0,  3, 515, 0, 0, 0,
-    0, 3, 5, 7,
-    1, 2, 3,
-];
 
 /// M without trip 2.
 #[rustfmt::skip]

@@ -1,20 +1,9 @@
 //! What document 01 itself shows: timetable M, case k and the cases that are only run.
 
-use dairyepoch_tests::examples::M;
+use dairyepoch_tests::examples::{M, M_WORDS};
 use dairyepoch_tests::ffi;
 use dairyepoch_tests::host::Host;
 use dairyepoch_tests::words::TIMETABLE_WORDS;
-
-#[rustfmt::skip]
-const M_WORDS: [u16; 51] = [
-    3, 3, 7,
-    2, 10,  3, 10,  5, 10,
-    1, 0, 480, 0, 0,  2, 500, 501, 0, 0,  3, 560, 0, 0, 0,
-    2, 0, 503, 0, 0,  3, 520, 0, 0, 0,
-    2, 0, 502, 0, 0,  3, 515, 0, 0, 0,
-    0, 3, 5, 7,
-    1, 2, 3,
-];
 
 #[test]
 fn m_has_ten_lines() {
