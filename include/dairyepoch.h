@@ -38,14 +38,17 @@ extern "C" {
 #endif
 
 /*
- * What a timetable has at most: bytes of text, stations, trips that run, and stops on all of them; and the minutes of
- * two days. In a text trips are numbered 1, 2, 3..; an extra trip may have any free number up to the highest.
+ * What a timetable has at most: bytes of text, stations, walks, trips that run, and stops on all of them; the rides of
+ * a pattern that a store may hold; and the minutes of two days. In a text trips are numbered 1, 2, 3..; an extra trip
+ * may have any free number up to the highest.
  */
 #define DAIRYEPOCH_TEXT_BYTES_MOST 65536
 #define DAIRYEPOCH_STATIONS_MOST 64
+#define DAIRYEPOCH_WALKS_MOST 256
 #define DAIRYEPOCH_TRIPS_MOST 256
 #define DAIRYEPOCH_STOPS_MOST 2048
 #define DAIRYEPOCH_TRIP_NUMBER_MOST 9999
+#define DAIRYEPOCH_RIDES_MOST 64
 #define DAIRYEPOCH_MINUTES 2880
 
 /* The least length of a timetable slice, in 16-bit words. */
@@ -56,22 +59,22 @@ extern "C" {
 #define DAIRYEPOCH_WORK_WORDS 16384
 
 /* The words of the largest store: 16,383 prefix nodes and as many arcs. A slice that long is long enough for any. */
-#define DAIRYEPOCH_STORE_WORDS_MOST 65534
+#define DAIRYEPOCH_STORE_WORDS_MOST 81917
 
 /* The words of an answer's row that has one ride, as all rows of a direct query have. */
 #define DAIRYEPOCH_DIRECT_ROW_WORDS 6
 
 /*
  * More words than any answer has: durations rise from 1 to at most 2,879, and a row has 3 words and 3 for each of at
- * most 63 rides. Hardly any answer comes near; the program listing lends 16,384 words.
+ * most 64 rides. Hardly any answer comes near; the program listing lends 16,384 words.
  */
-#define DAIRYEPOCH_ANSWER_WORDS_MOST (2879 * (3 + 3 * 63))
+#define DAIRYEPOCH_ANSWER_WORDS_MOST (2879 * (3 + 3 * DAIRYEPOCH_RIDES_MOST))
 
 /*
  * The bytes of stack that each call needs at most, those of its own frame among them. A test runs the calls on a stack
  * of its own, over the timetables that take most, and holds these numbers to what was touched.
  */
-#define DAIRYEPOCH_READ_STACK 22528
+#define DAIRYEPOCH_READ_STACK 25600
 #define DAIRYEPOCH_CHECK_TIMETABLE_STACK 1024
 #define DAIRYEPOCH_BUILD_LINES_STACK 8192
 #define DAIRYEPOCH_CHECK_LINES_STACK 8192
@@ -80,10 +83,10 @@ extern "C" {
 #define DAIRYEPOCH_TIMES_BY_TRIP_STACK 8192
 #define DAIRYEPOCH_TIMES_BY_STOP_STACK 8192
 #define DAIRYEPOCH_DIRECT_STACK 20480
-#define DAIRYEPOCH_MAKE_STORE_STACK 73728
+#define DAIRYEPOCH_MAKE_STORE_STACK 104448
 #define DAIRYEPOCH_QUERY_STACK 69632
-#define DAIRYEPOCH_CANCEL_TRIP_STACK 30720
-#define DAIRYEPOCH_ADD_TRIP_STACK 63488
+#define DAIRYEPOCH_CANCEL_TRIP_STACK 32768
+#define DAIRYEPOCH_ADD_TRIP_STACK 65536
 
 /*
  * The time of a call, in milliseconds, as `cargo run --release --bin bench` in tests/ measured it on one core of a
@@ -95,7 +98,8 @@ extern "C" {
  *   dairyepoch_check_lines_alone   0.03 for one line, 0.04 for 256; dairyepoch_line_trips likewise
  *   dairyepoch_times_by_trip       up to 1.2 times dairyepoch_check_lines; dairyepoch_times_by_stop likewise
  *   dairyepoch_direct              0.02 for one line, 0.04 for 256 and for an answer of 507 rows
- *   dairyepoch_make_store          3 on a rural timetable, 9 on random trips, 37 at worst
+ *   dairyepoch_make_store          2 on a rural timetable, 9 on random trips, 37 at worst; on a rural timetable with 64
+ *                                  walks 6, with 256 walks 23 and 78 at worst
  *   dairyepoch_query               0.05 on a rural timetable; up to 90 for a hundred rows or more
  *   dairyepoch_cancel_trip         0.03 for one line, 0.04 on a rural timetable and for 256 lines
  *   dairyepoch_add_trip            likewise, and 0.05 for each thousand lines of its text
@@ -109,7 +113,7 @@ enum dairyepoch_number {
     DAIRYEPOCH_OUT_OF_RANGE = 3,
     DAIRYEPOCH_OUT_OF_PLACE = 4,
     DAIRYEPOCH_TOO_MANY = 5,
-    DAIRYEPOCH_STOP_UNFIT = 6,
+    DAIRYEPOCH_STOP_UNFIT = 6,         /* or a station of a walk */
     DAIRYEPOCH_ENDS_EARLY = 7,         /* the text's lines, plus one */
     DAIRYEPOCH_SLICE_TOO_SHORT = 8,    /* from here on no line: 0 */
     DAIRYEPOCH_NO_TIMETABLE = 9,
@@ -138,9 +142,9 @@ static inline const char *dairyepoch_words(uint32_t number)
     case DAIRYEPOCH_OUT_OF_PLACE:
         return "the line is out of place";
     case DAIRYEPOCH_TOO_MANY:
-        return "a station, trip or stop too many";
+        return "a station, walk, trip or stop too many";
     case DAIRYEPOCH_STOP_UNFIT:
-        return "the stop's station is not listed or is that of the stop before, or its times do not follow each other";
+        return "a station is not listed or is that of the stop before, or times do not follow each other";
     case DAIRYEPOCH_ENDS_EARLY:
         return "the text ends without a station or extra trip, or amid a trip";
     case DAIRYEPOCH_SLICE_TOO_SHORT:
@@ -179,9 +183,10 @@ static inline const char *dairyepoch_words(uint32_t number)
 
 /*
  * Reads a timetable text (docs/FORMAT.md) and writes its words (docs/LAYOUT.md) to the start of the timetable slice.
- * The text writes arrive and depart as hh:mm; the words hold minutes, as a query's minute does. Each stop has a mark:
- * 0 for both, 1 for boarding only, 2 for setting down only; any other number is refused with 3. The words past them
- * keep their values. The text needs no byte 0 at its end.
+ * The text writes arrive and depart as hh:mm; the words hold minutes, as a query's minute does. Each stop has a mark: 0
+ * for both, 1 for boarding only, 2 for setting down only; any other number is refused with 3. Walks from one station to
+ * another, or along one, stand between the stations and the trips. Words past the table keep their values. The text
+ * needs no byte 0 at its end.
  *
  * Reply: 0 and the number of the text's lines; or a refusal: 8, then 1, then 2 to 6 for the first line that has one,
  * then 7.
@@ -218,8 +223,8 @@ uint64_t dairyepoch_check_lines(const uint16_t *timetable, size_t timetable_len,
 
 /*
  * Could these line tables come from an accepted timetable, by cancelled and extra trips too? Yes exactly if some such
- * timetable has them, whatever its change minutes and change penalties, of which line tables tell nothing. The words
- * past the tables are not judged. Nothing is written but working space.
+ * timetable has them, whatever its change minutes, change penalties and walks, of which line tables tell nothing. The
+ * words past the tables are not judged. Nothing is written but working space.
  *
  * Reply: 0 for yes, with count 0; or a refusal: 8, then 10.
  */
@@ -280,13 +285,14 @@ uint64_t dairyepoch_direct(const uint16_t *timetable, size_t timetable_len, cons
  * to any other station. Writes it to the start of the store slice:
  *
  *   n, the number of prefix nodes; m, the number of arcs;
- *   for each prefix node: station, parent; for each arc: target station, predecessor
+ *   for each prefix node: station alighted at, station boarded at, parent; for each arc: target station, predecessor
  *
- * Parent and predecessor are 0 for the root, which is the source, or a prefix node's number, counted from 1. A pattern
- * is read from an arc back through the parents to the root. Shorter nodes come first, then those of the smaller
- * sequence of stations; arcs rise by target, then by predecessor. Words past the store keep their values, and after a
- * refusal all words of the slice do. The store slice may have any length; the others as for building. The count is the
- * number of words, 2 + 2n + 2m.
+ * Both stations of a node are one where the change is made there, at the station itself or by a walk along it; else the
+ * change is a walk from the one to the other. Parent and predecessor are 0 for the root, which is the source, or a
+ * prefix node's number, counted from 1. A pattern is read from an arc back through the parents to the root. Shorter
+ * nodes come first, then those of the smaller sequence of stations; arcs rise by target, then by predecessor. Words
+ * past the store keep their values, and after a refusal all words of the slice do. The store slice may have any length;
+ * the others as for building. The count is the number of words, 2 + 3n + 2m.
  *
  * Reply: 0 and the number of words; or a refusal: 8, then 9, then 10, then 11, then 15, which is given exactly if n or
  * m is above 16,383 or the slice has fewer words than the store.
@@ -297,8 +303,9 @@ uint64_t dairyepoch_make_store(const uint16_t *timetable, size_t timetable_len, 
 
 /*
  * The connections from one station to another at a minute, or later, whose pattern can be read from the store, with
- * from as its root. Writes a row for each cost that no cost of these dominates, in rising duration, to the start of
- * the answer slice:
+ * from as its root. Between two rides one changes at the station, or on foot where there is a walk; no walk stands
+ * before the first ride or after the last. Writes a row for each cost that no cost of these dominates, in rising
+ * duration, to the start of the answer slice:
  *
  *   duration in minutes, penalty in points, number of rides; then for each ride trip, boarding stop, alighting stop
  *
@@ -308,7 +315,7 @@ uint64_t dairyepoch_make_store(const uint16_t *timetable, size_t timetable_len, 
  *
  * A store is well made if all its words are present, n and m are at most 16,383, its stations are listed, each parent
  * is below its node's own number, each predecessor is at most n, the arcs strictly rise, and no pattern has more than
- * 64 stations. The words past the store are not judged. Words past the rows keep their values, and after a refusal all
+ * 64 rides. The words past the store are not judged. Words past the rows keep their values, and after a refusal all
  * words of the answer do. The store and answer slices may have any length; the others as for building.
  *
  * Reply: 0 and the number of rows; or a refusal: 8, then 9, then 10, then 11, then 12, then 13, then 14, then 15.

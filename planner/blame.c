@@ -29,8 +29,8 @@ void put_right(struct blame *blame, const char *format, ...)
 static void blame_length(struct blame *blame)
 {
     put_wrong(blame, NO_FIELD, "the text has more than %d bytes", DAIRYEPOCH_TEXT_BYTES_MOST);
-    put_right(blame, "no timetable within the limits is that long: look for lines that stand twice, for blanks, or for "
-                     "a wrong file");
+    put_right(blame, "a smaller timetable, or a part of the network; look for lines that stand twice, for blanks, or "
+                     "for a wrong file");
 }
 
 static void blame_end(const struct timetable *timetable, struct blame *blame)
@@ -72,10 +72,27 @@ static void blame_station_place(const struct timetable *timetable, const struct 
     if (timetable->trips > 0) {
         put_wrong(blame, NO_FIELD, "a station follows a trip");
         put_right(blame, "all S lines stand before the first T line");
+    } else if (timetable->walks > 0) {
+        put_wrong(blame, NO_FIELD, "a station follows a walk");
+        put_right(blame, "all S lines stand before the first W line");
     } else {
         put_wrong(blame, STATION_NUMBER, "station is %d, and %d is next", number_of(&line->field[STATION_NUMBER]),
                   timetable->stations + 1);
         put_right(blame, "stations 1, 2, 3.. without gaps, each once");
+    }
+}
+
+static void blame_walk_place(const struct timetable *timetable, const struct line *line, struct blame *blame)
+{
+    const struct walk *last = &timetable->walk[timetable->walks];
+
+    if (timetable->trips > 0) {
+        put_wrong(blame, NO_FIELD, "a walk follows a trip");
+        put_right(blame, "all W lines stand after the S lines and before the first T line");
+    } else {
+        put_wrong(blame, number_of(&line->field[WALK_FROM]) < last->from ? WALK_FROM : WALK_TO,
+                  "the walk does not come after that from %d to %d", last->from, last->to);
+        put_right(blame, "walks rise by from, then by to, and no two have both alike");
     }
 }
 
@@ -117,6 +134,8 @@ static void blame_place(const struct timetable *timetable, const struct line *li
 {
     if (is_text(&line->field[0], "S")) {
         blame_station_place(timetable, line, blame);
+    } else if (is_text(&line->field[0], "W")) {
+        blame_walk_place(timetable, line, blame);
     } else if (is_open(timetable)) {
         blame_open_trip(timetable, line, blame);
     } else {
@@ -131,6 +150,9 @@ static void blame_count(const struct timetable *timetable, const struct line *li
     if (is_text(&line->field[0], "S")) {
         put_wrong(blame, STATION_NUMBER, "one station too many");
         put_right(blame, "at most %d stations: load a part of the network", DAIRYEPOCH_STATIONS_MOST);
+    } else if (is_text(&line->field[0], "W")) {
+        put_wrong(blame, NO_FIELD, "one walk too many");
+        put_right(blame, "at most %d walks: leave some out, or load a part of the network", DAIRYEPOCH_WALKS_MOST);
     } else if (timetable->stops < DAIRYEPOCH_STOPS_MOST) {
         put_wrong(blame, TRIP_NUMBER, "one trip too many");
         put_right(blame, "at most %d trips: leave some out, or load a part of the network", DAIRYEPOCH_TRIPS_MOST);
@@ -140,7 +162,17 @@ static void blame_count(const struct timetable *timetable, const struct line *li
     }
 }
 
-/* 6: the stop does not fit. */
+/* 6: a station is not listed, or the stop does not fit. */
+
+static void blame_walk(const struct timetable *timetable, const struct line *line, struct blame *blame)
+{
+    int from = number_of(&line->field[WALK_FROM]);
+    bool listed = 1 <= from && from <= timetable->stations;
+
+    put_wrong(blame, listed ? WALK_TO : WALK_FROM, "%s is %d, which has no S line", listed ? "to" : "from",
+              listed ? number_of(&line->field[WALK_TO]) : from);
+    put_right(blame, "a station that has an S line, or an S line for it before the first W line");
+}
 
 static void blame_stop(const struct timetable *timetable, const struct line *line, struct blame *blame)
 {
@@ -185,7 +217,11 @@ void find_blame(const struct loaded *loaded, uint64_t reply, const struct line *
         blame_count(before, line, blame);
         break;
     case DAIRYEPOCH_STOP_UNFIT:
-        blame_stop(before, line, blame);
+        if (is_text(&line->field[0], "W")) {
+            blame_walk(before, line, blame);
+        } else {
+            blame_stop(before, line, blame);
+        }
         break;
     default:
         blame_end(before, blame);

@@ -107,8 +107,8 @@ void blame_shape(const struct line *line, struct blame *blame)
         put_wrong(blame, NO_FIELD, "byte 13 stands before the end of the line");
         put_right(blame, "lines that end with byte 10 alone: save the file with line ends as on Unix");
     } else if (shape_of(line) == NULL) {
-        put_wrong(blame, 0, "the line begins with neither S nor T");
-        put_right(blame, "%s or %s", station_shape.spelled, stop_shape.spelled);
+        put_wrong(blame, 0, "the line begins with neither S, W nor T");
+        put_right(blame, "%s or %s or %s", station_shape.spelled, walk_shape.spelled, stop_shape.spelled);
     } else if (!line->ended) {
         put_wrong(blame, NO_FIELD, "the last line has no end");
         put_right(blame, "each line ends with byte 10, the last one too");

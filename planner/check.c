@@ -21,6 +21,7 @@ int check(const struct arguments *arguments)
     }
     say(stdout, 0, "", 2, "%s: accepted", loaded.path);
     print_count("stations", loaded.timetable.stations);
+    print_count("walks", loaded.timetable.walks);
     print_count("trips", loaded.timetable.trips);
     print_count("stops", loaded.timetable.stops);
     print_count("lines", loaded.lines);

@@ -15,6 +15,19 @@ const struct shape station_shape = {
     },
 };
 
+const struct shape walk_shape = {
+    "W",
+    "W,from,to,minutes,penalty",
+    WALK_FIELDS,
+    {
+        {"W", false, NO_RANGE},
+        {"from", false, NO_RANGE},
+        {"to", false, NO_RANGE},
+        {"minutes", false, 1, 60},
+        {"penalty", false, 1, 1000},
+    },
+};
+
 const struct shape stop_shape = {
     "T",
     "T,trip,stop,station,arrive,depart,ride penalty,mark",
@@ -35,6 +48,9 @@ const struct shape *shape_of(const struct line *line)
 {
     if (is_text(&line->field[0], station_shape.letter)) {
         return &station_shape;
+    }
+    if (is_text(&line->field[0], walk_shape.letter)) {
+        return &walk_shape;
     }
     return is_text(&line->field[0], stop_shape.letter) ? &stop_shape : NULL;
 }

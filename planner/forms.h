@@ -20,6 +20,7 @@ struct shape {
 };
 
 extern const struct shape station_shape;
+extern const struct shape walk_shape;
 extern const struct shape stop_shape;
 
 /* The shape that the first field of a line asks for; none if it is no such letter. */

@@ -21,13 +21,14 @@ struct command {
 
 static const struct command commands[] = {
     {"check", check, "planner check FILE", 1, 1, 0,
-     "Is the timetable accepted? Counts its stations, trips, stops and lines; or\n"
-     "shows the line that is refused, the field to blame, what is wrong with it\n"
+     "Is the timetable accepted? Counts its stations, walks, trips, stops and lines;\n"
+     "or shows the line that is refused, the field to blame, what is wrong with it\n"
      "and what would be right.\n"},
     {"sequences", show_sequences, "planner sequences FILE STATION [TARGET] [--why] [--csv]", 2, 3,
      OPTION_WHY | OPTION_CSV,
      "The sequences of stations that a display stores for STATION, to TARGET or to\n"
-     "all: the station, those where changing can pay, the target.\n"
+     "all: the station, those where changing can pay, the target. Where one walks to\n"
+     "change, both stations are named.\n"
      "  --why  for each a minute and a connection for which it is optimal\n"
      "  --csv  a line for each: source, target, changes, stations; with --why also\n"
      "         minute, duration, penalty, rides (trip:boarding stop-alighting stop)\n"},

@@ -71,12 +71,28 @@ static void begin_at_time(struct flow *flow, FILE *to, int left, int minute)
     begin_flow(flow, to, left, front, AFTER_TIME);
 }
 
+/* Adds how one changes from where a ride was left to where the next is boarded. */
+static void add_change(struct flow *flow, const struct loaded *loaded, const struct stop *alight,
+                       const struct stop *next)
+{
+    struct change change = change_between(&loaded->timetable, alight, next);
+
+    if (!change.on_foot) {
+        add_words(flow, "change:");
+    } else if (alight->station == next->station) {
+        add_words(flow, "along it on foot:");
+    } else {
+        add_words(flow, "on foot to station %s:", loaded->names.station[next->station]);
+    }
+    add_words(flow, "%d minute%s, %d point%s", change.minutes, plural(change.minutes), change.penalty,
+              plural(change.penalty));
+}
+
 static void print_ride(FILE *to, const struct loaded *loaded, const struct row *row, int number, int left)
 {
     struct ride ride = ride_of(row, number);
     const struct stop *board = boarded_at(&loaded->timetable, &ride);
     const struct stop *alight = alighted_at(&loaded->timetable, &ride);
-    const struct station *change = &loaded->timetable.station[alight->station];
     struct flow flow;
 
     begin_at_time(&flow, to, left, board->depart);
@@ -85,8 +101,8 @@ static void print_ride(FILE *to, const struct loaded *loaded, const struct row *
     begin_at_time(&flow, to, left, alight->arrive);
     add_words(&flow, "at station %s%s", loaded->names.station[alight->station], number < row->rides - 1 ? "," : "");
     if (number < row->rides - 1) {
-        add_words(&flow, "change: %d minute%s, %d point%s", change->change_minutes, plural(change->change_minutes),
-                  change->change_penalty, plural(change->change_penalty));
+        struct ride next = ride_of(row, number + 1);
+        add_change(&flow, loaded, alight, boarded_at(&loaded->timetable, &next));
     }
     end_flow(&flow);
 }

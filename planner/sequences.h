@@ -5,10 +5,13 @@
 #include "flow.h"
 #include "library.h"
 
-/* The source, the stations of the changes in order, the target. */
+/* The source, the stations alighted and boarded at for each change in order, the target. */
 struct sequence {
-    int stations;
-    int station[DAIRYEPOCH_STATIONS_MOST];
+    int source;
+    int changes;
+    int alighted[DAIRYEPOCH_RIDES_MOST - 1];
+    int boarded[DAIRYEPOCH_RIDES_MOST - 1];
+    int target;
 };
 
 /* How many sequences a store holds. They count from 0, by target; to one target the shorter ones come first. */

@@ -74,18 +74,31 @@ static void print_csv_why(int number)
     }
 }
 
+/* The stations of a sequence; where one walks from one to another, both with a - between them. */
+static void print_csv_stations(const struct sequence *sequence)
+{
+    int at;
+
+    printf("%d", sequence->source);
+    for (at = 0; at < sequence->changes; at++) {
+        printf(" %d", sequence->alighted[at]);
+        if (sequence->alighted[at] != sequence->boarded[at]) {
+            printf("-%d", sequence->boarded[at]);
+        }
+    }
+    printf(" %d", sequence->target);
+}
+
 static void print_csv_group(const struct group *group, bool why)
 {
-    int number, at;
+    int number;
 
     for (number = group->begin; number < group->end; number++) {
         struct sequence sequence;
 
         read_sequence(&store, number, &sequence);
-        printf("%d,%d,%d,", store.source, group->target, sequence.stations - 2);
-        for (at = 0; at < sequence.stations; at++) {
-            printf("%s%d", at == 0 ? "" : " ", sequence.station[at]);
-        }
+        printf("%d,%d,%d,", store.source, group->target, sequence.changes);
+        print_csv_stations(&sequence);
         if (why) {
             print_csv_why(number);
         }

@@ -10,6 +10,16 @@ static void take_station(struct timetable *timetable, const struct line *line)
     station->change_penalty = number_of(&line->field[CHANGE_PENALTY]);
 }
 
+static void take_walk(struct timetable *timetable, const struct line *line)
+{
+    struct walk *walk = &timetable->walk[++timetable->walks];
+
+    walk->from = number_of(&line->field[WALK_FROM]);
+    walk->to = number_of(&line->field[WALK_TO]);
+    walk->minutes = number_of(&line->field[WALK_MINUTES]);
+    walk->penalty = number_of(&line->field[WALK_PENALTY]);
+}
+
 static void take_stop(struct timetable *timetable, const struct line *line)
 {
     struct stop *stop = &timetable->stop[++timetable->stops];
@@ -29,10 +39,12 @@ void take_lines(struct timetable *timetable, const char *text, size_t bytes, int
     struct line line;
     const char *at = text;
 
-    timetable->stations = timetable->trips = timetable->stops = 0;
+    timetable->stations = timetable->walks = timetable->trips = timetable->stops = 0;
     for (; lines > 0 && next_line(&at, text + bytes, &line); lines--) {
         if (is_text(&line.field[0], "S")) {
             take_station(timetable, &line);
+        } else if (is_text(&line.field[0], "W")) {
+            take_walk(timetable, &line);
         } else {
             take_stop(timetable, &line);
         }
@@ -61,6 +73,36 @@ bool is_open(const struct timetable *timetable)
     const struct stop *last = last_stop(timetable);
 
     return last != NULL && last->depart != EMPTY;
+}
+
+/* Takes a way of changing if it is in time, and cheaper than the one that was taken. */
+static void try_change(struct change *taken, int gap, bool on_foot, int minutes, int penalty)
+{
+    if (minutes <= gap && (taken->penalty == EMPTY || penalty < taken->penalty)) {
+        taken->on_foot = on_foot;
+        taken->minutes = minutes;
+        taken->penalty = penalty;
+    }
+}
+
+struct change change_between(const struct timetable *timetable, const struct stop *alighted,
+                             const struct stop *boarded)
+{
+    const struct station *station = &timetable->station[alighted->station];
+    int gap = boarded->depart - alighted->arrive;
+    struct change taken = {false, 0, EMPTY};
+    int at;
+
+    if (alighted->station == boarded->station) {
+        try_change(&taken, gap, false, station->change_minutes, station->change_penalty);
+    }
+    for (at = 1; at <= timetable->walks; at++) {
+        const struct walk *walk = &timetable->walk[at];
+        if (walk->from == alighted->station && walk->to == boarded->station) {
+            try_change(&taken, gap, true, walk->minutes, walk->penalty);
+        }
+    }
+    return taken;
 }
 
 /* Whether a ride begins at a stop: one may board there, and alight at a later stop of the trip. */

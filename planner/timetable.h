@@ -1,12 +1,13 @@
-/* A timetable as people read it: the change values, stations, times and penalties of its text. */
+/* A timetable as people read it: the change values, walks, stations, times and penalties of its text. */
 #ifndef PLANNER_TIMETABLE_H
 #define PLANNER_TIMETABLE_H
 
 #include "dairyepoch.h"
 #include "text.h"
 
-/* The fields of an S line and of a T line, after their letter. */
+/* The fields of an S line, a W line and a T line, after their letter. */
 enum { STATION_NUMBER = 1, CHANGE_MINUTES, CHANGE_PENALTY, STATION_FIELDS };
+enum { WALK_FROM = 1, WALK_TO, WALK_MINUTES, WALK_PENALTY, WALK_FIELDS };
 enum { TRIP_NUMBER = 1, STOP_NUMBER, STOP_STATION, ARRIVE, DEPART, RIDE_PENALTY, MARK, STOP_FIELDS };
 
 /* The mark of a stop: what riders may do there. */
@@ -15,6 +16,21 @@ enum mark { BOTH, BOARDING_ONLY, SETTING_DOWN_ONLY };
 struct station {
     int change_minutes;
     int change_penalty;
+};
+
+/* A change on foot, from one station to another or along one. */
+struct walk {
+    int from;
+    int to;
+    int minutes;
+    int penalty;
+};
+
+/* A way of changing between two rides. */
+struct change {
+    bool on_foot;
+    int minutes;
+    int penalty;
 };
 
 /* Arrive, or depart and penalty, are EMPTY where the text leaves them empty. */
@@ -26,12 +42,14 @@ struct stop {
     int mark;
 };
 
-/* Stations, trips and the stops of a trip count from 1, and so do the arrays. */
+/* Stations, walks, trips and the stops of a trip count from 1, and so do the arrays. */
 struct timetable {
     int stations;
+    int walks;
     int trips;
     int stops; /* of all trips */
     struct station station[DAIRYEPOCH_STATIONS_MOST + 1];
+    struct walk walk[DAIRYEPOCH_WALKS_MOST + 1];
     int first_stop[DAIRYEPOCH_TRIPS_MOST + 1]; /* the place of each trip's stop 1 */
     struct stop stop[DAIRYEPOCH_STOPS_MOST + 1];
 };
@@ -49,6 +67,13 @@ const struct stop *last_stop(const struct timetable *timetable);
 
 /* Whether the last trip so far has not ended. */
 bool is_open(const struct timetable *timetable);
+
+/*
+ * How one changes who alights at one station at a minute and boards at another, or the same, at a later one: rows tell
+ * rides alone, and of the ways that are in time the cheapest gives the row its penalty.
+ */
+struct change change_between(const struct timetable *timetable, const struct stop *alighted,
+                             const struct stop *boarded);
 
 /* The minutes at which a ride begins at a station. Returns how many they are: rising, each once. */
 int departures(const struct timetable *timetable, int station, int minutes[DAIRYEPOCH_MINUTES]);

@@ -1,7 +1,7 @@
 #!/usr/bin/env python3
 """A cross-check of the definitions themselves.
 
-This program lists connections by brute force on small random timetables, in plain Python and from document 01 alone,
+This program lists connections by brute force on small random timetables, in plain Python and from documents 01 and 02,
 and works out rows, stores, lines, calls, and what other stores hold, well made or not. It writes each answer as an
 equation about the definitions in crates/*/specs and has the checker close every one by computation, in a scratch copy
 of the crates. It proves nothing; it is how we see that the definitions say what we mean. Not part of the gate: stores
@@ -52,8 +52,16 @@ def mark_some(rnd, trips):
             stop.append(rnd.choice([BOTH, BOARDING, DOWN]) if rnd.random() < 0.1 else mark)
 
 
+def some_walks(rnd, stations):
+    """Walks as (from, to, minutes, penalty), rising; few or many, from a station to itself too."""
+    share = rnd.choice([0, 0.1, 0.3])
+    pairs = [(a, b) for a in range(1, stations + 1) for b in range(1, stations + 1) if rnd.random() < share]
+    return [(a, b, rnd.randint(1, 5), rnd.randint(1, 3)) for a, b in pairs]
+
+
 def random_timetable(seed):
-    """Stations as (change minutes, change penalty); trips as lists of [station, arrive, depart, ride penalty, mark]."""
+    """Stations as (change minutes, change penalty); walks; trips as lists of [station, arrive, depart, ride penalty,
+    mark]."""
     rnd = random.Random(seed)
     stations = [(rnd.randint(0, 4), rnd.randint(1, 3)) for _ in range(rnd.randint(3, 5))]
     trips = []
@@ -74,14 +82,16 @@ def random_timetable(seed):
         trips.append(run)
     # of its own, so that the trips of a seed are those that they were
     mark_some(random.Random("marks %d" % seed), trips)
-    return stations, trips
+    return stations, some_walks(random.Random("walks %d" % seed), len(stations)), trips
 
 
 class Planner:
     """Documents 01 and 02, by listing."""
 
-    def __init__(self, stations, trips):
+    def __init__(self, stations, walks, trips):
         self.stations, self.trips = stations, trips
+        # ways of changing: from, to, minutes, penalty
+        self.ways = [(number, number, *values) for number, values in enumerate(stations, 1)] + walks
         self.ties = {"departure": 0, "rides": 0, "numbers": 0}
         self.rides = []
         for number, trip in enumerate(trips, 1):
@@ -95,20 +105,25 @@ class Planner:
                             arrive=trip[j][1], penalty=sum(stop[3] for stop in trip[i:j])))
 
     def connections(self, here, minute, target, so_far=()):
+        """Each as its rides, all but the first with the way of changing before it."""
         for ride in self.rides:
             if ride["start"] == here and ride["leave"] >= minute:
                 connection = so_far + (ride,)
                 if ride["end"] == target:
                     yield connection
-                wait = self.stations[ride["end"] - 1][0]
-                yield from self.connections(ride["end"], ride["arrive"] + wait, target, connection)
+                for way in self.ways:
+                    if way[0] == ride["end"]:
+                        before = so_far + (dict(ride, way=way),)
+                        yield from self.connections(way[1], ride["arrive"] + way[2], target, before)
 
     def cost(self, connection, minute):
-        changes = sum(self.stations[ride["end"] - 1][1] for ride in connection[:-1])
+        changes = sum(ride["way"][3] for ride in connection[:-1])
         return connection[-1]["arrive"] - minute, sum(ride["penalty"] for ride in connection) + changes
 
     def pattern(self, source, connection):
-        return (source,) + tuple(ride["end"] for ride in connection)
+        """The source, alighted and boarded at for each change, the target."""
+        changes = [station for ride in connection[:-1] for station in ride["way"][:2]]
+        return (source, *changes, connection[-1]["end"])
 
     def best_costs(self, connections, minute):
         costs = {self.cost(c, minute) for c in connections}
@@ -139,24 +154,24 @@ class Planner:
         return found
 
     def words(self, source, patterns):
-        nodes = {p[:i] for p in patterns for i in range(2, len(p))}
+        nodes = {p[:i] for p in patterns for i in range(3, len(p), 2)}
         nodes = sorted(nodes, key=lambda node: (len(node), node))
         number = {(source,): 0, **{node: i for i, node in enumerate(nodes, 1)}}
         arcs = sorted((p[-1], number[p[:-1]]) for p in patterns)
-        told = [(node[-1], number[node[:-1]]) for node in nodes] + arcs
+        told = [(*node[-2:], number[node[:-2]]) for node in nodes] + arcs
         return [len(nodes), len(arcs)] + [word for entry in told for word in entry]
 
     def well_made(self, words):
         """Question 13, in the order of document 01."""
-        if len(words) < 2 or len(words) < 2 + 2 * words[0] + 2 * words[1] or max(words[:2]) > 16383:
+        if len(words) < 2 or len(words) < 2 + 3 * words[0] + 2 * words[1] or max(words[:2]) > 16383:
             return False
         nodes, arcs = entries(words)
-        known = all(1 <= station <= len(self.stations) for station, _ in nodes + arcs)
-        below = all(parent < number for number, (_, parent) in enumerate(nodes, 1))
+        known = all(1 <= station <= len(self.stations) for entry in nodes + arcs for station in entry[:-1])
+        below = all(node[-1] < number for number, node in enumerate(nodes, 1))
         if not known or not below or any(before > len(nodes) for _, before in arcs):
             return False
         rising = all(arc < another for arc, another in zip(arcs, arcs[1:]))
-        return rising and all(len(pattern) <= 64 for pattern in self.read(0, words))
+        return rising and all(len(pattern) // 2 <= 64 for pattern in self.read(0, words))
 
     def read(self, source, words):
         """The patterns of well-made words, each from the arc back to the root."""
@@ -165,8 +180,8 @@ class Planner:
         for target, before in arcs:
             pattern = [target]
             while before:
-                station, before = nodes[before - 1]
-                pattern.insert(0, station)
+                *change, before = nodes[before - 1]
+                pattern = change + pattern
             found.append(tuple([source] + pattern))
         return found
 
@@ -189,9 +204,10 @@ class Planner:
 
 
 def entries(words):
-    """The nodes and the arcs, as pairs."""
-    both = [(words[i], words[i + 1]) for i in range(2, 2 + 2 * words[0] + 2 * words[1], 2)]
-    return both[:words[0]], both[words[0]:]
+    """The nodes, of three words, and the arcs, of two."""
+    end = 2 + 3 * words[0]
+    nodes = [tuple(words[i:i + 3]) for i in range(2, end, 3)]
+    return nodes, [tuple(words[i:i + 2]) for i in range(end, end + 2 * words[1], 2)]
 
 
 def other_store(rnd, planner, source):
@@ -203,15 +219,15 @@ def other_store(rnd, planner, source):
     for pattern in sorted(every):
         if rnd.random() < 0.7:
             before = 0
-            for station in pattern[1:-1]:
-                known = [i for i, node in enumerate(nodes, 1) if node == (station, before)]
+            for change in zip(pattern[1:-1:2], pattern[2:-1:2]):
+                known = [i for i, node in enumerate(nodes, 1) if node == (*change, before)]
                 if not known or rnd.random() < 0.3:
-                    nodes.append((station, before))
+                    nodes.append((*change, before))
                     known.append(len(nodes))
                 before = rnd.choice(known)
             arcs.add((pattern[-1], before))
         if rnd.random() < 0.2:
-            nodes.append((rnd.choice(stations), rnd.randint(0, len(nodes))))
+            nodes.append((rnd.choice(stations), rnd.choice(stations), rnd.randint(0, len(nodes))))
             nodes.append(rnd.choice(nodes))
     arcs |= {(source, rnd.randint(0, len(nodes))) for _ in range(2)}
     told = nodes + sorted(arcs)
@@ -240,11 +256,16 @@ def table(rows):
 STOP = "record { station = %d; arrive = %d; depart = %d; points = %d; mark = %d }"
 
 
-def as_timetable(stations, trips):
+WALK = "record { from = %d; to = %d; minutes = %d; points = %d }"
+
+
+def as_timetable(stations, walks, trips):
     listed = " ∷ ".join(["station %d %d" % s for s in stations] + ["[]"])
     stops = [[STOP % tuple(s) for s in trip] for trip in trips]
     runs = " ∷ ".join(["(%s)" % " ∷ ".join(trip + ["[]"]) for trip in stops] + ["[]"])
-    return "record { stations = %s; numbers = %s; trips = %s }" % (listed, numbers(range(1, len(trips) + 1)), runs)
+    on_foot = " ∷ ".join([WALK % walk for walk in walks] + ["[]"])
+    parts = (listed, on_foot, numbers(range(1, len(trips) + 1)), runs)
+    return "record { stations = %s; walks = %s; numbers = %s; trips = %s }" % parts
 
 
 IMPORTS = """-- Written by the cross-check; each equation was worked out by listing.
@@ -253,6 +274,7 @@ use mathlib.Core.Bool.{true, false}
 use mathlib.Core.List.{List, [], _∷_}
 use Rattle.timetable.specs.Timetable.{Timetable, validStation, listed, leaves, ends, follows, runs}
 use Rattle.timetable.specs.Timetable.{validTrip, validStations, validTrips, counted, climb, numbered, valid}
+use Rattle.timetable.specs.Timetable.{validWalk, walkBefore, validWalks}
 use Rattle.results.specs.Results.{dominates, equal, entries, result}
 use Rattle.connections.specs.Rides.{ridePoints, mayBoard, mayAlight, ridesOf}
 use Rattle.connections.specs.Connections.{net, changesOf}
@@ -268,14 +290,14 @@ use Rattle.lines.specs.DirectRides.{directs, directRows}
 OPENED = """validStation listed leaves ends follows runs validTrip validStations validTrips counted climb numbered valid
     dominates equal entries result ridePoints ridesOf changesOf connections plannerList tieKey rowsOf optimals
     optimalStations stored nodes arcs encode storeWords readable wellMade keptList answer inOrder lines calls directs
-    directRows mayBoard mayAlight"""
+    directRows mayBoard mayAlight validWalk walkBefore validWalks"""
 
 
 def equations(seed):
     """What is claimed of one timetable: pairs of a definition's call and the value worked out by listing."""
     rnd = random.Random(-seed)
-    stations, trips = random_timetable(seed)
-    planner, name = Planner(stations, trips), "G%d" % seed
+    stations, walks, trips = random_timetable(seed)
+    planner, name = Planner(stations, walks, trips), "G%d" % seed
     minutes = [1, rnd.randint(2, 12)]
     claims = [("valid %s" % name, "true"),
               ("lineNumbers %s" % name, table([[z + 1 for z in line] for line in planner.lines()]))]
@@ -312,7 +334,7 @@ def equations(seed):
         for lent in [words] + [spoilt(rnd, words) for _ in range(4)]:
             made = "true" if planner.well_made(lent) else "false"
             claims.append(("wellMade %d (%s)" % (len(stations), numbers(lent)), made))
-    return name, as_timetable(stations, trips), claims, planner.ties
+    return name, as_timetable(stations, walks, trips), claims, planner.ties
 
 
 def rests_on(root, wanted):

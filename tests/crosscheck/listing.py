@@ -15,6 +15,7 @@ NUMBER = "(0|[1-9][0-9]{0,3})"
 EMPTY = "(|0|[1-9][0-9]{0,3})"
 TIME = "(|[0-9]{2}:[0-9]{2})"
 STATION = re.compile(",".join(["S"] + 3 * [NUMBER]).encode() + rb"\Z")
+WALK = re.compile(",".join(["W"] + 4 * [NUMBER]).encode() + rb"\Z")
 STOP = re.compile(",".join(["T"] + 3 * [NUMBER] + 2 * [TIME] + [EMPTY, NUMBER]).encode() + rb"\Z")
 QUERY = re.compile(",".join(["Q"] + 3 * [NUMBER]).encode() + rb"\Z")
 STORE_WORDS, ANSWER_WORDS = 32768, 16384
@@ -34,24 +35,37 @@ def value(field):
 
 
 def read(text):
-    """Stations as (change minutes, change penalty), trips as lists of (station, arrive, depart, ride penalty, mark)."""
+    """Ways of changing as (from, to, minutes, penalty), of which those of the stations come first, and their number;
+    trips as lists of (station, arrive, depart, ride penalty, mark)."""
     if len(text) > 65536:
         raise Refused(1, 0)
-    stations, trips, ended = [], [], True
+    stations, walks, trips, ended = [], [], [], True
     lines = text.split(b"\n")
     for at, line in enumerate(lines[:-1] + ([lines[-1]] if lines[-1] else []), 1):
-        station, stop = STATION.match(line), STOP.match(line)
-        if at == len(lines) or not (station or stop):
+        station, walk, stop = STATION.match(line), WALK.match(line), STOP.match(line)
+        if at == len(lines) or not (station or walk or stop):
             raise Refused(2, at)
         if station:
             number, minutes, points = map(int, station.groups())
             if minutes > 240 or not 1 <= points <= 1000:
                 raise Refused(3, at)
-            if trips or number != len(stations) + 1:
+            if trips or walks or number != len(stations) + 1:
                 raise Refused(4, at)
             if number > 64:
                 raise Refused(5, at)
-            stations.append((minutes, points))
+            stations.append((number, number, minutes, points))
+            continue
+        if walk:
+            start, end, minutes, points = map(int, walk.groups())
+            if not 1 <= minutes <= 60 or not 1 <= points <= 1000:
+                raise Refused(3, at)
+            if trips or (walks and walks[-1][:2] >= (start, end)):
+                raise Refused(4, at)
+            if len(walks) == 256:
+                raise Refused(5, at)
+            if not (1 <= start <= len(stations) and 1 <= end <= len(stations)):
+                raise Refused(6, at)
+            walks.append((start, end, minutes, points))
             continue
         trip, number, place, arrive, depart, points, mark = map(value, stop.groups())
         if (arrive is None) != (number == 1) or (depart is None) != (points is None):
@@ -76,7 +90,7 @@ def read(text):
         ended = depart is None
     if not stations or not ended:
         raise Refused(7, len(lines))
-    return stations, trips
+    return stations + walks, len(stations), trips
 
 
 def rides_from(trips, station, minute):
@@ -91,16 +105,17 @@ def rides_from(trips, station, minute):
                         yield (t + 1, board + 1, alight + 1), stops[alight][0], stops[alight][1], points
 
 
-def connections(stations, trips, source, minute):
-    """Every feasible connection as (rides, pattern, arrival, penalty)."""
+def connections(ways, trips, source, minute):
+    """Every feasible connection as (rides, pattern, arrival, penalty); a pattern names where one alights and boards."""
     open_ends = [((), (source,), minute, 0)]
     while open_ends:
         rides, pattern, ready, points = open_ends.pop()
         for ride, place, arrive, more in rides_from(trips, pattern[-1], ready):
             found = rides + (ride,), pattern + (place,), arrive, points + more
             yield found
-            wait, extra = stations[place - 1]
-            open_ends.append((found[0], found[1], arrive + wait, found[3] + extra))
+            for start, end, wait, extra in ways:
+                if start == place:
+                    open_ends.append((found[0], found[1] + (end,), arrive + wait, found[3] + extra))
 
 
 def undominated(costs):
@@ -112,23 +127,23 @@ def undominated(costs):
     return best
 
 
-def store_words(stations, trips, source):
+def store_words(ways, trips, source):
     """The words of the source's store. Only the minutes in which a trip leaves the source matter."""
     patterns = set()
     for minute in {s[2] for stops in trips for s in stops[:-1] if s[0] == source}:
         reached = {}
-        for rides, pattern, arrive, points in connections(stations, trips, source, minute):
+        for rides, pattern, arrive, points in connections(ways, trips, source, minute):
             reached.setdefault(pattern[-1], []).append(((arrive, points), pattern))
         for target, found in reached.items():
             best = set(undominated(cost for cost, _ in found))
             if target != source:
                 patterns |= {pattern for cost, pattern in found if cost in best}
-    nodes = {p[:k] for p in patterns for k in range(2, len(p))}
-    return 2 + 2 * len(nodes) + 2 * len(patterns)
+    nodes = {p[:k] for p in patterns for k in range(3, len(p), 2)}
+    return 2 + 3 * len(nodes) + 2 * len(patterns)
 
 
-def answer(stations, trips, start, to, minute):
-    found = [c for c in connections(stations, trips, start, minute) if c[1][-1] == to]
+def answer(ways, trips, start, to, minute):
+    found = [c for c in connections(ways, trips, start, minute) if c[1][-1] == to]
     rows = []
     for cost in undominated((arrive, points) for _, _, arrive, points in found):
         tied = [rides for rides, _, arrive, points in found if (arrive, points) == cost]
@@ -139,7 +154,7 @@ def answer(stations, trips, start, to, minute):
 
 def listing(text, queries):
     try:
-        stations, trips = read(text)
+        ways, stations, trips = read(text)
     except Refused as refused:
         yield "X,%d,%d" % refused.args
         return
@@ -151,15 +166,15 @@ def listing(text, queries):
             continue
         start, to, minute = map(int, query.groups())
         asked = "%d,%d,%d" % (start, to, minute)
-        if start == to or not (1 <= start <= len(stations) and 1 <= to <= len(stations)):
+        if start == to or not (1 <= start <= stations and 1 <= to <= stations):
             yield "N,%s,11" % asked
             continue
         if minute > 2879:
             yield "N,%s,12" % asked
             continue
         if start not in stores:
-            stores[start] = store_words(stations, trips, start)
-        rows = answer(stations, trips, start, to, minute) if stores[start] <= STORE_WORDS else []
+            stores[start] = store_words(ways, trips, start)
+        rows = answer(ways, trips, start, to, minute) if stores[start] <= STORE_WORDS else []
         if stores[start] > STORE_WORDS or sum(3 + 3 * len(r[2]) for r in rows) > ANSWER_WORDS:
             yield "N,%s,15" % asked
         elif not rows:

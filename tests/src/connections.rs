@@ -4,7 +4,36 @@
 use std::cmp::Reverse;
 use std::collections::BTreeMap;
 
-use crate::timetable::{Stop, Timetable};
+use crate::timetable::{Station, Stop, Timetable, Walk};
+
+/// What a pattern names of a change: the station alighted at and the one boarded at.
+pub type Transfer = (u16, u16);
+
+/// A way of changing: "a change is made either at the station itself or by walking".
+#[derive(Clone, Copy, Debug)]
+pub struct Way {
+    pub from: u16,
+    pub to: u16,
+    pub minutes: u32,
+    pub penalty: u32,
+}
+
+/// All ways of changing. "From and to may be equal, .. and then both ways of changing are open."
+pub fn ways(timetable: &Timetable) -> Vec<Way> {
+    let here = |(number, station): (u16, &Station)| Way {
+        from: number,
+        to: number,
+        minutes: station.change_minutes.into(),
+        penalty: station.change_penalty.into(),
+    };
+    let on_foot = |walk: &Walk| Way {
+        from: walk.from,
+        to: walk.to,
+        minutes: walk.minutes.into(),
+        penalty: walk.penalty.into(),
+    };
+    (1..).zip(&timetable.stations).map(here).chain(timetable.walks.iter().map(on_foot)).collect()
+}
 
 /// One or more rides from a station, with the changes between them.
 #[derive(Clone, Debug, PartialEq, Eq)]
@@ -14,8 +43,8 @@ pub struct Connection {
     pub penalty: u32,
     /// Trip, boarding stop, alighting stop of each. Stops count from 1, a trip has a number of its own.
     pub rides: Vec<[u32; 3]>,
-    /// The stations of the changes, in order.
-    pub changes: Vec<u16>,
+    /// The stations alighted and boarded at for each change, in order.
+    pub changes: Vec<Transfer>,
     pub to: u16,
 }
 
@@ -76,7 +105,7 @@ pub fn list(timetable: &Timetable, from: u32, most: usize) -> Option<Vec<Connect
     if timetable.trips.values().map(|stops| stops.len() * (stops.len() - 1) / 2).sum::<usize>() > most {
         return None;
     }
-    let rides = rides(timetable);
+    let (rides, ways) = (rides(timetable), ways(timetable));
     let alone = |ride: &Ride| Connection {
         depart: ride.depart,
         arrive: ride.arrive,
@@ -91,17 +120,18 @@ pub fn list(timetable: &Timetable, from: u32, most: usize) -> Option<Vec<Connect
         if list.len() > most {
             return None;
         }
-        let station = timetable.stations[usize::from(connection.to) - 1];
-        let ready = connection.arrive + u32::from(station.change_minutes);
-        for ride in rides.iter().filter(|ride| ride.from == connection.to && ride.depart >= ready) {
-            list.push(Connection {
-                arrive: ride.arrive,
-                penalty: connection.penalty + u32::from(station.change_penalty) + ride.penalty,
-                rides: [&connection.rides[..], &[ride.numbers]].concat(),
-                changes: [&connection.changes[..], &[connection.to]].concat(),
-                to: ride.to,
-                ..connection
-            });
+        for way in ways.iter().filter(|way| way.from == connection.to) {
+            let ready = connection.arrive + way.minutes;
+            for ride in rides.iter().filter(|ride| ride.from == way.to && ride.depart >= ready) {
+                list.push(Connection {
+                    arrive: ride.arrive,
+                    penalty: connection.penalty + way.penalty + ride.penalty,
+                    rides: [&connection.rides[..], &[ride.numbers]].concat(),
+                    changes: [&connection.changes[..], &[(way.from, way.to)]].concat(),
+                    to: ride.to,
+                    ..connection
+                });
+            }
         }
         at += 1;
     }

@@ -23,6 +23,7 @@ pub const DAMAGES: &[Damage] = &[
     join_two_lines,
     end_a_line_with_carriage_return,
     put_a_station_last,
+    put_a_walk_elsewhere,
     empty_a_field,
     fill_a_field,
     add_a_leading_zero,
@@ -43,17 +44,18 @@ pub const DAMAGES: &[Damage] = &[
     drop_a_comma,
     change_the_kind,
     add_a_station,
+    add_a_walk,
     add_a_trip,
     add_a_stop,
 ];
 
 /// Bytes that have a part in the text, or that careless readers give one.
-const TELLING_BYTES: &[u8] = b"ST,0123456789\n\r\t -+.\"st\x00\x7f\x80\xff:/";
+const TELLING_BYTES: &[u8] = b"STW,0123456789\n\r\t -+.\"st\x00\x7f\x80\xff:/";
 
 /// Numbers at the edges of the ranges and counts.
 const EDGES: &[&str] = &[
-    "0", "1", "2", "63", "64", "65", "99", "100", "101", "239", "240", "241", "255", "256", "257", "999", "1000",
-    "1001", "2047", "2048", "2049", "2878", "2879", "2880", "9999", "10000", "65535", "65536",
+    "0", "1", "2", "59", "60", "61", "63", "64", "65", "99", "100", "101", "239", "240", "241", "255", "256", "257",
+    "999", "1000", "1001", "2047", "2048", "2049", "2878", "2879", "2880", "9999", "10000", "65535", "65536",
 ];
 
 /// Times at the edges of their ranges, and fields that are nearly times.
@@ -179,6 +181,16 @@ fn put_a_station_last(random: &mut Random, text: &mut Vec<u8>) {
         if stations > 0 {
             let station = lines.remove(random.below(stations));
             lines.push(station);
+        }
+    });
+}
+
+fn put_a_walk_elsewhere(random: &mut Random, text: &mut Vec<u8>) {
+    change_lines(text, |lines| {
+        let walks: Vec<usize> = (0..lines.len()).filter(|&at| lines[at].starts_with(b"W")).collect();
+        if !walks.is_empty() {
+            let walk = lines.remove(random.pick(&walks));
+            lines.insert(random.within(0..=lines.len()), walk);
         }
     });
 }
@@ -344,6 +356,17 @@ fn add_a_station(_: &mut Random, text: &mut Vec<u8>) {
     change_lines(text, |lines| {
         let stations = lines.iter().take_while(|line| line.starts_with(b"S")).count();
         lines.insert(stations, format!("S,{},0,1\n", stations + 1).into_bytes());
+    });
+}
+
+/// Adds a walk after the stations and some of the walks: a fault only where those are full, or where it does not rise.
+fn add_a_walk(random: &mut Random, text: &mut Vec<u8>) {
+    change_lines(text, |lines| {
+        let stations = lines.iter().take_while(|line| line.starts_with(b"S")).count();
+        let walks = lines[stations..].iter().take_while(|line| line.starts_with(b"W")).count();
+        let [from, to] = [0, 1].map(|_| random.within(0..=stations + 1));
+        let walk = format!("W,{from},{to},{},{}\n", random.within(0..=61), random.within(0..=1_001));
+        lines.insert(stations + random.within(0..=walks), walk.into_bytes());
     });
 }
 

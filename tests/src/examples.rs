@@ -15,7 +15,7 @@ T,3,2,3,08:35,,,0
 
 /// The timetable words of M, by hand.
 #[rustfmt::skip]
-pub const M_WORDS: [u16; 51] = [
+pub const M_WORDS: [u16; 55] = [
     3, 3, 7,
     2, 10,  3, 10,  5, 10,
     1, 0, 480, 0, 0,  2, 500, 501, 0, 0,  3, 560, 0, 0, 0,
@@ -23,6 +23,7 @@ pub const M_WORDS: [u16; 51] = [
     2, 0, 502, 0, 0,  3, 515, 0, 0, 0,
     0, 3, 5, 7,
     1, 2, 3,
+    0, 0, 0, 0,
 ];
 
 /// The night timetable of the crate `worked`, in which no two values are alike but where a tie or a line asks for it.

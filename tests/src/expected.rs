@@ -25,7 +25,10 @@ pub fn read(text: &[u8], length: usize) -> Expected<u16> {
         return refusal(8, 0);
     }
     match reference::read(text) {
-        Ok(timetable) => (Reply::done(timetable.stations.len() + timetable.stops()), to_words(&timetable)),
+        Ok(timetable) => {
+            let lines = timetable.stations.len() + timetable.walks.len() + timetable.stops();
+            (Reply::done(lines), to_words(&timetable))
+        }
         Err(Refusal { number, line }) => refusal(number, line),
     }
 }

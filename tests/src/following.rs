@@ -3,7 +3,7 @@
 
 use std::collections::{BTreeSet, HashMap};
 
-use crate::connections::Connection;
+use crate::connections::{Connection, Transfer};
 use crate::direct::Query;
 use crate::search::{better, result, Arrival, Labels, Network};
 use crate::store::Sequence;
@@ -14,7 +14,7 @@ pub struct Guide(HashMap<u16, Tree>);
 #[derive(Default)]
 struct Tree {
     ends: bool,
-    next: Vec<(u16, Tree)>,
+    next: Vec<(Transfer, Tree)>,
 }
 
 impl Guide {
@@ -30,20 +30,21 @@ impl Guide {
     pub fn rows(&self, network: &Network, query: Query) -> Vec<Connection> {
         let mut follower = Follower { network, query, labels: Labels::default(), ends: Vec::new() };
         if let Some(tree) = u16::try_from(query.to).ok().and_then(|to| self.0.get(&to)) {
-            follower.follow(tree, query.from as usize, None);
+            let arrived = follower.ride(query.from as usize, None);
+            follower.follow(tree, &arrived);
         }
         result(network, &follower.labels, follower.ends)
     }
 }
 
 impl Tree {
-    fn insert(&mut self, changes: &[u16]) {
-        let Some((&station, rest)) = changes.split_first() else {
+    fn insert(&mut self, changes: &[Transfer]) {
+        let Some((&change, rest)) = changes.split_first() else {
             self.ends = true;
             return;
         };
-        let place = self.next.iter().position(|(next, _)| *next == station).unwrap_or_else(|| {
-            self.next.push((station, Tree::default()));
+        let place = self.next.iter().position(|(next, _)| *next == change).unwrap_or_else(|| {
+            self.next.push((change, Tree::default()));
             self.next.len() - 1
         });
         self.next[place].1.insert(rest);
@@ -58,40 +59,47 @@ struct Follower<'a> {
 }
 
 impl Follower<'_> {
-    /// Rides on from a station, where riders begin or have arrived, and follows all that goes on from there.
-    fn follow(&mut self, tree: &Tree, station: usize, arrived: Option<&[Option<Arrival>]>) {
-        if arrived.is_some_and(|arrived| self.network.arrivals(station).iter().all(|&at| arrived[at].is_none())) {
-            return;
-        }
-        let arrived = self.ride(station, arrived);
+    /// Follows all that goes on from where riders have arrived, hop by hop.
+    fn follow(&mut self, tree: &Tree, arrived: &[Option<Arrival>]) {
         if tree.ends {
             let arrivals = self.network.arrivals(self.query.to as usize);
             self.ends.extend(arrivals.iter().filter_map(|&at| arrived[at].map(|arrival| (at, arrival))));
         }
-        for (next, tree) in &tree.next {
-            self.follow(tree, usize::from(*next), Some(&arrived));
+        for (change, tree) in &tree.next {
+            let alighted = self.network.arrivals(change.0.into());
+            if alighted.iter().any(|&at| arrived[at].is_some()) {
+                let arrived = self.ride(change.1.into(), Some((change.0, arrived)));
+                self.follow(tree, &arrived);
+            }
         }
     }
 
-    /// The best way to arrive by each hop in one ride from the station.
-    fn ride(&mut self, station: usize, ready: Option<&[Option<Arrival>]>) -> Vec<Option<Arrival>> {
+    /// The best way to arrive by each hop in one ride from the station, where riders begin, or come to from another at
+    /// which they have arrived, by whichever way leads from there.
+    fn ride(&mut self, station: usize, ready: Option<(u16, &[Option<Arrival>])>) -> Vec<Option<Arrival>> {
         let network = self.network;
         let mut arrived = vec![None; network.hops.len()];
-        let (mut seen, mut best) = (0, None);
+        let mut so_far = vec![(0, None); network.ways_to(station).len()];
         for (at, hop) in network.hops.iter().enumerate() {
             let mut aboard = hop.before().and_then(|before| arrived[before]);
             if hop.from == station && hop.boards {
-                let boarded = match ready {
-                    None if hop.depart < self.query.minute => None,
-                    None => Some(self.labels.begin(hop)),
-                    Some(ready) => {
-                        let early = network.early(hop, seen);
-                        seen += early.len();
-                        best = early.iter().fold(best, |best, &other| better(&self.labels, best, ready[other]));
-                        best.map(|best| self.labels.change(best, hop, network.change_penalty(station)))
+                match ready {
+                    None if hop.depart < self.query.minute => {}
+                    None => {
+                        let begun = self.labels.begin(hop);
+                        aboard = better(&self.labels, aboard, Some(begun));
                     }
-                };
-                aboard = better(&self.labels, aboard, boarded);
+                    Some((from, ready)) => {
+                        let ways = network.ways_to(station).iter().zip(&mut so_far).enumerate();
+                        for (place, (way, (seen, best))) in ways.filter(|(_, (way, _))| way.from == from) {
+                            let early = network.early(hop, place, *seen);
+                            *seen += early.len();
+                            *best = early.iter().fold(*best, |best, &other| better(&self.labels, best, ready[other]));
+                            let changed = best.map(|best| self.labels.change(best, hop, way.penalty));
+                            aboard = better(&self.labels, aboard, changed);
+                        }
+                    }
+                }
             }
             arrived[at] = aboard.map(|arrival: Arrival| arrival.ride(hop));
         }

@@ -5,9 +5,9 @@ use std::ops::RangeInclusive;
 
 use crate::random::Random;
 use crate::timetable::{
-    Onward, Station, Stop, Timetable, BOARDING_ONLY, BOTH, CHANGE_MINUTES_MOST, CHANGE_PENALTY_LEAST,
+    Onward, Station, Stop, Timetable, Walk, BOARDING_ONLY, BOTH, CHANGE_MINUTES_MOST, CHANGE_PENALTY_LEAST,
     CHANGE_PENALTY_MOST, LAST_MINUTE, MARKS, RIDE_PENALTY_MOST, SETTING_DOWN_ONLY, STATIONS_MOST, STOPS_MOST,
-    TRIPS_MOST, TRIP_NUMBER_MOST,
+    TRIPS_MOST, TRIP_NUMBER_MOST, WALKS_MOST, WALK_MINUTES_MOST,
 };
 
 /// How large a timetable is to be. The count of stops in all is kept in any case.
@@ -37,8 +37,8 @@ pub fn timetable(random: &mut Random, size: &Size) -> Timetable {
         lengths.push(stops);
         stops_left -= stops;
     }
-    let unmarked = with_trips(random, stations, &lengths);
-    marked_or_not(random, unmarked)
+    let plain = with_trips(random, stations, &lengths);
+    marked_and_walked_or_not(random, plain)
 }
 
 /// 64 stations, 256 trips, 2,048 stops; one trip may have most of the stops. Every stop has mark 0.
@@ -123,6 +123,16 @@ pub fn one_way(stops: usize, penalty: u16, places: &[usize]) -> Timetable {
 pub const TELLING_PLACES: [usize; 16] =
     [0, 1, 654, 655, 656, 657, 1_309, 1_310, 1_311, 1_312, 1_965, 1_966, 1_967, 1_968, 2_046, 2_047];
 
+/// A trip of so many stops by stations 63 and 64, with values of the most digits.
+pub fn long_trip(stops: usize) -> Vec<Stop> {
+    let mut trip = one_way(stops, RIDE_PENALTY_MOST, &[]).trips.remove(&1).expect("one trip");
+    for (place, stop) in trip.iter_mut().enumerate() {
+        stop.station = 63 + (place % 2) as u16;
+        stop.mark = MARKS[place % 3];
+    }
+    trip
+}
+
 /// A timetable of one trip, which takes a minute from each stop to the next and waits nowhere.
 fn minute_by_minute(stations: usize, way: &[(usize, u16)]) -> Timetable {
     let rides: Vec<(u16, u16)> = (1..way.len() as u16).map(|minute| (minute, minute + 1)).collect();
@@ -153,8 +163,8 @@ pub fn with_shared_ways(random: &mut Random, size: &Size) -> Timetable {
             days[chosen] = moments;
         }
     }
-    let unmarked = Timetable::new((0..stations).map(|_| station(random)).collect(), trips);
-    marked_or_not(random, unmarked)
+    let plain = Timetable::new((0..stations).map(|_| station(random)).collect(), trips);
+    marked_and_walked_or_not(random, plain)
 }
 
 /// A timetable whose trips all run within a few minutes, by a few ways of small penalties: many rides cost the same.
@@ -171,8 +181,8 @@ pub fn crowded(random: &mut Random, size: &Size) -> Timetable {
         moments.sort_unstable();
         trips.push(trip_on(way, &rides_at(&moments)));
     }
-    let unmarked = Timetable::new((0..stations).map(|_| station(random)).collect(), trips);
-    marked_or_not(random, unmarked)
+    let plain = Timetable::new((0..stations).map(|_| station(random)).collect(), trips);
+    marked_and_walked_or_not(random, plain)
 }
 
 /// A timetable in which changing often pays: its trips run within a few minutes, by ways of their own and small
@@ -191,8 +201,8 @@ pub fn changing(random: &mut Random, size: &Size) -> Timetable {
     }
     let quick =
         |_| Station { change_minutes: random.pick(&[0, 0, 0, 1, 2]), change_penalty: random.pick(&[1, 1, 2, 3]) };
-    let unmarked = Timetable::new((0..stations).map(quick).collect(), trips);
-    marked_or_not(random, unmarked)
+    let plain = Timetable::new((0..stations).map(quick).collect(), trips);
+    marked_and_walked_or_not(random, plain)
 }
 
 /// 64 stations and 16 routes of 8 stops between four towns and the villages, each with so many trips out and back in a
@@ -370,12 +380,70 @@ pub fn marked(random: &mut Random, timetable: &Timetable) -> Timetable {
     marked
 }
 
-fn marked_or_not(random: &mut Random, unmarked: Timetable) -> Timetable {
+/// Half of all timetables have marks, and half have walks.
+fn marked_and_walked_or_not(random: &mut Random, plain: Timetable) -> Timetable {
+    let timetable = if random.one_in(2) { marked(random, &plain) } else { plain };
     if random.one_in(2) {
-        marked(random, &unmarked)
+        walked(random, &timetable)
     } else {
-        unmarked
+        timetable
     }
+}
+
+/// Which walks there are.
+#[derive(Clone, Copy)]
+enum Walking {
+    Few,
+    Many,
+    /// From stations to themselves.
+    Platforms,
+    /// From each station to the next, so that walks could be joined.
+    Chain,
+    /// From one station or to it.
+    Around(u16),
+}
+
+/// The same trips with walks between stations, quicker or slower and cheaper or dearer than the changes at them.
+pub fn walked(random: &mut Random, timetable: &Timetable) -> Timetable {
+    let stations = timetable.stations.len() as u16;
+    let centre = random.within(1..=stations.into()) as u16;
+    let walking = random.pick(&[
+        Walking::Few,
+        Walking::Many,
+        Walking::Platforms,
+        Walking::Chain,
+        Walking::Around(centre),
+    ]);
+    let mut pairs: Vec<(u16, u16)> =
+        (1..=stations).flat_map(|from| (1..=stations).map(move |to| (from, to))).collect();
+    pairs.retain(|&(from, to)| match walking {
+        Walking::Few => random.below(usize::from(stations) * usize::from(stations)) < 3,
+        Walking::Many => random.below(usize::from(stations) * usize::from(stations)) < 256 && !random.one_in(4),
+        Walking::Platforms => from == to && !random.one_in(4),
+        Walking::Chain => to == from + 1 || random.one_in(40),
+        Walking::Around(centre) => (from == centre || to == centre) && !random.one_in(4),
+    });
+    pairs.truncate(WALKS_MOST);
+    let brisk = random.one_in(2);
+    let walk = |(from, to): (u16, u16)| Walk {
+        from,
+        to,
+        minutes: if brisk { random.pick(&[1, 1, 2]) } else { random.pick(&[1, 2, 3, 8, WALK_MINUTES_MOST]) },
+        penalty: if brisk { random.pick(&[1, 1, 1, 2]) } else { random.pick(&[1, 2, 3, 40, CHANGE_PENALTY_MOST]) },
+    };
+    Timetable { walks: pairs.into_iter().map(walk).collect(), ..timetable.clone() }
+}
+
+/// The same trips with so many walks of a few minutes between stations at random.
+pub fn with_walks(random: &mut Random, timetable: &Timetable, count: usize) -> Timetable {
+    let stations = timetable.stations.len();
+    let mut walks = BTreeMap::new();
+    while walks.len() < count {
+        let [from, to] = [0, 1].map(|_| random.within(1..=stations) as u16);
+        let (minutes, penalty) = (random.within(3..=15) as u16, random.within(5..=25) as u16);
+        walks.insert((from, to), Walk { from, to, minutes, penalty });
+    }
+    Timetable { walks: walks.into_values().collect(), ..timetable.clone() }
 }
 
 fn marks(random: &mut Random, marking: Marking, stops: &[Stop]) -> Vec<u16> {
@@ -399,7 +467,7 @@ pub fn with_gaps(random: &mut Random, timetable: &Timetable) -> Timetable {
     let mut free: Vec<u16> = (1..=most as u16).collect();
     let mut number = || free.swap_remove(random.below(free.len()));
     let trips = timetable.trips.values().map(|stops| (number(), stops.clone())).collect();
-    Timetable { stations: timetable.stations.clone(), trips }
+    Timetable { trips, ..timetable.without_trips() }
 }
 
 /// Station and ride penalty of each stop; the last penalty is none of a ride's.

@@ -9,7 +9,7 @@ use crate::ffi::{self, Reply, Tables};
 use crate::lines::{self, LINE_WORDS, WORK_WORDS};
 use crate::random::Random;
 use crate::store::STORE_WORDS_MOST;
-use crate::timetable::{trip_text, Timetable};
+use crate::timetable::{trip_text, Timetable, TEXT_BYTES_MOST};
 use crate::words::{timetable_of, to_words, TIMETABLE_WORDS};
 
 /// Words on either side of a lent slice, which no call may touch.
@@ -99,14 +99,14 @@ impl Host {
     /// stations alone and adding the trips.
     fn lead_to(&mut self, timetable: &Timetable, words: &[u16]) {
         let mut written = vec![0; TIMETABLE_WORDS];
-        if timetable.trips.keys().copied().eq(1..=timetable.trips.len() as u16) {
-            let text = timetable.to_text();
+        let text = timetable.to_text();
+        let numbered = timetable.trips.keys().copied().eq(1..=timetable.trips.len() as u16);
+        if numbered && text.len() <= TEXT_BYTES_MOST {
             assert_eq!(self.read(&text).number, 0);
             ffi::read(&text, &mut written);
         } else {
             let (mut lines, mut work) = (vec![0; LINE_WORDS], vec![0; WORK_WORDS]);
-            let stations = Timetable { stations: timetable.stations.clone(), ..Timetable::default() };
-            assert_eq!(ffi::read(&stations.to_text(), &mut written).number, 0);
+            assert_eq!(ffi::read(&timetable.without_trips().to_text(), &mut written).number, 0);
             assert_eq!(ffi::build_lines(&written, &mut lines, &mut work).number, 0);
             for (&trip, stops) in &timetable.trips {
                 let text = trip_text(trip.into(), stops);

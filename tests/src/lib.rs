@@ -3,8 +3,9 @@
 //!
 //! A further call needs three things: its declaration and a safe wrapper in [`ffi`], what it must answer in a module
 //! like [`reference`], put together in [`expected`], and a method of [`host::Host`] that compares the two. What the
-//! tests of several calls have in common is in [`lent`] and [`handmade`].
+//! tests of several calls have in common is in [`lent`], [`answers`] and [`handmade`].
 
+pub mod answers;
 pub mod connections;
 pub mod damage;
 pub mod direct;

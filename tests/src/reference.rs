@@ -2,8 +2,9 @@
 //! order.
 
 use crate::timetable::{
-    trip_text, Onward, Station, Stop, Timetable, CHANGE_MINUTES_MOST, CHANGE_PENALTY_LEAST, CHANGE_PENALTY_MOST,
-    LAST_MINUTE, MARKS, RIDE_PENALTY_MOST, STATIONS_MOST, STOPS_MOST, TEXT_BYTES_MOST, TRIPS_MOST,
+    trip_text, Onward, Station, Stop, Timetable, Walk, CHANGE_MINUTES_MOST, CHANGE_PENALTY_LEAST, CHANGE_PENALTY_MOST,
+    LAST_MINUTE, MARKS, RIDE_PENALTY_MOST, STATIONS_MOST, STOPS_MOST, TEXT_BYTES_MOST, TRIPS_MOST, WALKS_MOST,
+    WALK_MINUTES_LEAST, WALK_MINUTES_MOST,
 };
 
 #[derive(Clone, Copy, Debug, PartialEq, Eq)]
@@ -26,14 +27,13 @@ pub fn add(timetable: Timetable, trip: u32, text: &[u8]) -> Result<Timetable, Re
     Reader { stops: timetable.stops(), timetable, extra: Some(trip), begun: None }.read(text)
 }
 
-/// The timetable, if reading, cancelling and adding can lead to it: by a text of its stations alone, to which each of
-/// its trips is added.
+/// The timetable, if reading, cancelling and adding can lead to it: by a text of its stations and walks alone, to which
+/// each of its trips is added.
 pub fn led_to(timetable: &Timetable) -> Option<Timetable> {
-    let stations = Timetable { stations: timetable.stations.clone(), ..Timetable::default() };
     let add_next = |timetable, (&trip, stops): (&u16, &Vec<Stop>)| {
         add(timetable, trip.into(), trip_text(trip.into(), stops).as_bytes()).ok()
     };
-    timetable.trips.iter().try_fold(read(&stations.to_text()).ok()?, add_next)
+    timetable.trips.iter().try_fold(read(&timetable.without_trips().to_text()).ok()?, add_next)
 }
 
 /// The timetable of a text that is accepted.
@@ -43,6 +43,7 @@ pub fn accepted(text: &str) -> Timetable {
 
 enum Line {
     Station { number: u16, station: Station },
+    Walk(Walk),
     Stop { trip: u16, number: u16, stop: Stop },
 }
 
@@ -111,8 +112,13 @@ impl Reader {
     fn in_place(&self, line: &Line) -> bool {
         match *line {
             Line::Station { number, .. } => {
-                let stations_go_on = self.extra.is_none() && self.begun.is_none();
+                let stations_go_on = self.extra.is_none() && self.begun.is_none() && self.timetable.walks.is_empty();
                 stations_go_on && usize::from(number) == self.timetable.stations.len() + 1
+            }
+            Line::Walk(walk) => {
+                let walks_go_on = self.extra.is_none() && self.begun.is_none();
+                let rises = |last: &Walk| (last.from, last.to) < (walk.from, walk.to);
+                walks_go_on && self.timetable.walks.last().is_none_or(rises)
             }
             Line::Stop { trip, number, .. } => self.due() == Some((trip.into(), number.into())),
         }
@@ -122,6 +128,7 @@ impl Reader {
     fn within_counts(&self, line: &Line) -> bool {
         match *line {
             Line::Station { number, .. } => usize::from(number) <= STATIONS_MOST,
+            Line::Walk(_) => self.timetable.walks.len() < WALKS_MOST,
             Line::Stop { number, .. } => {
                 let trips = self.timetable.trips.len() + usize::from(number == 1);
                 trips <= TRIPS_MOST && self.stops < STOPS_MOST
@@ -130,8 +137,13 @@ impl Reader {
     }
 
     fn fits(&self, line: &Line) -> bool {
-        let Line::Stop { stop, .. } = line else { return true };
-        let listed = (1..=self.timetable.stations.len()).contains(&usize::from(stop.station));
+        let listed = |station: u16| (1..=self.timetable.stations.len()).contains(&usize::from(station));
+        let stop = match line {
+            Line::Station { .. } => return true,
+            Line::Walk(walk) => return listed(walk.from) && listed(walk.to),
+            Line::Stop { stop, .. } => stop,
+        };
+        let listed = listed(stop.station);
         let (Some(arrive), Some((before, ride))) = (stop.arrive, self.stop_before()) else { return listed };
         let waits = stop.onward.is_none_or(|onward| onward.depart >= arrive);
         listed && stop.station != before.station && arrive > ride.depart && waits
@@ -140,6 +152,7 @@ impl Reader {
     fn add(&mut self, line: Line) {
         match line {
             Line::Station { station, .. } => self.timetable.stations.push(station),
+            Line::Walk(walk) => self.timetable.walks.push(walk),
             Line::Stop { trip, stop, .. } => {
                 self.timetable.trips.entry(trip).or_default().push(stop);
                 self.begun = Some(trip);
@@ -158,6 +171,7 @@ fn shaped(line: &[u8]) -> Option<Line> {
     let mut fields = line.strip_suffix(b"\n")?.split(|&byte| byte == b',');
     let shaped = match fields.next()? {
         b"S" => station_line(&mut fields)?,
+        b"W" => walk_line(&mut fields)?,
         b"T" => stop_line(&mut fields)?,
         _ => return None,
     };
@@ -169,6 +183,14 @@ fn station_line<'a>(fields: &mut impl Iterator<Item = &'a [u8]>) -> Option<Line>
     let change_minutes = decimal(fields.next()?)?;
     let change_penalty = decimal(fields.next()?)?;
     Some(Line::Station { number, station: Station { change_minutes, change_penalty } })
+}
+
+fn walk_line<'a>(fields: &mut impl Iterator<Item = &'a [u8]>) -> Option<Line> {
+    let from = decimal(fields.next()?)?;
+    let to = decimal(fields.next()?)?;
+    let minutes = decimal(fields.next()?)?;
+    let penalty = decimal(fields.next()?)?;
+    Some(Line::Walk(Walk { from, to, minutes, penalty }))
 }
 
 fn stop_line<'a>(fields: &mut impl Iterator<Item = &'a [u8]>) -> Option<Line> {
@@ -228,6 +250,10 @@ fn in_range(line: &Line) -> bool {
         Line::Station { station, .. } => {
             station.change_minutes <= CHANGE_MINUTES_MOST
                 && (CHANGE_PENALTY_LEAST..=CHANGE_PENALTY_MOST).contains(&station.change_penalty)
+        }
+        Line::Walk(walk) => {
+            (WALK_MINUTES_LEAST..=WALK_MINUTES_MOST).contains(&walk.minutes)
+                && (CHANGE_PENALTY_LEAST..=CHANGE_PENALTY_MOST).contains(&walk.penalty)
         }
         Line::Stop { stop, .. } => {
             let is_time = |minute: u16| minute <= LAST_MINUTE;

@@ -4,7 +4,7 @@
 use std::cmp::Ordering;
 use std::collections::{BTreeSet, HashMap};
 
-use crate::connections::Connection;
+use crate::connections::{ways, Connection, Transfer, Way};
 use crate::direct::Query;
 use crate::store::NODES_MOST;
 use crate::timetable::Timetable;
@@ -25,8 +25,8 @@ pub struct Hop {
     alights: bool,
     /// The trip's hop before this one.
     before: Option<usize>,
-    /// How many of the arrivals where it departs are early enough to change to it.
-    early: usize,
+    /// For each way of changing to where it departs, how many of the arrivals where that begins are early enough.
+    early: Vec<usize>,
     /// Its place among the arrivals where it arrives, if one may alight from it.
     place: usize,
 }
@@ -42,7 +42,10 @@ pub struct Network {
     pub hops: Vec<Hop>,
     /// For each station, counted from 1, the hops from which one may alight there, by arrival.
     arrivals: Vec<Vec<usize>>,
-    change_penalty: Vec<u32>,
+    /// For each station the ways of changing that end there.
+    ways_to: Vec<Vec<Way>>,
+    /// For each station those that begin there: the station where each ends, and its place among those to it.
+    ways_from: Vec<Vec<(usize, usize)>>,
 }
 
 impl Network {
@@ -62,7 +65,7 @@ impl Network {
                     boards: ends[0].may_board(),
                     alights: ends[1].may_alight(),
                     before: None,
-                    early: 0,
+                    early: Vec::new(),
                     place: 0,
                 });
             }
@@ -76,11 +79,13 @@ impl Network {
                 arrivals[hop.to].push(at);
             }
         }
-        let with_root = |value: fn(&crate::timetable::Station) -> u16| {
-            [0].into_iter().chain(timetable.stations.iter().map(|station| value(station).into())).collect::<Vec<u32>>()
-        };
-        let change_minutes = with_root(|station| station.change_minutes);
-        let change_penalty = with_root(|station| station.change_penalty);
+        let mut ways_to: Vec<Vec<Way>> = vec![Vec::new(); timetable.stations.len() + 1];
+        let mut ways_from = vec![Vec::new(); timetable.stations.len() + 1];
+        for way in ways(timetable) {
+            let to = usize::from(way.to);
+            ways_from[usize::from(way.from)].push((to, ways_to[to].len()));
+            ways_to[to].push(way);
+        }
         for arrivals in &mut arrivals {
             arrivals.sort_by_key(|&at| hops[at].arrive);
             for (place, &at) in arrivals.iter().enumerate() {
@@ -88,11 +93,13 @@ impl Network {
             }
         }
         for at in 0..hops.len() {
-            let (from, depart) = (hops[at].from, hops[at].depart);
-            hops[at].early =
-                arrivals[from].partition_point(|&other| hops[other].arrive + change_minutes[from] <= depart);
+            let early = |way: &Way| {
+                let in_time = |&other: &usize| hops[other].arrive + way.minutes <= hops[at].depart;
+                arrivals[usize::from(way.from)].partition_point(in_time)
+            };
+            hops[at].early = ways_to[hops[at].from].iter().map(early).collect();
         }
-        Network { hops, arrivals, change_penalty }
+        Network { hops, arrivals, ways_to, ways_from }
     }
 
     pub fn stations(&self) -> usize {
@@ -104,13 +111,21 @@ impl Network {
         &self.arrivals[station]
     }
 
-    /// The arrivals that are early enough to change to a hop, but for the first so many, which are.
-    pub fn early(&self, hop: &Hop, seen: usize) -> &[usize] {
-        &self.arrivals[hop.from][seen..hop.early]
+    /// The ways of changing that end at a station.
+    pub fn ways_to(&self, station: usize) -> &[Way] {
+        &self.ways_to[station]
     }
 
-    pub fn change_penalty(&self, station: usize) -> u32 {
-        self.change_penalty[station]
+    /// The arrivals that are early enough to change to a hop by the way at this place among those to where it departs,
+    /// but for the first so many, which are.
+    pub fn early(&self, hop: &Hop, way: usize, seen: usize) -> &[usize] {
+        let from = usize::from(self.ways_to[hop.from][way].from);
+        &self.arrivals[from][seen..hop.early[way]]
+    }
+
+    /// For each way of changing, by the station where it ends, what is known before any hop.
+    fn for_each_way<A: Clone>(&self, nothing: A) -> Vec<Vec<A>> {
+        self.ways_to.iter().map(|ways| vec![nothing.clone(); ways.len()]).collect()
     }
 
     /// The minutes at which something departs from a station that may be boarded there.
@@ -121,16 +136,16 @@ impl Network {
 
 const NONE: u32 = u32::MAX;
 
-/// The patterns of one source as a tree: each node is a beginning of some, and knows its parent and its last station.
+/// The patterns of one source as a tree: each node is a beginning of some, and knows its parent and its last change.
 pub struct Patterns {
-    nodes: Vec<(usize, u16)>,
-    children: HashMap<(usize, u16), usize>,
+    nodes: Vec<(usize, Transfer)>,
+    children: HashMap<(usize, Transfer), usize>,
     arcs: BTreeSet<(u16, usize)>,
 }
 
 /// The patterns of all optimal connections of a source; none as soon as there are too many.
 pub fn patterns(network: &Network, source: u32) -> Option<Patterns> {
-    let mut patterns = Patterns { nodes: vec![(0, 0)], children: HashMap::new(), arcs: BTreeSet::new() };
+    let mut patterns = Patterns { nodes: vec![(0, (0, 0))], children: HashMap::new(), arcs: BTreeSet::new() };
     let mut minute = Minute::new(network);
     for &departure in network.minutes(source).iter().rev() {
         minute.find_least(network, source, departure);
@@ -145,8 +160,8 @@ pub fn patterns(network: &Network, source: u32) -> Option<Patterns> {
 struct Minute {
     /// The least penalty of arriving by it, or `NONE`.
     least: Vec<u32>,
-    /// The least penalty of boarding it after a change, the change's included, or `NONE`.
-    boarding: Vec<u32>,
+    /// The least penalty of boarding it after a change by each way, the change's included, or `NONE`.
+    boarding: Vec<Vec<u32>>,
     /// Whether arriving by it, at the least penalty, is optimal there.
     optimal: Vec<bool>,
     /// Whether it is part of an optimal connection.
@@ -156,24 +171,27 @@ struct Minute {
 impl Minute {
     fn new(network: &Network) -> Minute {
         let hops = network.hops.len();
-        Minute { least: vec![0; hops], boarding: vec![0; hops], optimal: vec![false; hops], useful: vec![false; hops] }
+        let boarding = network.hops.iter().map(|hop| vec![NONE; hop.early.len()]).collect();
+        Minute { least: vec![0; hops], boarding, optimal: vec![false; hops], useful: vec![false; hops] }
     }
 
     fn find_least(&mut self, network: &Network, source: u32, minute: u32) {
-        // for each station the arrivals looked at, and the least penalty among them
-        let mut so_far = vec![(0, NONE); network.arrivals.len()];
+        // for each way the arrivals looked at, and the least penalty among them
+        let mut so_far = network.for_each_way((0, NONE));
         for (at, hop) in network.hops.iter().enumerate() {
-            let (seen, least) = &mut so_far[hop.from];
-            for &other in &network.arrivals[hop.from][*seen..hop.early] {
-                *least = (*least).min(self.least[other]);
+            let mut aboard = hop.before.map_or(NONE, |before| self.least[before]);
+            for (way, (seen, least)) in so_far[hop.from].iter_mut().enumerate() {
+                for &other in network.early(hop, way, *seen) {
+                    *least = (*least).min(self.least[other]);
+                }
+                *seen = hop.early[way];
+                let price = network.ways_to[hop.from][way].penalty;
+                self.boarding[at][way] = if hop.boards { least.saturating_add(price) } else { NONE };
+                aboard = aboard.min(self.boarding[at][way]);
             }
-            *seen = hop.early;
-            self.boarding[at] = if hop.boards { least.saturating_add(network.change_penalty[hop.from]) } else { NONE };
-            let aboard = if hop.from == source as usize && hop.depart >= minute && hop.boards {
-                0
-            } else {
-                self.boarding[at].min(hop.before.map_or(NONE, |before| self.least[before]))
-            };
+            if hop.from == source as usize && hop.depart >= minute && hop.boards {
+                aboard = 0;
+            }
             self.least[at] = aboard.saturating_add(hop.penalty);
         }
     }
@@ -199,12 +217,15 @@ impl Minute {
     /// and the rider stays aboard, or if one may alight from it and a change to a useful hop is as good as any.
     fn find_useful(&mut self, network: &Network) {
         self.useful.copy_from_slice(&self.optimal);
-        // for each station the useful hops that are boarded there: early arrivals, and the penalty of those that count
-        let mut boarded: Vec<Vec<(usize, u32)>> = vec![Vec::new(); network.arrivals.len()];
+        // for each way the useful hops that are boarded by it: early arrivals, and the penalty of those that count
+        let mut boarded: Vec<Vec<Vec<(usize, u32)>>> = network.for_each_way(Vec::new());
         for (at, hop) in network.hops.iter().enumerate().rev() {
-            let next = boarded[hop.to].partition_point(|&(early, _)| early > hop.place);
-            let as_good = next > 0 && boarded[hop.to][next - 1].1 == self.least[at] && self.least[at] != NONE;
-            if hop.alights && as_good {
+            let as_good = |&(to, way): &(usize, usize)| {
+                let boarded = &boarded[to][way];
+                let next = boarded.partition_point(|&(early, _)| early > hop.place);
+                next > 0 && boarded[next - 1].1 == self.least[at] && self.least[at] != NONE
+            };
+            if hop.alights && network.ways_from[hop.to].iter().any(as_good) {
                 self.useful[at] = true;
             }
             if !self.useful[at] {
@@ -214,8 +235,10 @@ impl Minute {
             if let Some(before) = hop.before.filter(|&before| self.least[before] == aboard) {
                 self.useful[before] = true;
             }
-            if self.boarding[at] == aboard {
-                boarded[hop.from].push((hop.early, aboard - network.change_penalty[hop.from]));
+            for (way, boarded) in boarded[hop.from].iter_mut().enumerate() {
+                if self.boarding[at][way] == aboard {
+                    boarded.push((hop.early[way], aboard - network.ways_to[hop.from][way].penalty));
+                }
             }
         }
     }
@@ -223,8 +246,8 @@ impl Minute {
     /// The patterns of every useful hop, from the first departure to the last.
     fn follow(&self, network: &Network, source: u32, minute: u32, patterns: &mut Patterns) -> Option<()> {
         let mut aboard: Vec<Vec<usize>> = vec![Vec::new(); network.hops.len()];
-        // for each station the arrivals looked at, their least penalty, and the patterns of those that have it
-        let mut so_far: Vec<(usize, u32, Vec<usize>)> = vec![(0, NONE, Vec::new()); network.arrivals.len()];
+        // for each way the arrivals looked at, their least penalty, and the patterns of those that have it
+        let mut so_far: Vec<Vec<(usize, u32, Vec<usize>)>> = network.for_each_way((0, NONE, Vec::new()));
         for (at, hop) in network.hops.iter().enumerate().filter(|&(at, _)| self.useful[at]) {
             let least = self.least[at] - hop.penalty;
             let mut nodes = Vec::new();
@@ -234,9 +257,11 @@ impl Minute {
             if let Some(before) = hop.before.filter(|&before| self.least[before] == least) {
                 nodes.extend(&aboard[before]);
             }
-            if self.boarding[at] == least {
-                let (seen, so_far_least, changed) = &mut so_far[hop.from];
-                for &other in &network.arrivals[hop.from][*seen..hop.early] {
+            for (way, (seen, so_far_least, changed)) in so_far[hop.from].iter_mut().enumerate() {
+                if self.boarding[at][way] != least {
+                    continue;
+                }
+                for &other in network.early(hop, way, *seen) {
                     if self.least[other] < *so_far_least {
                         *so_far_least = self.least[other];
                         changed.clear();
@@ -245,11 +270,12 @@ impl Minute {
                         changed.extend(&aboard[other]);
                     }
                 }
-                *seen = hop.early;
+                *seen = hop.early[way];
                 changed.sort_unstable();
                 changed.dedup();
+                let Way { from, to, .. } = network.ways_to[hop.from][way];
                 for &node in changed.iter() {
-                    nodes.push(patterns.child(node, word(hop.from))?);
+                    nodes.push(patterns.child(node, (from, to))?);
                 }
             }
             nodes.sort_unstable();
@@ -267,11 +293,11 @@ impl Minute {
 }
 
 impl Patterns {
-    fn child(&mut self, node: usize, station: u16) -> Option<usize> {
+    fn child(&mut self, node: usize, change: Transfer) -> Option<usize> {
         let next = self.nodes.len();
-        let child = *self.children.entry((node, station)).or_insert(next);
+        let child = *self.children.entry((node, change)).or_insert(next);
         if child == next {
-            self.nodes.push((node, station));
+            self.nodes.push((node, change));
         }
         (child <= NODES_MOST).then_some(child)
     }
@@ -283,17 +309,17 @@ impl Patterns {
 
     /// The words of their store.
     pub fn to_words(&self) -> Vec<u16> {
-        let mut sequences: Vec<(Vec<u16>, usize)> = vec![(Vec::new(), 0)];
-        for (at, &(parent, station)) in self.nodes.iter().enumerate().skip(1) {
-            sequences.push(([&sequences[parent].0[..], &[station]].concat(), at));
+        let mut sequences: Vec<(Vec<Transfer>, usize)> = vec![(Vec::new(), 0)];
+        for (at, &(parent, change)) in self.nodes.iter().enumerate().skip(1) {
+            sequences.push(([&sequences[parent].0[..], &[change]].concat(), at));
         }
         sequences.sort_by(|(one, _), (other, _)| one.len().cmp(&other.len()).then_with(|| one.cmp(other)));
         let mut numbers = vec![0; self.nodes.len()];
         (0..).zip(&sequences).for_each(|(number, &(_, at))| numbers[at] = number);
         let mut words = vec![word(self.nodes.len() - 1), word(self.arcs.len())];
         for &(_, at) in &sequences[1..] {
-            let (parent, station) = self.nodes[at];
-            words.extend([station, numbers[parent]]);
+            let (parent, (alighted, boarded)) = self.nodes[at];
+            words.extend([alighted, boarded, numbers[parent]]);
         }
         let arcs: BTreeSet<(u16, u16)> = self.arcs.iter().map(|&(target, node)| (target, numbers[node])).collect();
         words.extend(arcs.iter().flat_map(|&(target, number)| [target, number]));
@@ -370,15 +396,19 @@ impl Labels {
             ride = self.0[label].before;
         }
         rides.reverse();
-        let station = |ride: &[u32; 3]| {
-            let boarded = network.hops.iter().find(|hop| hop.trip == ride[0] && hop.stop == ride[1]);
-            word(boarded.expect("a ride boards a hop").from)
+        let hop_at = |trip: u32, stop: u32| {
+            let at = network.hops.iter().find(|hop| hop.trip == trip && hop.stop == stop);
+            at.expect("a ride boards a hop and alights from one")
+        };
+        let change = |rides: &[[u32; 3]]| {
+            let [before, after] = [rides[0], rides[1]];
+            (word(hop_at(before[0], before[2] - 1).to), word(hop_at(after[0], after[1]).from))
         };
         Connection {
             depart: self.0[arrival.label].depart,
             arrive: hop.arrive,
             penalty: self.penalty(arrival),
-            changes: rides[1..].iter().map(station).collect(),
+            changes: rides.windows(2).map(change).collect(),
             rides,
             to: word(hop.to),
         }
@@ -429,21 +459,24 @@ pub fn result(network: &Network, labels: &Labels, mut arrived: Vec<(usize, Arriv
 pub fn whole(network: &Network, query: Query) -> Vec<Connection> {
     let mut labels = Labels::default();
     let mut arrived: Vec<Option<Arrival>> = vec![None; network.hops.len()];
-    let mut so_far: Vec<(usize, Option<Arrival>)> = vec![(0, None); network.arrivals.len()];
+    let mut so_far: Vec<Vec<(usize, Option<Arrival>)>> = network.for_each_way((0, None));
     let begin = network.hops.partition_point(|hop| hop.depart < query.minute);
     for (at, hop) in network.hops.iter().enumerate().skip(begin) {
-        let (seen, best) = &mut so_far[hop.from];
-        for &other in &network.arrivals[hop.from][*seen..hop.early] {
-            *best = better(&labels, *best, arrived[other]);
+        let mut aboard = hop.before.and_then(|before| arrived[before]);
+        if hop.boards && hop.from == query.from as usize {
+            let begun = labels.begin(hop);
+            aboard = better(&labels, aboard, Some(begun));
         }
-        *seen = hop.early;
-        let stay = hop.before.and_then(|before| arrived[before]);
-        let begun = (hop.boards && hop.from == query.from as usize).then(|| labels.begin(hop));
-        let changed = best.filter(|_| hop.boards).map(|best| {
-            let penalty = network.change_penalty[hop.from];
-            labels.change(best, hop, penalty)
-        });
-        let aboard = [begun, changed].into_iter().fold(stay, |best, next| better(&labels, best, next));
+        for (way, (seen, best)) in so_far[hop.from].iter_mut().enumerate() {
+            for &other in network.early(hop, way, *seen) {
+                *best = better(&labels, *best, arrived[other]);
+            }
+            *seen = hop.early[way];
+            if let Some(best) = best.filter(|_| hop.boards) {
+                let changed = labels.change(best, hop, network.ways_to[hop.from][way].penalty);
+                aboard = better(&labels, aboard, Some(changed));
+            }
+        }
         arrived[at] = aboard.map(|arrival| arrival.ride(hop));
     }
     let ends = network.arrivals(query.to as usize).iter();

@@ -14,7 +14,7 @@ pub fn are_of(timetable: &Timetable, words: &[u16]) -> bool {
 }
 
 /// A timetable with the line tables that `words` begins with, if reading, cancelling and adding can lead to one. Line
-/// tables tell nothing of changes: its stations have change minutes 0 and change penalty 1.
+/// tables tell nothing of changes: its stations have change minutes 0 and change penalty 1, and it has no walks.
 ///
 /// Nothing is judged here but whether the words can be taken apart: the lines of the timetable that they would have are
 /// written out, and the reader decides whether these lead back to the same words.
@@ -33,7 +33,7 @@ fn from_words(words: &[u16]) -> Option<Timetable> {
         stops_of_trips.extend(line_from_words(words.get(usize::from(begin)..)?)?);
     }
     let station = Station { change_minutes: 0, change_penalty: 1 };
-    Some(Timetable { stations: vec![station; stations], trips: stops_of_trips })
+    Some(Timetable { stations: vec![station; stations], walks: Vec::new(), trips: stops_of_trips })
 }
 
 /// The trips of the line whose words these begin with, each with its number.
@@ -100,6 +100,7 @@ mod tests {
                 let length = words.len();
                 words.push(random.word());
                 timetable.stations.fill(Station { change_minutes: 0, change_penalty: 1 });
+                timetable.walks.clear();
                 assert_eq!(timetable_of(&words), Some(timetable));
                 assert_eq!(timetable_of(&words[..length - 1]), None);
             }

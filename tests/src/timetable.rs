@@ -4,6 +4,7 @@ use std::collections::BTreeMap;
 use std::fmt::{self, Display};
 
 pub const STATIONS_MOST: usize = 64;
+pub const WALKS_MOST: usize = 256;
 pub const TRIPS_MOST: usize = 256;
 pub const STOPS_MOST: usize = 2_048;
 pub const TEXT_BYTES_MOST: usize = 65_536;
@@ -13,6 +14,8 @@ pub const TRIP_NUMBER_MOST: u16 = 9_999;
 pub const CHANGE_MINUTES_MOST: u16 = 240;
 pub const CHANGE_PENALTY_LEAST: u16 = 1;
 pub const CHANGE_PENALTY_MOST: u16 = 1_000;
+pub const WALK_MINUTES_LEAST: u16 = 1;
+pub const WALK_MINUTES_MOST: u16 = 60;
 pub const LAST_MINUTE: u16 = 2_879;
 pub const RIDE_PENALTY_MOST: u16 = 100;
 
@@ -26,6 +29,8 @@ pub const MARKS: [u16; 3] = [BOTH, BOARDING_ONLY, SETTING_DOWN_ONLY];
 pub struct Timetable {
     /// Station 1 is the first.
     pub stations: Vec<Station>,
+    /// Rising by their stations.
+    pub walks: Vec<Walk>,
     /// The trips that run, by their numbers. Stop 1 is the first of each.
     pub trips: BTreeMap<u16, Vec<Stop>>,
 }
@@ -34,6 +39,15 @@ pub struct Timetable {
 pub struct Station {
     pub change_minutes: u16,
     pub change_penalty: u16,
+}
+
+/// A change on foot. "The walk's minutes and penalty replace the station's."
+#[derive(Clone, Copy, Debug, PartialEq, Eq)]
+pub struct Walk {
+    pub from: u16,
+    pub to: u16,
+    pub minutes: u16,
+    pub penalty: u16,
 }
 
 #[derive(Clone, Copy, Debug, PartialEq, Eq)]
@@ -66,9 +80,14 @@ pub struct Onward {
 }
 
 impl Timetable {
-    /// A timetable of trips 1, 2, 3.., as a text has it.
+    /// A timetable of trips 1, 2, 3.., as a text has it, without walks.
     pub fn new(stations: Vec<Station>, trips: impl IntoIterator<Item = Vec<Stop>>) -> Timetable {
-        Timetable { stations, trips: (1..).zip(trips).collect() }
+        Timetable { stations, walks: Vec::new(), trips: (1..).zip(trips).collect() }
+    }
+
+    /// Its stations and walks alone.
+    pub fn without_trips(&self) -> Timetable {
+        Timetable { trips: BTreeMap::new(), ..self.clone() }
     }
 
     /// How many stops its trips have in all.
@@ -92,6 +111,9 @@ impl Display for Timetable {
     fn fmt(&self, out: &mut fmt::Formatter) -> fmt::Result {
         for (station, values) in (1..).zip(&self.stations) {
             writeln!(out, "S,{station},{},{}", values.change_minutes, values.change_penalty)?;
+        }
+        for Walk { from, to, minutes, penalty } in &self.walks {
+            writeln!(out, "W,{from},{to},{minutes},{penalty}")?;
         }
         self.trips.iter().try_for_each(|(&trip, stops)| out.write_str(&trip_text(trip.into(), stops)))
     }

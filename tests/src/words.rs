@@ -3,14 +3,16 @@
 use std::collections::BTreeMap;
 
 use crate::reference;
-use crate::timetable::{Onward, Station, Stop, Timetable};
+use crate::timetable::{Onward, Station, Stop, Timetable, Walk};
 
 /// What a lent timetable slice must have room for: question 8.
 pub const TIMETABLE_WORDS: usize = 16_384;
 /// The words of a stop: station, arrive, depart, ride penalty, mark.
 pub const STOP_WORDS: usize = 5;
+/// The words of a walk: from, to, minutes, penalty.
+pub const WALK_WORDS: usize = 4;
 /// No timetable has more words than these, by docs/LAYOUT.md.
-pub const TIMETABLE_WORDS_MOST: usize = 10_884;
+pub const TIMETABLE_WORDS_MOST: usize = 11_973;
 
 pub fn to_words(timetable: &Timetable) -> Vec<u16> {
     let mut words = [timetable.stations.len(), timetable.trips.len(), timetable.stops()].map(word).to_vec();
@@ -28,7 +30,16 @@ pub fn to_words(timetable: &Timetable) -> Vec<u16> {
     }
     words.push(word(first));
     words.extend(timetable.trips.keys());
+    let walks_to = |station: usize| timetable.walks.iter().filter(|walk| usize::from(walk.from) <= station).count();
+    words.extend((0..=timetable.stations.len()).map(|station| word(walks_to(station))));
+    words.extend(timetable.walks.iter().flat_map(|walk| [walk.from, walk.to, walk.minutes, walk.penalty]));
     words
+}
+
+/// Where in the words of a timetable the numbers of its trips begin.
+pub fn numbers_place(timetable: &Timetable) -> usize {
+    let starts = 3 + 2 * timetable.stations.len() + STOP_WORDS * timetable.stops();
+    starts + timetable.trips.len() + 1
 }
 
 pub(crate) fn word(number: usize) -> u16 {
@@ -45,15 +56,21 @@ pub fn timetable_of(words: &[u16]) -> Option<Timetable> {
 }
 
 fn from_words(words: &[u16]) -> Option<Timetable> {
-    let (&[stations, trips, stops], mut rest) = words.split_first_chunk()?;
-    let stations = take(&mut rest, 2 * usize::from(stations))?;
+    let (&[count, trips, stops], mut rest) = words.split_first_chunk()?;
+    let stations = take(&mut rest, 2 * usize::from(count))?;
     let stops: Vec<&[u16]> = take(&mut rest, STOP_WORDS * usize::from(stops))?.chunks(STOP_WORDS).collect();
     let firsts = take(&mut rest, usize::from(trips) + 1)?;
     let numbers = take(&mut rest, usize::from(trips))?;
+    let walks = *take(&mut rest, usize::from(count) + 1)?.last().expect("one count at least");
+    let walks = take(&mut rest, WALK_WORDS * usize::from(walks))?;
     let trip = |ends: &[u16]| stops.get(usize::from(ends[0])..usize::from(ends[1])).map(trip_from_words);
     let trips: Option<BTreeMap<u16, Vec<Stop>>> =
         numbers.iter().zip(firsts.windows(2)).map(|(&number, ends)| Some((number, trip(ends)?))).collect();
-    Some(Timetable { stations: stations.chunks(2).map(station_from_words).collect(), trips: trips? })
+    Some(Timetable {
+        stations: stations.chunks(2).map(station_from_words).collect(),
+        walks: walks.chunks(WALK_WORDS).map(walk_from_words).collect(),
+        trips: trips?,
+    })
 }
 
 pub(crate) fn take<'a>(words: &mut &'a [u16], count: usize) -> Option<&'a [u16]> {
@@ -64,6 +81,10 @@ pub(crate) fn take<'a>(words: &mut &'a [u16], count: usize) -> Option<&'a [u16]>
 
 fn station_from_words(words: &[u16]) -> Station {
     Station { change_minutes: words[0], change_penalty: words[1] }
+}
+
+fn walk_from_words(words: &[u16]) -> Walk {
+    Walk { from: words[0], to: words[1], minutes: words[2], penalty: words[3] }
 }
 
 fn trip_from_words(stops: &[&[u16]]) -> Vec<Stop> {
@@ -103,7 +124,7 @@ mod tests {
         let mut random = Random::new(2);
         let trips = with_trips(&mut random, 2, &[2, 2]);
         let words = to_words(&trips);
-        let last = words.len() - 1;
+        let first = numbers_place(&trips);
         for (numbers, yes) in [
             ([1, 2], true),
             ([1, 9_999], true),
@@ -115,7 +136,7 @@ mod tests {
             ([1, 65_535], false),
         ] {
             let mut words = words.clone();
-            words[last - 1..].copy_from_slice(&numbers);
+            words[first..first + 2].copy_from_slice(&numbers);
             assert_eq!(timetable_of(&words).is_some(), yes, "{numbers:?}");
         }
     }

@@ -16,7 +16,7 @@ use dairyepoch_tests::random::Random;
 use dairyepoch_tests::reference::accepted;
 use dairyepoch_tests::search::{self, Network};
 use dairyepoch_tests::timetable::{clock, trip_text, Station, Stop, Timetable, LAST_MINUTE};
-use dairyepoch_tests::words::{timetable_of, to_words, TIMETABLE_WORDS};
+use dairyepoch_tests::words::{numbers_place, timetable_of, to_words, TIMETABLE_WORDS};
 
 /// A control room: a timetable and its line tables, which every change is made in.
 struct Room {
@@ -95,13 +95,14 @@ fn second(trip: u32) -> String {
 
 /// M without trip 2.
 #[rustfmt::skip]
-const M_WITHOUT_2: [u16; 39] = [
+const M_WITHOUT_2: [u16; 43] = [
     3, 2, 5,
     2, 10,  3, 10,  5, 10,
     1, 0, 480, 0, 0,  2, 500, 501, 0, 0,  3, 560, 0, 0, 0,
     2, 0, 502, 0, 0,  3, 515, 0, 0, 0,
     0, 3, 5,
     1, 3,
+    0, 0, 0, 0,
 ];
 
 #[rustfmt::skip]
@@ -118,7 +119,7 @@ const LINES_WITHOUT_2: [u16; 51] = [
 
 /// The same with trip 2 come back as 9999.
 #[rustfmt::skip]
-const M_WITH_9999: [u16; 51] = [
+const M_WITH_9999: [u16; 55] = [
     3, 3, 7,
     2, 10,  3, 10,  5, 10,
     1, 0, 480, 0, 0,  2, 500, 501, 0, 0,  3, 560, 0, 0, 0,
@@ -126,6 +127,7 @@ const M_WITH_9999: [u16; 51] = [
     2, 0, 503, 0, 0,  3, 520, 0, 0, 0,
     0, 3, 5, 7,
     1, 3, 9_999,
+    0, 0, 0, 0,
 ];
 
 #[rustfmt::skip]
@@ -156,12 +158,12 @@ fn a_change_leads_to_these_words_and_keeps_those_past_them() {
     let before = room.tables.clone();
     room.cancels(2, 2);
     let Lent { timetable, lines } = &room.tables;
-    assert_eq!((&timetable[..39], &timetable[39..]), (&M_WITHOUT_2[..], &before.timetable[39..]));
+    assert_eq!((&timetable[..43], &timetable[43..]), (&M_WITHOUT_2[..], &before.timetable[43..]));
     assert_eq!((&lines[..51], &lines[51..]), (&LINES_WITHOUT_2[..], &before.lines[51..]));
-    assert_eq!(timetable[39..51], M_WORDS[39..], "the words of the old table");
+    assert_eq!(timetable[43..55], M_WORDS[43..], "the words of the old table");
     room.adds(9_999, second(9_999), 2);
     let Lent { timetable, lines } = &room.tables;
-    assert_eq!((&timetable[..51], &timetable[51..]), (&M_WITH_9999[..], &before.timetable[51..]));
+    assert_eq!((&timetable[..55], &timetable[55..]), (&M_WITH_9999[..], &before.timetable[55..]));
     assert_eq!((&lines[..56], &lines[56..]), (&LINES_WITH_9999[..], &before.lines[56..]));
 }
 
@@ -239,8 +241,12 @@ fn lines_of_stations_and_walks_in_an_extra_trip() {
         ("S,4,0", 2),
         ("S,4,0,", 2),
         ("S,10000,0,1", 2),
-        ("W,1,2,5,5", 2),
-        ("W,1,2,5,0", 2),
+        ("W,1,2,5,5", 4),
+        ("W,1,1,60,1000", 4),
+        ("W,9,9,5,5", 4),
+        ("W,1,2,5,0", 3),
+        ("W,1,2,61,5", 3),
+        ("W,1,2,5", 2),
         ("Q,1,3,470", 2),
     ] {
         room.refuses(5, format!("{line}\n"), number, 1);
@@ -874,7 +880,7 @@ fn all_trips_cancelled_in_any_order_and_added_in_any_order() {
         for trip in there {
             assert_eq!(room.cancel(trip.into()).number, 0);
         }
-        room.holds(&Timetable { stations: timetable.stations.clone(), ..Timetable::default() });
+        room.holds(&timetable.without_trips());
         for trip in back {
             let text = trip_text(trip.into(), &timetable.trips[&trip]);
             assert_eq!(room.add(trip.into(), text).number, 0);
@@ -1004,7 +1010,7 @@ fn numbers_tampered_with() {
     for _ in 0..150 {
         let timetable = any_timetable(&mut random);
         let tables = Lent::new(&timetable, &mut random);
-        let first = to_words(&timetable).len() - timetable.trips.len();
+        let first = numbers_place(&timetable);
         for at in first..first + timetable.trips.len() {
             let number = tables.timetable[at];
             for value in [number + 1, number - 1, 0, 9_999, 10_000, u16::MAX, random.within(1..=9_999) as u16] {

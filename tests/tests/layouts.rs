@@ -101,8 +101,8 @@ fn translate(host: &mut Host, timetable: &Timetable, random: &mut Random) -> boo
 /// Whether the times of a line of several trips stand in another order, by trip: equal times may hide it.
 fn differs(timetable: &Timetable, line: &[u16]) -> bool {
     let alone = Timetable {
-        stations: timetable.stations.clone(),
         trips: line.iter().map(|trip| (*trip, timetable.trips[trip].clone())).collect(),
+        ..timetable.without_trips()
     };
     lines::to_words(&alone) != lines::to_words_by_trip(&alone)
 }

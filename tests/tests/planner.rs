@@ -8,7 +8,7 @@ use std::mem::swap;
 use std::path::{Path, PathBuf};
 use std::process::{self, Command};
 
-use dairyepoch_tests::connections::{self, Connection};
+use dairyepoch_tests::connections::{self, ways, Connection, Transfer, Way};
 use dairyepoch_tests::damage::damaged;
 use dairyepoch_tests::direct::Query;
 use dairyepoch_tests::generate::{changing, crowded, rural, timetable, CHANGING, CROWDED, MIDDLING, SMALL};
@@ -81,11 +81,21 @@ fn sequences(network: &Network, source: u32) -> BTreeSet<Sequence> {
     Store::from_words(&words).expect("a store").sequences()
 }
 
-/// Source, changes and target as the program writes them.
-fn spelled(source: u32, (changes, target): &Sequence, between: &str) -> String {
-    let mut numbers = vec![source.to_string()];
-    numbers.extend(changes.iter().chain([target]).map(u16::to_string));
-    numbers.join(between)
+/// A change as the program writes it, its two stations apart by `on_foot` if they differ.
+fn named((alighted, boarded): Transfer, on_foot: &str) -> String {
+    if alighted == boarded {
+        alighted.to_string()
+    } else {
+        format!("{alighted}{on_foot}{boarded}")
+    }
+}
+
+/// Source, changes and target as the program writes them, apart by `between`.
+fn spelled(source: u32, (changes, target): &Sequence, between: &str, on_foot: &str) -> String {
+    let mut names = vec![source.to_string()];
+    names.extend(changes.iter().map(|&change| named(change, on_foot)));
+    names.push(target.to_string());
+    names.join(between)
 }
 
 fn minute(clock: &str) -> u32 {
@@ -127,7 +137,7 @@ fn compare_sequences(folder: &Folder, timetable: &Timetable, sources: impl Itera
             shown.insert((line[3].clone(), line[1].clone(), line[2].clone()));
         }
         let expected: BTreeSet<(String, String, String)> = (sequences(&network, source).iter())
-            .map(|sequence| (spelled(source, sequence, " "), sequence.1.to_string(), sequence.0.len().to_string()))
+            .map(|sequence| (spelled(source, sequence, " ", "-"), sequence.1.to_string(), sequence.0.len().to_string()))
             .collect();
         assert_eq!(shown, expected, "source {source} of\n{timetable}");
         count += expected.len();
@@ -167,31 +177,34 @@ fn check_reasons(folder: &Folder, timetable: &Timetable, source: u32) -> usize {
     lines.len()
 }
 
-/// The rides of a reason lead along its stations, each change takes its minutes, and they cost what they are said to.
+/// The rides of a reason lead along its stations, each change takes a way that is in time, and with the cheapest such
+/// ways they cost what they are said to.
 fn check_rides(timetable: &Timetable, query: Query, cost: (u32, u32), line: &[String]) {
-    let mut way = vec![query.from.to_string()];
-    let (mut ready, mut arrived, mut penalty) = (query.minute, query.minute, 0);
+    let ways = ways(timetable);
+    let mut names = vec![query.from.to_string()];
+    let (mut arrived, mut penalty, mut at) = (query.minute, 0, query.from as u16);
     for (number, ride) in line[7].split(' ').enumerate() {
         let numbers: Vec<u32> = ride.split([':', '-']).map(|number| number.parse().expect("a number")).collect();
         let [trip, board, alight] = numbers[..] else { panic!("{ride} is no ride") };
         assert!(board < alight);
-        let boarded = stop(timetable, trip, board);
-        assert!(boarded.may_board() && stop(timetable, trip, alight).may_alight());
-        assert_eq!(&boarded.station.to_string(), &way[number]);
-        assert!(u32::from(boarded.onward.expect("a departure").depart) >= ready);
+        let [boarded, alighted] = [board, alight].map(|number| stop(timetable, trip, number));
+        assert!(boarded.may_board() && alighted.may_alight());
+        let depart = u32::from(boarded.onward.expect("a departure").depart);
+        if number == 0 {
+            assert!(boarded.station == at && depart >= query.minute);
+        } else {
+            let in_time = |way: &&Way| (way.from, way.to) == (at, boarded.station) && arrived + way.minutes <= depart;
+            penalty += ways.iter().filter(in_time).map(|way| way.penalty).min().expect("a way in time");
+            names.push(named((at, boarded.station), "-"));
+        }
         penalty += (board..alight)
             .map(|at| u32::from(stop(timetable, trip, at).onward.expect("a ride onward").penalty))
             .sum::<u32>();
-        let alighted = stop(timetable, trip, alight);
-        let change = timetable.stations[usize::from(alighted.station) - 1];
-        arrived = alighted.arrive.expect("an arrival").into();
-        ready = arrived + u32::from(change.change_minutes);
-        penalty += u32::from(change.change_penalty);
-        way.push(alighted.station.to_string());
+        (arrived, at) = (alighted.arrive.expect("an arrival").into(), alighted.station);
     }
-    let last = timetable.stations[query.to as usize - 1];
-    assert_eq!((arrived - query.minute, penalty - u32::from(last.change_penalty)), cost);
-    assert_eq!(way.join(" "), line[3]);
+    names.push(at.to_string());
+    assert_eq!((arrived - query.minute, penalty), cost);
+    assert_eq!(names.join(" "), line[3]);
 }
 
 #[test]
@@ -339,7 +352,8 @@ fn varied(random: &mut Random, timetable: &Timetable) -> Timetable {
     match random.below(4) {
         0 | 1 if !varied.trips.is_empty() => {
             varied.trips.remove(&(random.within(1..=timetable.trips.len()) as u16));
-            varied = Timetable::new(varied.stations, varied.trips.into_values());
+            let renumbered = Timetable::new(varied.stations, varied.trips.into_values());
+            varied = Timetable { walks: varied.walks, ..renumbered };
         }
         2 if !varied.trips.is_empty() => {
             let mut stops: Vec<&mut Stop> = varied.trips.values_mut().flatten().collect();
@@ -378,7 +392,7 @@ impl Differences {
         for source in stations(old) {
             let [before, after] = [&before, &after].map(|network| sequences(network, source));
             let only = |one: &BTreeSet<Sequence>, other: &BTreeSet<Sequence>| -> Vec<String> {
-                one.difference(other).map(|sequence| spelled(source, sequence, " > ")).collect()
+                one.difference(other).map(|sequence| spelled(source, sequence, " > ", " on foot to ")).collect()
             };
             differences.lost.extend(only(&before, &after));
             differences.gained.extend(only(&after, &before));

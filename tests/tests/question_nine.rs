@@ -3,12 +3,12 @@
 
 use dairyepoch_tests::ffi;
 use dairyepoch_tests::generate::{
-    largest, long_lines, marked, timetable, with_gaps, with_trips, Size, LARGE, MIDDLING, SMALL,
+    largest, long_lines, marked, timetable, with_gaps, with_trips, with_walks, Size, LARGE, MIDDLING, SMALL,
 };
 use dairyepoch_tests::host::{lent, Host};
 use dairyepoch_tests::random::Random;
-use dairyepoch_tests::timetable::{Onward, Station, Stop, Timetable, BOTH};
-use dairyepoch_tests::words::{to_words, STOP_WORDS, TIMETABLE_WORDS, TIMETABLE_WORDS_MOST};
+use dairyepoch_tests::timetable::{Onward, Station, Stop, Timetable, BOTH, WALKS_MOST};
+use dairyepoch_tests::words::{numbers_place, to_words, STOP_WORDS, TIMETABLE_WORDS, TIMETABLE_WORDS_MOST};
 
 /// A timetable of the fewest words that have every kind of stop: a first, a middle and a last one.
 fn smallest_whole() -> Timetable {
@@ -69,9 +69,13 @@ fn words_of_the_largest_texts_have_a_yes() {
 }
 
 #[test]
-fn the_largest_timetable_has_10884_words() {
-    assert_eq!(to_words(&long_lines()).len(), TIMETABLE_WORDS_MOST);
-    assert_eq!(TIMETABLE_WORDS_MOST, 10_884);
+fn the_largest_timetable_has_11973_words() {
+    let mut random = Random::new(45);
+    let timetable = with_walks(&mut random, &long_lines(), WALKS_MOST);
+    let words = to_words(&timetable);
+    assert_eq!(words.len(), TIMETABLE_WORDS_MOST);
+    assert_eq!(TIMETABLE_WORDS_MOST, 11_973);
+    assert_eq!(Host::new(46).check_timetable(&lent(words, &mut random)), 0);
 }
 
 #[test]
@@ -95,7 +99,7 @@ fn the_numbers_of_256_trips() {
     let trips = with_trips(&mut random, 2, &[2; 256]);
     for (least, number) in [(0, 9), (1, 0), (2, 0), (9_743, 0), (9_744, 0), (9_745, 9), (65_280, 9)] {
         let numbered = (least..=u16::MAX).zip(trips.trips.values().cloned()).collect();
-        let timetable = Timetable { stations: trips.stations.clone(), trips: numbered };
+        let timetable = Timetable { trips: numbered, ..trips.without_trips() };
         let words = lent(to_words(&timetable), &mut random);
         assert_eq!(host.check_timetable(&words), number, "from {least} on");
     }
@@ -108,13 +112,14 @@ fn every_value_in_each_number_of_a_trip() {
     let trips = with_trips(&mut random, 3, &[2, 2, 2]);
     for numbers in [[1, 2, 3], [1, 5_000, 9_999], [7, 8, 500], [9_997, 9_998, 9_999]] {
         let numbered = numbers.into_iter().zip(trips.trips.values().cloned()).collect();
-        let timetable = Timetable { stations: trips.stations.clone(), trips: numbered };
+        let timetable = Timetable { trips: numbered, ..trips.without_trips() };
         let table = to_words(&timetable);
         let mut words = lent(table.clone(), &mut random);
-        for at in table.len() - 3..table.len() {
+        let place = numbers_place(&timetable);
+        for at in place..place + 3 {
             for value in (0..=20).chain((21..=9_900).step_by(89)).chain(9_900..=10_100).chain([32_768, 65_535]) {
                 words[at] = value;
-                let now = &words[table.len() - 3..table.len()];
+                let now = &words[place..place + 3];
                 let yes = 0 < now[0] && now[0] < now[1] && now[1] < now[2] && now[2] < 10_000;
                 assert_eq!(host.check_timetable(&words), if yes { 0 } else { 9 }, "{now:?}");
             }
@@ -127,8 +132,8 @@ fn every_value_in_each_number_of_a_trip() {
 fn every_numbers_over_telling_values() {
     let mut random = Random::new(37);
     let table = to_words(&with_trips(&mut random, 2, &[2, 3, 2]));
-    let start = &table[..table.len() - 3];
-    let tally = every_filling(&mut Host::new(38), start, &[0, 1, 2, 3, 4, 9_999, 10_000, 65_535], 3, &[]);
+    let (start, end) = (&table[..table.len() - 6], &table[table.len() - 3..]);
+    let tally = every_filling(&mut Host::new(38), start, &[0, 1, 2, 3, 4, 9_999, 10_000, 65_535], 3, end);
     // three of 1, 2, 3, 4 and 9,999, rising
     assert_eq!(tally[0], 10);
 }
@@ -154,8 +159,8 @@ fn words_behind_the_table_are_not_judged() {
         let mut words = vec![filler; TIMETABLE_WORDS];
         words[..table.len()].copy_from_slice(&table);
         assert_eq!(host.check_timetable(&words), 0);
-        // the last word is the number of the second trip, after number 1
-        words[table.len() - 1] = filler;
+        // the number of the second trip, after number 1
+        words[numbers_place(&smallest_whole()) + 1] = filler;
         assert_eq!(host.check_timetable(&words), if (2..=9_999).contains(&filler) { 0 } else { 9 });
     }
 }
@@ -166,7 +171,7 @@ fn a_slice_below_16384_words_gives_8_before_9() {
     let mut random = Random::new(6);
     let whole = lent(to_words(&smallest_whole()), &mut random);
     let zeros = vec![0; TIMETABLE_WORDS];
-    for length in [0, 1, 2, 3, 36, 37, 10_884, 16_382, 16_383] {
+    for length in [0, 1, 2, 3, 39, 40, 11_973, 16_382, 16_383] {
         assert_eq!(host.check_timetable(&whole[..length]), 8);
         assert_eq!(host.check_timetable(&zeros[..length]), 8);
     }
@@ -297,14 +302,15 @@ fn every_filling(host: &mut Host, start: &[u16], values: &[u16], free: usize, en
 
 #[test]
 fn every_trip_of_two_stops_over_small_values() {
-    let tally = every_filling(&mut Host::new(23), &[2, 1, 2, 0, 1, 0, 1], &[0, 1, 2, 3], 9, &[2, 0, 2, 1]);
+    let tally = every_filling(&mut Host::new(23), &[2, 1, 2, 0, 1, 0, 1], &[0, 1, 2, 3], 9, &[2, 0, 2, 1, 0, 0, 0]);
     // two orders of the stations; 0 < 1, 2, 3 and 1 < 2, 3 and 2 < 3; four ride penalties; three marks
     assert_eq!(tally[0], 2 * 6 * 4 * 3);
 }
 
 #[test]
 fn every_trip_of_three_stops_over_small_values() {
-    let tally = every_filling(&mut Host::new(24), &[2, 1, 3, 0, 1, 0, 1], &[0, 1, 2], 11, &[2, 0, 0, 1, 0, 3, 1]);
+    let end = [2, 0, 0, 1, 0, 3, 1, 0, 0, 0];
+    let tally = every_filling(&mut Host::new(24), &[2, 1, 3, 0, 1, 0, 1], &[0, 1, 2], 11, &end);
     // stations 1, 2, 1 or 2, 1, 2; minutes 0, 1, 1, 2; three ride penalties twice; three marks twice
     assert_eq!(tally[0], 2 * 9 * 9);
 }
@@ -374,7 +380,7 @@ fn every_place_of_first_stops_over_small_values() {
     let stop = |station, arrive, depart| [station, arrive, depart, 0, 0];
     let trip = [stop(1, 0, 5), stop(2, 6, 0)].concat();
     let start = [&[2, 2, 4, 0, 1, 0, 1][..], &trip, &trip].concat();
-    let tally = every_filling(&mut Host::new(25), &start, &[0, 1, 2, 3, 4, 5, 8, 65_535], 3, &[1, 2]);
+    let tally = every_filling(&mut Host::new(25), &start, &[0, 1, 2, 3, 4, 5, 8, 65_535], 3, &[1, 2, 0, 0, 0]);
     assert_eq!(tally[0], 1);
 }
 

@@ -2,7 +2,7 @@
 
 use std::time::{Duration, Instant};
 
-use dairyepoch_tests::connections;
+use dairyepoch_tests::connections::{self, Transfer};
 use dairyepoch_tests::examples::M;
 use dairyepoch_tests::expected::{self, LISTED_MOST};
 use dairyepoch_tests::ffi::{self, Reply};
@@ -34,19 +34,24 @@ fn store(text: &str, source: u32) -> Result<Vec<u16>, u32> {
     }
 }
 
-/// The sequences of a source's store, each without the source: the changes, then the target.
+/// The sequences of a source's store, each without the source: the stations of the changes, then the target. Without
+/// walks one boards where one has alighted, and the station is named once here.
 fn sequences(text: &str, source: u32) -> Vec<Vec<u16>> {
     let words = store(text, source).expect("a store that is made");
     let store = Store::from_words(&words).expect("all its words");
-    let mut sequences: Vec<Vec<u16>> =
-        store.sequences().into_iter().map(|(changes, target)| [&changes[..], &[target]].concat()).collect();
+    let station = |(alighted, boarded): (u16, u16)| {
+        assert_eq!(alighted, boarded);
+        alighted
+    };
+    let named = |(changes, target): (Vec<Transfer>, u16)| changes.into_iter().map(station).chain([target]).collect();
+    let mut sequences: Vec<Vec<u16>> = store.sequences().into_iter().map(named).collect();
     sequences.sort_unstable();
     sequences
 }
 
 #[test]
 fn case_b_the_store_of_1() {
-    assert_eq!(store(M, 1), Ok(vec![1, 3, 2, 0, 2, 0, 3, 0, 3, 1]));
+    assert_eq!(store(M, 1), Ok(vec![1, 3, 2, 2, 0, 2, 0, 3, 0, 3, 1]));
 }
 
 #[test]
@@ -67,13 +72,13 @@ fn case_i_station_2_with_4_change_minutes() {
 #[test]
 fn m_with_other_changes() {
     // with 2 change minutes trip 3 is caught, which dominates trip 2; the pattern is the same
-    assert_eq!(store(&M.replace("S,2,3,10", "S,2,2,10"), 1), Ok(vec![1, 3, 2, 0, 2, 0, 3, 0, 3, 1]));
+    assert_eq!(store(&M.replace("S,2,3,10", "S,2,2,10"), 1), Ok(vec![1, 3, 2, 2, 0, 2, 0, 3, 0, 3, 1]));
     // where staying aboard arrives as early, the change is dominated
     assert_eq!(store(&M.replace("T,1,3,3,09:20", "T,1,3,3,08:40"), 1), Ok(vec![0, 2, 2, 0, 3, 0]));
-    assert_eq!(store(&M.replace("T,1,3,3,09:20", "T,1,3,3,08:41"), 1), Ok(vec![1, 3, 2, 0, 2, 0, 3, 0, 3, 1]));
+    assert_eq!(store(&M.replace("T,1,3,3,09:20", "T,1,3,3,08:41"), 1), Ok(vec![1, 3, 2, 2, 0, 2, 0, 3, 0, 3, 1]));
     // where staying aboard costs as much as the change, it is dominated
-    assert_eq!(store(&M.replace("08:21,0", "08:21,10"), 1), Ok(vec![1, 2, 2, 0, 2, 0, 3, 1]));
-    assert_eq!(store(&M.replace("08:21,0", "08:21,9"), 1), Ok(vec![1, 3, 2, 0, 2, 0, 3, 0, 3, 1]));
+    assert_eq!(store(&M.replace("08:21,0", "08:21,10"), 1), Ok(vec![1, 2, 2, 2, 0, 2, 0, 3, 1]));
+    assert_eq!(store(&M.replace("08:21,0", "08:21,9"), 1), Ok(vec![1, 3, 2, 2, 0, 2, 0, 3, 0, 3, 1]));
     // change minutes at the source and the target are nobody's
     assert_eq!(store(&M.replace("S,1,2,10", "S,1,240,10").replace("S,3,5,10", "S,3,240,10"), 1), store(M, 1));
 }
@@ -164,13 +169,13 @@ fn change_minutes_to_the_minute() {
 
 #[test]
 fn chains_of_many_changes() {
-    // each to the next with no minute to spare: 62 nodes in a row, 63 arcs, patterns of 2 to 64 stations
+    // each to the next with no minute to spare: 62 nodes in a row, 63 arcs, patterns of 1 to 63 rides
     let trips: Vec<_> = (1..64).map(|station| hop(station, station + 1, station, station + 1, 0)).collect();
     let chain = text_of_hops(&[(0, 1000); 64], &trips);
     let words = store(&chain, 1).expect("a store");
     assert_eq!(words[..2], [62, 63]);
-    assert_eq!(words[2..6], [2, 0, 3, 1]);
-    assert_eq!(words[124..130], [63, 61, 2, 0, 3, 1]);
+    assert_eq!(words[2..8], [2, 2, 0, 3, 3, 1]);
+    assert_eq!(words[185..192], [63, 63, 61, 2, 0, 3, 1]);
     assert_eq!(words[words.len() - 2..], [64, 62]);
     assert_eq!(store(&chain, 63), Ok(vec![0, 1, 64, 0]));
     assert_eq!(store(&chain, 64), Ok(vec![0, 0]));
@@ -198,7 +203,7 @@ fn shorter_nodes_come_first_and_arcs_rise() {
     ];
     let words = store(&text(&[(0, 1); 5], &trips), 1);
     // nodes: 3; 5; 5,4; 5,4,3. arcs: 2 by 5,4,3; 3 direct and by 5,4; 4 by 5; 5 direct and by 3
-    let expected = [4, 6, 3, 0, 5, 0, 4, 2, 3, 3, 2, 4, 3, 0, 3, 3, 4, 2, 5, 0, 5, 1];
+    let expected = [4, 6, 3, 3, 0, 5, 5, 0, 4, 4, 2, 3, 3, 3, 2, 4, 3, 0, 3, 3, 4, 2, 5, 0, 5, 1];
     assert_eq!(words, Ok(expected.to_vec()));
     // 1 to 2 to 4 to 5, and 1 to 3 to 5 later on. Nodes: 2; 3; 2,4. Arcs: 2; 3; 4 by 2; 5 by 3 and by 2,4
     let trips: [&[_]; 5] = [
@@ -209,7 +214,7 @@ fn shorter_nodes_come_first_and_arcs_rise() {
         &hop(3, 5, 12, 14, 0),
     ];
     let words = store(&text(&[(0, 1); 5], &trips), 1);
-    assert_eq!(words, Ok(vec![3, 5, 2, 0, 3, 0, 4, 1, 2, 0, 3, 0, 4, 1, 5, 2, 5, 3]));
+    assert_eq!(words, Ok(vec![3, 5, 2, 2, 0, 3, 3, 0, 4, 4, 1, 2, 0, 3, 0, 4, 1, 5, 2, 5, 3]));
 }
 
 /// What must have been met among the stores of generated timetables.
@@ -255,7 +260,7 @@ fn all_sources(host: &mut Host, timetable: &Timetable, met: &mut Met, random: &m
             0 => met.direct_only += 1,
             _ => met.with_changes += 1,
         }
-        met.of_two_changes += usize::from(store.nodes.iter().any(|&(_, parent)| parent > 0));
+        met.of_two_changes += usize::from(store.nodes.iter().any(|&(_, _, parent)| parent > 0));
         met.several_to_one_target += usize::from(store.arcs.windows(2).any(|pair| pair[0].0 == pair[1].0));
         if random.one_in(8) {
             lengths_around(host, &lent, source, &words);
@@ -403,7 +408,7 @@ fn counted(diamonds: Diamonds, nodes: usize, arcs: usize) {
     let patterns = patterns.expect("not too many");
     assert_eq!(patterns.counts(), (nodes, arcs));
     let words = patterns.to_words();
-    assert_eq!(words.len(), 2 + 2 * nodes + 2 * arcs);
+    assert_eq!(words.len(), 2 + 3 * nodes + 2 * arcs);
     for length in [words.len(), words.len() + 1] {
         host.make_store_as(&lent.timetable, &lent.lines, 1, length, (Reply::done(words.len()), words.clone()));
     }
@@ -484,8 +489,8 @@ fn the_first_no_ends_it() {
     for ([slice, timetable, lines, source, room], number) in noes([8, 9, 10, 11, 15]) {
         let shorts = if slice { &[0, 1, 56, 16_383][..] } else { &[] };
         let sources = if source { &[0, 4, u32::MAX][..] } else { &[1] };
-        let lengths = if room { &[0, 1, 2, 9][..] } else { &[10, 11] };
-        let expected = if number == 0 { Reply::done(10) } else { Reply::refused(number) };
+        let lengths = if room { &[0, 1, 2, 10][..] } else { &[11, 12] };
+        let expected = if number == 0 { Reply::done(11) } else { Reply::refused(number) };
         good.with_noes(timetable, lines).lend(shorts, 21, |host, timetable, lines| {
             for &source in sources {
                 for &length in lengths {
@@ -514,13 +519,13 @@ fn longer_slices_are_long_enough() {
     let lent = Lent::text(M);
     for length in LONGER_LENGTHS {
         let longer = lent.longer(length, &mut random);
-        assert_eq!(longer.make_store(&mut Host::lending_both(0, length, 26), 1), Reply::done(10));
-        assert_eq!(Host::new(26).make_store(&longer.timetable, &lent.lines, 1), Reply::done(10));
-        assert_eq!(Host::new(26).make_store(&lent.timetable, &longer.lines, 1), Reply::done(10));
+        assert_eq!(longer.make_store(&mut Host::lending_both(0, length, 26), 1), Reply::done(11));
+        assert_eq!(Host::new(26).make_store(&longer.timetable, &lent.lines, 1), Reply::done(11));
+        assert_eq!(Host::new(26).make_store(&lent.timetable, &longer.lines, 1), Reply::done(11));
         let mut store = vec![9; length];
         let reply = ffi::make_store(&longer.timetable, &longer.lines, &mut vec![0; length], 1, &mut store);
-        assert_eq!((reply, &store[..10]), (Reply::done(10), &[1, 3, 2, 0, 2, 0, 3, 0, 3, 1][..]));
-        assert!(store[10..].iter().all(|&word| word == 9));
+        assert_eq!((reply, &store[..11]), (Reply::done(11), &[1, 3, 2, 2, 0, 2, 0, 3, 0, 3, 1][..]));
+        assert!(store[11..].iter().all(|&word| word == 9));
     }
 }
 
@@ -547,5 +552,5 @@ fn what_reading_and_building_wrote_is_taken() {
             assert_eq!(written.make_store(&mut host, source).number, 0);
         }
     }
-    assert_eq!(STORE_WORDS_MOST, 65_534);
+    assert_eq!(STORE_WORDS_MOST, 81_917);
 }

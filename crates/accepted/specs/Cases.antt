@@ -1,6 +1,7 @@
 -- Case k and timetable M of document 01, its "run only" cases of reading, and the edges of times, by computation. "M
 -- and the cases are rewritten in it, with 47:59 and 48:00 for 2,879 and 2,880." "M's T lines each gain a 0, and its
--- cases stay." Then come marks, and at the end cases of document 02, Eleven: cancelled and extra trips. For a reader.
+-- cases stay." Then come marks, walks, and at the end cases of document 02, Eleven: cancelled and extra trips. For a
+-- reader.
 use mathlib.Core.Path.{_≡_, refl}
 use mathlib.Core.List.{List, [], _∷_, _++_}
 use Prim.Native.Nat.{ℕ, zero, suc, _+_}
@@ -11,13 +12,14 @@ use Rattle.text.specs.Number.{digitValue, decimal, fieldValue}
 use Rattle.text.specs.Time.{pairValue, isTime, minuteOf, timeValue}
 use Rattle.text.specs.Piece.{pieces}
 use Rattle.text.specs.Range.{inRange}
-use Rattle.text.specs.Shape.{stationOf, stationShape, arriveFits, departFits, filled, stopFits as stopFitsShape, stopOf}
-use Rattle.text.specs.Shape.{stopShape, shapeBy}
+use Rattle.text.specs.Shape.{stationOf, stationShape, walkOf, walkShape, arriveFits, departFits, filled}
+use Rattle.text.specs.Shape.{stopFits as stopFitsShape, stopOf, stopShape, shapeBy}
 use Rattle.timetable.specs.Worked.{station, stop, variant, M}
-use Rattle.timetable.specs.Words.{stationWords, stopWords, startWords, words}
+use Rattle.timetable.specs.Timetable.{Walk, Timetable, walkBefore}
+use Rattle.timetable.specs.Words.{stationWords, stopWords, startWords, walkWords, countTo, footWords, words}
 use Rattle.timetable.specs.Changes.{placeOf, cancelled, added}
-use Rattle.reading.specs.Draft.{stationNumber, stopInRange, comesAfter, stopFits, stopNumber}
-use Rattle.reading.specs.Draft.{extraStation, extraStop}
+use Rattle.reading.specs.Draft.{stationNumber, walkFits, walkNumber, stopInRange, comesAfter, stopFits, stopNumber}
+use Rattle.reading.specs.Draft.{extraStation, extraWalk, extraStop}
 use Rattle.reading.specs.Reading.{Outcome, Accepted, Refused, ended, readUnder, readLines, reading}
 use Rattle.reading.specs.Reading.{readExtra}
 use Rattle.accepted.specs.Marks.{lined, fielded}
@@ -44,6 +46,8 @@ unfolding
     shapeBy
     stationShape
     stationOf
+    walkShape
+    walkOf
     stopShape
     stopOf
     stopFitsShape
@@ -58,6 +62,9 @@ unfolding
     decimal
     digitValue
     stationNumber
+    walkNumber
+    walkFits
+    walkBefore
     stopNumber
     stopInRange
     stopFits
@@ -83,7 +90,7 @@ unfolding readAll bytes textM M variant
 M-accepted = refl
 
 -- three stations, three trips, seven stops; stations; the stops of each trip; where the trips begin, and the end; the
--- numbers of the trips
+-- numbers of the trips; and no walk, from no station and from stations up to each
 pub M-words : words M
     ≡ (3 ∷ 3 ∷ 7 ∷ [])
     ++ (2 ∷ 10 ∷ 3 ∷ 10 ∷ 5 ∷ 10 ∷ [])
@@ -92,7 +99,8 @@ pub M-words : words M
     ++ (2 ∷ 0 ∷ 502 ∷ 0 ∷ 0 ∷ 3 ∷ 515 ∷ 0 ∷ 0 ∷ 0 ∷ [])
     ++ (0 ∷ 3 ∷ 5 ∷ 7 ∷ [])
     ++ (1 ∷ 2 ∷ 3 ∷ [])
-unfolding words stationWords stopWords startWords M variant
+    ++ (0 ∷ 0 ∷ 0 ∷ 0 ∷ [])
+unfolding words stationWords stopWords startWords walkWords countTo footWords M variant
 M-words = refl
 
 -- ---- "Run only": time 2,879 passes, 2,880 gives 3
@@ -103,6 +111,7 @@ arrivingAt arrive = bytes "S,1,2,10\nS,2,3,10\nT,1,1,1,,08:00,0,0\nT,1,2,2," ++ 
 pub last-minute-passes : reading (arrivingAt "47:59")
     ≡ Accepted (record {
       stations = station 2 10 ∷ station 3 10 ∷ [];
+      walks = [];
       numbers = 1 ∷ [];
       trips = (stop 1 0 480 0 ∷ stop 2 2879 0 0 ∷ []) ∷ [];
     }) 4
@@ -154,6 +163,7 @@ ending end = bytes "S,1,2,10\nS,2,3,10\nT,1,1,1,,08:00,0" ++ bytes end ++ bytes 
 pub boarding-only : reading (ending ",1")
     ≡ Accepted (record {
       stations = station 2 10 ∷ station 3 10 ∷ [];
+      walks = [];
       numbers = 1 ∷ [];
       trips = (record { station = 1; arrive = 0; depart = 480; points = 0; mark = 1 } ∷ stop 2 500 0 0 ∷ []) ∷ [];
     }) 4
@@ -172,6 +182,70 @@ pub no-mark : (reading (ending "") ≡ Refused 2 3)
 unfolding readAll bytes ending
 no-mark = (refl, refl, refl, refl)
 
+-- ---- walks: "Lines `W,from,to,minutes,penalty` follow the S lines"
+-- three stations, and then the lines given
+unfoldable pub behindStations : String → List ℕ
+behindStations lines = bytes "S,1,2,10\nS,2,3,10\nS,3,5,10\n" ++ bytes lines
+
+walk : (from to minutes points : ℕ) → Walk
+walk from to minutes points = record { from = from; to = to; minutes = minutes; points = points }
+
+unfoldable pub walking : Timetable
+unfolding walk
+walking =
+    record {
+      stations = station 2 10 ∷ station 3 10 ∷ station 5 10 ∷ [];
+      walks = walk 1 3 60 1000 ∷ walk 2 1 4 5 ∷ walk 2 2 1 1 ∷ [];
+      numbers = [];
+      trips = [];
+    }
+
+-- "strictly rising by from, then to"; "From and to may be equal"
+pub walks-accepted : reading (behindStations "W,1,3,60,1000\nW,2,1,4,5\nW,2,2,1,1\n") ≡ Accepted walking 6
+unfolding readAll bytes behindStations walking
+walks-accepted = refl
+
+-- behind the start of no trip: the walks from no station, from stations up to 1, up to 2 and up to 3; then the walks
+pub walking-words : words walking
+    ≡ (3 ∷ 0 ∷ 0 ∷ [])
+    ++ (2 ∷ 10 ∷ 3 ∷ 10 ∷ 5 ∷ 10 ∷ [])
+    ++ (0 ∷ [])
+    ++ (0 ∷ 1 ∷ 3 ∷ 3 ∷ [])
+    ++ (1 ∷ 3 ∷ 60 ∷ 1000 ∷ 2 ∷ 1 ∷ 4 ∷ 5 ∷ 2 ∷ 2 ∷ 1 ∷ 1 ∷ [])
+unfolding words stationWords stopWords startWords walkWords countTo footWords walking
+walking-words = refl
+
+-- "minutes 1 to 60, penalty 1 to 1,000"
+pub walk-past-range : (reading (behindStations "W,1,2,0,5\n") ≡ Refused 3 4)
+    × (reading (behindStations "W,1,2,61,5\n") ≡ Refused 3 4)
+    × (reading (behindStations "W,1,2,5,0\n") ≡ Refused 3 4)
+    × (reading (behindStations "W,1,2,5,1001\n") ≡ Refused 3 4)
+unfolding readAll bytes behindStations
+walk-past-range = (refl, refl, refl, refl)
+
+-- "Lines out of place or of rising order give 4": the same walk again, a walk that comes earlier, a station behind a
+-- walk, and a walk behind a stop
+pub walk-misplaced : (reading (behindStations "W,1,2,5,5\nW,1,2,5,5\n") ≡ Refused 4 5)
+    × (reading (behindStations "W,2,1,5,5\nW,1,3,5,5\n") ≡ Refused 4 5)
+    × (reading (behindStations "W,1,2,5,5\nS,4,2,10\n") ≡ Refused 4 5)
+    × (reading (behindStations "T,1,1,1,,08:00,0,0\nW,1,2,5,5\n") ≡ Refused 4 5)
+unfolding readAll bytes behindStations
+walk-misplaced = (refl, refl, refl, refl)
+
+-- "unlisted stations 6"
+pub walk-unlisted : (reading (behindStations "W,1,4,5,5\n") ≡ Refused 6 4)
+    × (reading (behindStations "W,0,1,5,5\n") ≡ Refused 6 4)
+    × (reading (bytes "W,1,1,5,5\n") ≡ Refused 6 1)
+unfolding readAll bytes behindStations
+walk-unlisted = (refl, refl, refl)
+
+-- a walk line has five fields
+pub no-walk : (reading (behindStations "W,1,2,5\n") ≡ Refused 2 4)
+    × (reading (behindStations "W,1,2,5,5,0\n") ≡ Refused 2 4)
+    × (reading (behindStations "W,1,2,,5\n") ≡ Refused 2 4)
+unfolding readAll bytes behindStations
+no-walk = (refl, refl, refl)
+
 -- ---- cancelled and extra trips: "Trip numbers may have gaps"
 pub two-cancelled : words (cancelled M 2)
     ≡ (3 ∷ 2 ∷ 5 ∷ [])
@@ -180,7 +254,8 @@ pub two-cancelled : words (cancelled M 2)
     ++ (2 ∷ 0 ∷ 502 ∷ 0 ∷ 0 ∷ 3 ∷ 515 ∷ 0 ∷ 0 ∷ 0 ∷ [])
     ++ (0 ∷ 3 ∷ 5 ∷ [])
     ++ (1 ∷ 3 ∷ [])
-unfolding words stationWords stopWords startWords cancelled placeOf M variant
+    ++ (0 ∷ 0 ∷ 0 ∷ 0 ∷ [])
+unfolding words stationWords stopWords startWords walkWords countTo footWords cancelled placeOf M variant
 two-cancelled = refl
 
 -- added again, it has its place in rising number
@@ -191,6 +266,7 @@ two-added = refl
 pub extra-accepted : readExtra M 9999 (bytes "T,9999,1,1,,08:05,0,0\nT,9999,2,3,08:45,,,0\n")
     ≡ Accepted (record {
       stations = M .stations;
+      walks = [];
       numbers = 9999 ∷ [];
       trips = (stop 1 0 485 0 ∷ stop 3 525 0 0 ∷ []) ∷ [];
     }) 2
@@ -204,10 +280,11 @@ pub extra-refused : (readExtra M 0 (bytes "T,0,1,1,,08:05,0,0\n") ≡ Refused 3 
 unfolding readAll readExtra extraStop bytes M variant
 extra-refused = (refl, refl, refl)
 
--- a station, a line after the trip's end, a trip that has not ended, a number of five digits
+-- a station, a walk, a line after the trip's end, a trip that has not ended, a number of five digits
 pub extra-misplaced : (readExtra M 7 (bytes "S,4,2,10\n") ≡ Refused 4 1)
+    × (readExtra M 7 (bytes "W,1,2,5,5\n") ≡ Refused 4 1)
     × (readExtra M 7 (bytes "T,7,1,1,,08:05,0,0\nT,7,2,3,08:45,,,0\nT,7,1,1,,08:05,0,0\n") ≡ Refused 4 3)
     × (readExtra M 7 (bytes "T,7,1,1,,08:05,0,0\n") ≡ Refused 7 2)
     × (readExtra M 10000 (bytes "T,10000,1,1,,08:05,0,0\n") ≡ Refused 2 1)
-unfolding readAll readExtra extraStop extraStation bytes M variant
-extra-misplaced = (refl, refl, refl, refl)
+unfolding readAll readExtra extraStop extraStation extraWalk bytes M variant
+extra-misplaced = (refl, refl, refl, refl, refl)

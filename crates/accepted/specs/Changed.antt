@@ -94,11 +94,13 @@ cancelled-valid t n v =
     (record {
       least = w .least;
       stations = w .stations;
+      walks = w .walks;
       trips = omega (arith, fewer k (t .trips));
       stops = omega (arith, fewer-stops k (t .trips));
       numbers = length-without k (t .numbers) (t .trips) (w .numbers);
       climbs = climb-without k 0 (t .numbers) (w .climbs);
       each-station = w .each-station;
+      each-walk = w .each-walk;
       each-trip = trips-without (length (t .stations)) k (t .trips) (w .each-trip);
     })
 
@@ -168,10 +170,12 @@ added-valid t n x v h =
     (record {
       least = w .least;
       stations = w .stations;
+      walks = w .walks;
       trips = omega (arith, length-inserted k x (t .trips), h .trips);
       stops = omega (arith, stops-inserted k x (t .trips), h .stops);
       numbers = omega (arith, length-inserted k n (t .numbers), length-inserted k x (t .trips), w .numbers);
       climbs = climb-inserted 0 n (t .numbers) (h .least) (h .most) (w .climbs) (h .free);
       each-station = w .each-station;
+      each-walk = w .each-walk;
       each-trip = trips-inserted (length (t .stations)) k x (t .trips) (h .trip) (w .each-trip);
     })

@@ -13,15 +13,16 @@ use Rattle.lists.specs.Tests.{and-left}
 use Rattle.text.specs.Piece.{pieces}
 use Rattle.text.specs.Time.{timeValue}
 use Rattle.text.specs.declared.Line.{Line}
-use Rattle.text.specs.declared.Line.the-variants.{Station as StationIn, Stop as StopIn, Shapeless}
+use Rattle.text.specs.declared.Line.the-variants.{Station as StationIn, Walk as WalkIn, Stop as StopIn, Shapeless}
 use Rattle.text.specs.declared.StopLine.{StopLine}
-use Rattle.timetable.specs.Timetable.{Station, Trip, Timetable, stopsOf, numberMost, validTrip, validTrips, valid}
+use Rattle.timetable.specs.Timetable.{Station, Trip, Timetable, stopsOf, numberMost, validWalks, validTrip, validTrips}
+use Rattle.timetable.specs.Timetable.{valid}
 use Rattle.timetable.specs.Changes.{runsAs, added}
 use Rattle.reading.specs.Draft.{Draft, Rules, extraRules, opening, stopOfLine, withStop, withLine}
 use Rattle.reading.specs.Progress.{progress, lineNumberAt}
 use Rattle.reading.specs.Reading.{Accepted, readExtra}
 use Rattle.accepted.specs.Valid.{is-valid}
-use Rattle.accepted.specs.Passes.{ExtraPasses, extra-passed, station-refused}
+use Rattle.accepted.specs.Passes.{ExtraPasses, extra-passed, station-refused, walk-refused}
 use Rattle.accepted.specs.SoFar.{validSoFar}
 use Rattle.accepted.specs.Shaped.{ShapedStop, Shaped}
 use Rattle.accepted.specs.Kept.{EndsWith, wholeOf, lines-kept}
@@ -33,10 +34,12 @@ module _ (stations : List Station) (n trips stops : ℕ) where
   abbrev rules : Rules
   rules = extraRules n trips stops
 
-  -- what holds of the draft: it has the stations given, and where a line has come, it has spelled the number
+  -- what holds of the draft: it has the stations given and no walk, and where a line has come, it has spelled the
+  -- number
   record Extra (d : Draft) : Type 0 where
     sound : Sound rules d
     same : d .stations ≡ stations
+    none : d .walks ≡ []
     named : 0 < length (d .trips) + length (d .begun) → (1 ≤ n) × (n ≤ numberMost)
 
   stop-line : (d : Draft) (l : StopLine) → ExtraPasses rules (progress d) l → ShapedStop l → Extra d
@@ -45,12 +48,14 @@ module _ (stations : List Station) (n trips stops : ℕ) where
       record {
         sound = with-stop rules d l (p .passes) shape (h .sound) true e;
         same = h .same;
+        none = h .none;
         named = λ _. (omega (arith, p .least, p .trip), omega (arith, shape .trip, p .trip));
       }
   stop-line d l p shape h false e =
       record {
         sound = with-stop rules d l (p .passes) shape (h .sound) false e;
         same = h .same;
+        none = h .none;
         named = λ _. (omega (arith, p .least, p .trip), omega (arith, shape .trip, p .trip));
       }
 
@@ -58,13 +63,15 @@ module _ (stations : List Station) (n trips stops : ℕ) where
       → Extra (withLine d line)
   unfolding Shaped
   extra-line d (StationIn l) shape e h = absurd (station-refused l e)
+  extra-line d (WalkIn l) shape e h = absurd (walk-refused l e)
   extra-line d (StopIn l) shape e h = stop-line d l (extra-passed rules (progress d) l e) shape h (l .last) refl
   extra-line d Shapeless shape e h = absurd (omega arith)
 
 -- ---- the whole
--- an accepted extra trip: the timetable read has the stations of t and this trip alone, which may be added
+-- an accepted extra trip: the timetable read has the stations of t and this trip alone, which may be added, and no walk
 pub record ExtraRead (t : Timetable) (n : ℕ) (one : Timetable) : Type 0 where
   pub stations : one .stations ≡ t .stations
+  pub walks : one .walks ≡ []
   pub numbers : one .numbers ≡ n ∷ []
   pub trips : one .trips ≡ getD (one .trips) 0 [] ∷ []
   pub addable : Addable t n (getD (one .trips) 0 [])
@@ -75,20 +82,23 @@ one-trip (x ∷ l) e = ap (λ r. x ∷ r) (no-length l (omega arith))
 
 module _ (t : Timetable) (n : ℕ) (text : List ℕ) (v : valid t ≡ true) where
   begin : Extra (t .stations) n (length (t .trips)) (length (stopsOf (t .trips))) (opening (t .stations))
-  unfolding validSoFar validTrips
+  unfolding validSoFar validWalks validTrips
   begin =
       let w = is-valid t v in
       record {
         sound =
             record {
               stations = w .stations;
+              walks = omega arith;
               trips = omega (arith, w .trips);
               stops = omega (arith, w .stops);
               each-station = w .each-station;
+              each-walk = refl;
               each-trip = refl;
               begun = refl;
             };
         same = refl;
+        none = refl;
         named = λ some. absurd (omega arith);
       }
 
@@ -121,6 +131,7 @@ module _ (t : Timetable) (n : ℕ) (text : List ℕ) (v : valid t ≡ true) wher
           let stops : length (stopsOf (d .trips)) ≡ length (x ++ []) = ap (λ l. length (stopsOf l)) is in
           record {
             stations = h .same;
+            walks = h .none;
             numbers = refl;
             trips = is;
             addable =

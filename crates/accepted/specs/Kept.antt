@@ -29,7 +29,13 @@ accepted-yes false x k l t n e = cc
 
 -- the timetable of a draft
 abbrev pub wholeOf : Rules → Draft → Timetable
-wholeOf r d = record { stations = d .stations; numbers = numbersUnder r (d .trips); trips = d .trips }
+wholeOf r d =
+    record {
+      stations = d .stations;
+      walks = d .walks;
+      numbers = numbersUnder r (d .trips);
+      trips = d .trips;
+    }
 
 -- an accepted timetable is that of a draft of which P holds
 pub record EndsWith (r : Rules) (P : Draft → Type 0) (t : Timetable) : Type 0 where

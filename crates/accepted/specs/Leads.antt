@@ -1,5 +1,5 @@
 -- Reading, cancelling and adding lead to exactly the valid timetables: `led-valid` and `valid-led`. A valid timetable
--- is led to by a text of its stations alone, and then its trips are added, in rising number.
+-- is led to by a text of its stations and walks alone, and then its trips are added, in rising number.
 use mathlib.Core.Path.{_≡_, refl, ap, subst, _∙_}
 use mathlib.Core.Bool.{true, false}
 use mathlib.Core.List.{List, [], _∷_, _++_, append-nil}
@@ -9,8 +9,8 @@ use lib.Seq.{append-snoc, take-length, drop-length}
 use native.Mathlib.Omega.{arith}
 use borrow.Author.Tests.{lt-ltb, ne-eqb}
 use Rattle.lists.specs.Tests.{and-left, and-right}
-use Rattle.timetable.specs.Timetable.{Station, Trip, Timetable, stopsOf, numberMost, validTrip, validTrips, climb}
-use Rattle.timetable.specs.Timetable.{valid}
+use Rattle.timetable.specs.Timetable.{Station, Walk, Trip, Timetable, stopsOf, numberMost, validTrip, validTrips}
+use Rattle.timetable.specs.Timetable.{climb, valid}
 use Rattle.timetable.specs.WordLaws.{stopsOf-append}
 use Rattle.timetable.specs.Changes.{inserted, runsAs, placeOf, added}
 use Rattle.accepted.specs.Lists.{snoc-length}
@@ -18,8 +18,8 @@ use Rattle.accepted.specs.Valid.{is-valid}
 use Rattle.accepted.specs.Sound.{accepted-valid}
 use Rattle.accepted.specs.Changed.{climb-first, climb-within, climb-rest, cancelled-valid, Addable}
 use Rattle.accepted.specs.Extra.{extra-valid}
-use Rattle.accepted.specs.WrittenOut.{stationLines, stopLines, stationText, tripText}
-use Rattle.accepted.specs.Taken.{noTrips, stations-accepted, stations-bytes, oneTrip, trip-accepted, trip-bytes}
+use Rattle.accepted.specs.WrittenOut.{stopLines, netLines, netText, tripText}
+use Rattle.accepted.specs.Taken.{noTrips, net-accepted, net-bytes, oneTrip, trip-accepted, trip-bytes}
 use Rattle.accepted.specs.Led.{Led, by-reading, by-cancelling, by-adding}
 
 pub led-valid : {t : Timetable} → Led t → valid t ≡ true
@@ -58,17 +58,18 @@ trip-among n [] x l v = search (and-left)
 trip-among n (t ∷ done) x l v = trip-among n done x l (search (and-right))
 
 -- ---- trip by trip
-abbrev timetable : List Station → List ℕ → List Trip → Timetable
-timetable stations numbers trips = record { stations = stations; numbers = numbers; trips = trips }
+abbrev timetable : List Station → List Walk → List ℕ → List Trip → Timetable
+timetable stations walks numbers trips =
+    record { stations = stations; walks = walks; numbers = numbers; trips = trips }
 
-module _ (stations : List Station) (before : List ℕ) (done : List Trip) (many : length before ≡ length done)
-    (n : ℕ) (x : Trip) (ns : List ℕ) (l : List Trip)
-    (v : valid (timetable stations (before ++ n ∷ ns) (done ++ x ∷ l)) ≡ true)
+module _ (stations : List Station) (walks : List Walk) (before : List ℕ) (done : List Trip)
+    (many : length before ≡ length done) (n : ℕ) (x : Trip) (ns : List ℕ) (l : List Trip)
+    (v : valid (timetable stations walks (before ++ n ∷ ns) (done ++ x ∷ l)) ≡ true)
   where
     here : Next 0 before n
     here = next 0 before n ns (is-valid _ v .climbs)
 
-    addable : Addable (timetable stations before done) n x
+    addable : Addable (timetable stations walks before done) n x
     addable =
         let w = is-valid _ v in
         let stops : length (stopsOf (done ++ x ∷ l)) ≡ length (stopsOf done) + (length x + length (stopsOf l)) =
@@ -82,44 +83,45 @@ module _ (stations : List Station) (before : List ℕ) (done : List Trip) (many 
           trip = trip-among (length stations) done x l (w .each-trip);
         }
 
-    added-last : added (timetable stations before done) n x
-        ≡ timetable stations (before ++ (n ∷ [])) (done ++ (x ∷ []))
+    added-last : added (timetable stations walks before done) n x
+        ≡ timetable stations walks (before ++ (n ∷ [])) (done ++ (x ∷ []))
     unfolding added
     added-last =
         let numbers = inserted-last (placeOf n before) n before (here .place) in
         let trips = inserted-last (placeOf n before) x done (here .place ∙ many) in
-        λ i. timetable stations (numbers i) (trips i)
+        λ i. timetable stations walks (numbers i) (trips i)
 
-    led-more : Led (timetable stations before done)
-        → Led (timetable stations (before ++ (n ∷ [])) (done ++ (x ∷ [])))
+    led-more : Led (timetable stations walks before done)
+        → Led (timetable stations walks (before ++ (n ∷ [])) (done ++ (x ∷ [])))
     led-more led =
-        let t = timetable stations before done in
+        let t = timetable stations walks before done in
         subst Led added-last
         (by-adding t n (tripText n x) (oneTrip stations n x) (length (stopLines n 1 x)) led (here .free)
         (trip-bytes t (is-valid _ v .stations) n x addable) (trip-accepted t (is-valid _ v .stations) n x addable))
 
-led-on : (stations : List Station) (before : List ℕ) (done : List Trip) (ns : List ℕ) (l : List Trip)
-    → length before ≡ length done → length ns ≡ length l → Led (timetable stations before done)
-    → valid (timetable stations (before ++ ns) (done ++ l)) ≡ true
-    → Led (timetable stations (before ++ ns) (done ++ l))
-led-on stations before done [] [] many same led v = rw (append-nil before, append-nil done) led
-led-on stations before done [] (x ∷ l) many same led v = absurd (omega arith)
-led-on stations before done (n ∷ ns) [] many same led v = absurd (omega arith)
-led-on stations before done (n ∷ ns) (x ∷ l) many same led v =
+led-on : (stations : List Station) (walks : List Walk) (before : List ℕ) (done : List Trip) (ns : List ℕ)
+    (l : List Trip) → length before ≡ length done → length ns ≡ length l → Led (timetable stations walks before done)
+    → valid (timetable stations walks (before ++ ns) (done ++ l)) ≡ true
+    → Led (timetable stations walks (before ++ ns) (done ++ l))
+led-on stations walks before done [] [] many same led v = rw (append-nil before, append-nil done) led
+led-on stations walks before done [] (x ∷ l) many same led v = absurd (omega arith)
+led-on stations walks before done (n ∷ ns) [] many same led v = absurd (omega arith)
+led-on stations walks before done (n ∷ ns) (x ∷ l) many same led v =
     let one-before = snoc-length before n in
     let one-done = snoc-length done x in
-    let on : valid (timetable stations (before ++ (n ∷ []) ++ ns) (done ++ (x ∷ []) ++ l)) ≡ true =
+    let on : valid (timetable stations walks (before ++ (n ∷ []) ++ ns) (done ++ (x ∷ []) ++ l)) ≡ true =
     rw (append-snoc before n ns, append-snoc done x l) v in
     rw (← append-snoc before n ns, ← append-snoc done x l)
-    (led-on stations (before ++ (n ∷ [])) (done ++ (x ∷ [])) ns l (omega arith) (omega arith)
-    (led-more stations before done many n x ns l v led) on)
+    (led-on stations walks (before ++ (n ∷ [])) (done ++ (x ∷ [])) ns l (omega arith) (omega arith)
+    (led-more stations walks before done many n x ns l v led) on)
 
 pub valid-led : (t : Timetable) → valid t ≡ true → Led t
 valid-led t v =
     let w = is-valid t v in
     let s = t .stations in
-    led-on s [] [] (t .numbers) (t .trips) refl (w .numbers)
-    (by-reading (stationText s) (noTrips s) (length (stationLines 1 s))
-    (stations-bytes s (w .each-station) (w .least) (w .stations))
-    (stations-accepted s (w .each-station) (w .least) (w .stations)))
+    let l = t .walks in
+    led-on s l [] [] (t .numbers) (t .trips) refl (w .numbers)
+    (by-reading (netText s l) (noTrips s l) (length (netLines s l))
+    (net-bytes s l (w .each-station) (w .least) (w .stations) (w .each-walk) (w .walks))
+    (net-accepted s l (w .each-station) (w .least) (w .stations) (w .each-walk) (w .walks)))
     v

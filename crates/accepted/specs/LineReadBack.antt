@@ -1,5 +1,5 @@
 -- A line written out from a valid timetable has its shape, and reads back to the values that were written. It holds no
--- byte 10; a station's line has at most 14 bytes, its byte 10 counted.
+-- byte 10; a station's line has at most 14 bytes, its byte 10 counted, and a walk's at most 16.
 use mathlib.Core.Path.{_≡_, refl, sym}
 use mathlib.Core.Bool.{Bool, true, false, cond}
 use mathlib.Core.List.{List, []}
@@ -10,21 +10,25 @@ use native.Mathlib.Omega.{arith}
 use borrow.Author.Tests.{le-leb, eqb-true, ne-eqb}
 use Rattle.text.specs.Number.{fieldValue, emptyField}
 use Rattle.text.specs.Time.{timeValue}
-use Rattle.text.specs.Shape.{stationOf, stationShape, arriveFits, departFits, filled, stopFits, stopOf}
-use Rattle.text.specs.Shape.{stopShape, shapeBy, shapeOf}
+use Rattle.text.specs.Shape.{stationOf, stationShape, walkOf, walkShape, arriveFits, departFits, filled, stopFits}
+use Rattle.text.specs.Shape.{stopOf, stopShape, shapeBy, shapeOf}
 use Rattle.text.specs.declared.Line.{Line}
-use Rattle.text.specs.declared.Line.the-variants.{Station as StationIn, Stop as StopIn}
-use Rattle.timetable.specs.Timetable.{stationsMost, stopsMost, numberMost, lastMinute, Station, Stop}
-use Rattle.timetable.specs.Timetable.{validStation}
-use Rattle.accepted.specs.Valid.{ValidStation, Ends, StopRanges, valid-station}
+use Rattle.text.specs.declared.Line.the-variants.{Station as StationIn, Walk as WalkIn, Stop as StopIn}
+use Rattle.timetable.specs.Timetable.{stationsMost, stopsMost, numberMost, lastMinute, Station, Walk, Stop}
+use Rattle.timetable.specs.Timetable.{validStation, validWalk}
+use Rattle.accepted.specs.Valid.{ValidStation, ValidWalk, Ends, StopRanges, valid-station, valid-walk}
 use Rattle.accepted.specs.Marks.{above, allAbove, fielded, above-fielded, all-free, pieces-fielded}
 use Rattle.accepted.specs.Digits.{digits, digits-value, digits-above, four-bytes, three-bytes, two-bytes}
 use Rattle.accepted.specs.Clock.{clock, clock-value, clock-above}
-use Rattle.accepted.specs.WrittenOut.{stationFields, stopFields, stationLine, emptyOr, stopLine}
+use Rattle.accepted.specs.WrittenOut.{stationFields, walkFields, stopFields, stationLine, walkLine, emptyOr}
+use Rattle.accepted.specs.WrittenOut.{stopLine}
 
 -- ---- what reading sees in a written line
 abbrev pub stationRead : ℕ → Station → Line
 stationRead n s = StationIn (record { number = n; minutes = s .minutes; points = s .points })
+
+abbrev pub walkRead : Walk → Line
+walkRead w = WalkIn (record { from = w .from; to = w .to; minutes = w .minutes; points = w .points })
 
 abbrev pub stopRead : (trip k : ℕ) → Stop → (last : Bool) → Line
 stopRead trip k s last =
@@ -101,6 +105,52 @@ module _ (n : ℕ) (s : Station) (h : n ≤ stationsMost) (v : validStation s �
         two-bytes n (omega arith),
         three-bytes (s .minutes) (omega (arith, ranges)),
         four-bytes (s .points) (omega (arith, ranges)),
+      ))
+
+-- ---- a walk's line
+module _ (n : ℕ) (w : Walk) (h : n ≤ stationsMost) (v : validWalk n w ≡ true) where
+  fits : ValidWalk n w
+  fits = valid-walk n w v
+
+  walk-fields : allAbove 44 (walkFields w) ≡ true
+  unfolding allAbove
+  walk-fields =
+      simp (
+        digits-above (w .from) (omega (arith, fits)),
+        digits-above (w .to) (omega (arith, fits)),
+        digits-above (w .minutes) (omega (arith, fits)),
+        digits-above (w .points) (omega (arith, fits)),
+      )
+
+  pub walk-shape : shapeOf (walkLine w) ≡ walkRead w
+  unfolding shapeBy walkLine walkShape walkOf
+  walk-shape =
+      rw (pieces-fielded _ _ (all-free 44 _ walk-fields))
+      (simp (
+        digits-value (w .from) (omega (arith, fits)),
+        digits-value (w .to) (omega (arith, fits)),
+        digits-value (w .minutes) (omega (arith, fits)),
+        digits-value (w .points) (omega (arith, fits)),
+        le-leb (w .from) 9999 (omega (arith, fits)),
+        le-leb (w .to) 9999 (omega (arith, fits)),
+        le-leb (w .minutes) 9999 (omega (arith, fits)),
+        le-leb (w .points) 9999 (omega (arith, fits)),
+      ))
+
+  pub walk-above : above 10 (walkLine w) ≡ true
+  unfolding walkLine above
+  walk-above = above-fielded (walkFields w) walk-fields
+
+  pub walk-short : length (walkLine w) < 16
+  unfolding walkLine fielded
+  walk-short =
+      simp length-append
+      (omega (
+        arith,
+        two-bytes (w .from) (omega (arith, fits)),
+        two-bytes (w .to) (omega (arith, fits)),
+        two-bytes (w .minutes) (omega (arith, fits)),
+        four-bytes (w .points) (omega (arith, fits)),
       ))
 
 -- ---- a stop's line

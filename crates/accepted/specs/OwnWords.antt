@@ -1,27 +1,29 @@
 -- Words that have their yes to question 9 begin with the words of the timetable that they spell: station by station,
--- stop by stop, start by start and number by number, what is spelled from an index on is written back to the same
--- words.
-use mathlib.Core.Path.{_≡_, refl, sym, ap, _∙_}
+-- stop by stop, start by start, number by number and walk by walk, what is spelled from an index on is written back to
+-- the same words.
+use mathlib.Core.Path.{_≡_, refl, sym, ap, subst, _∙_}
 use mathlib.Core.Bool.{true}
 use mathlib.Core.List.{List, [], _∷_, _++_, map, map-append}
 use Prim.Native.Nat.{ℕ, zero, suc, _+_, _-_, _*_, _≤_, _<_}
-use lib.Dec.{leb, eqb}
+use lib.Dec.{T, leb, eqb}
 use lib.ListN.{length, getD, take, drop, length-map}
 use lib.Seq.{drop-cons, take-add, length-take-le}
 use native.Mathlib.Nat.{zero-add, add-zero, suc-add}
 use native.Mathlib.Numerals.{add-one}
 use native.Mathlib.Omega.{arith}
 use borrow.Author.Tests.{leb-true, eqb-true}
-use Rattle.lists.specs.Lists.{range}
+use Rattle.lists.specs.Lists.{range, same}
+use Rattle.lists.specs.Members.{same-eq}
 use Rattle.lists.specs.Ranges.{length-range}
 use Rattle.lists.specs.Tests.{and-left, and-right}
 use Rattle.timetable.specs.Timetable.{stopsOf}
-use Rattle.timetable.specs.Words.{stationWords, stopWords, startWords, words, stationCount, tripCount}
-use Rattle.timetable.specs.Words.{stopCount, stationAt, stopPlace, stopAt, startAt, tripAt, numberAt, timetableOf}
-use Rattle.timetable.specs.Words.{rise, chained, isTimetable}
+use Rattle.timetable.specs.Words.{stationWords, stopWords, startWords, walkWords, footWords, words, stationCount}
+use Rattle.timetable.specs.Words.{tripCount, stopCount, stationAt, stopPlace, stopAt, startAt, tripAt, numberAt}
+use Rattle.timetable.specs.Words.{footPlace, walksTo, walkCount, walkPlace, walkAt, timetableOf, rise, chained, footed}
+use Rattle.timetable.specs.Words.{isTimetable}
 use Rattle.timetable.specs.Check.{rise-most}
 use Rattle.timetable.specs.Parts.{stops-back}
-use Rattle.timetable.specs.Access.{spelled-valid, is-chained}
+use Rattle.timetable.specs.Access.{spelled-valid, is-chained, is-footed}
 use Rattle.accepted.specs.Valid.{is-valid}
 use Rattle.accepted.specs.Fits.{wordsCount, wordsMost}
 
@@ -119,33 +121,61 @@ module _ (w : List ℕ) where
       rw (take-start j (suc n) (omega arith), trip-end j up)
       (ap (λ r. a ∷ r) (starts-chained (suc j) n on (omega arith)))
 
-  -- ---- the numbers of the trips
-  abbrev numbersPlace : ℕ
-  numbersPlace = stopPlace w (stopCount w) + (tripCount w + 1)
+  -- ---- words that stand from a place on: the numbers of the trips, and the counts of walks by station
+  words-back : (place k n : ℕ) → place + k + n ≤ length w
+      → map (λ j. getD w (place + j) 0) (range k n) ≡ take n (drop (place + k) w)
+  words-back place k zero h = refl
+  words-back place k (suc n) h =
+      let next : place + k + 1 ≡ place + suc k = omega arith in
+      rw (take-one w (place + k) n (omega arith), next)
+      (ap (λ r. getD w (place + k) 0 ∷ r) (words-back place (suc k) n (omega arith)))
 
-  numbers-back : (k n : ℕ) → numbersPlace + k + n ≤ length w
-      → map (numberAt w) (range k n) ≡ take n (drop (numbersPlace + k) w)
-  unfolding numberAt
-  numbers-back k zero h = refl
-  numbers-back k (suc n) h =
-      let place : numbersPlace + k + 1 ≡ numbersPlace + suc k = omega arith in
-      rw (take-one w (numbersPlace + k) n (omega arith), place)
-      (ap (λ r. getD w (numbersPlace + k) 0 ∷ r) (numbers-back (suc k) n (omega arith)))
+  walks-back : (k n : ℕ) → walkPlace w (k + n) ≤ length w
+      → walkWords (map (walkAt w) (range k n)) ≡ take (4 * n) (drop (walkPlace w k) w)
+  unfolding walkWords walkAt
+  walks-back k zero h = refl
+  walks-back k (suc n) h =
+      let at = walkPlace w k in
+      let count : 4 * suc n ≡ suc (suc (suc (suc (4 * n)))) = omega arith in
+      let two : at + 1 + 1 ≡ at + 2 = omega arith in
+      let three : at + 2 + 1 ≡ at + 3 = omega arith in
+      let four : at + 3 + 1 ≡ walkPlace w (suc k) = omega arith in
+      rw (
+        count,
+        take-one w at (suc (suc (suc (4 * n)))) (omega arith),
+        take-one w (at + 1) (suc (suc (4 * n))) (omega arith),
+        two,
+        take-one w (at + 2) (suc (4 * n)) (omega arith),
+        three,
+        take-one w (at + 3) (4 * n) (omega arith),
+        four,
+      )
+      (ap (λ r. getD w at 0 ∷ getD w (at + 1) 0 ∷ getD w (at + 2) 0 ∷ getD w (at + 3) 0 ∷ r)
+      (walks-back (suc k) n (omega arith)))
 
 -- ---- the whole
 take-three : (w : List ℕ) → 3 ≤ length w → take 3 w ≡ getD w 0 0 ∷ getD w 1 0 ∷ getD w 2 0 ∷ []
 take-three w h = take-one w 0 2 (omega arith) ∙ rw (take-one w 1 1 (omega arith), take-one w 2 0 (omega arith))
 
-take-parts : (w : List ℕ) (a b c d e : ℕ) → take (a + b + c + d + e) w
+take-parts : (w : List ℕ) (a b c d e f g : ℕ) → take (a + b + c + d + e + f + g) w
     ≡ take a w
     ++ take b (drop a w)
     ++ take c (drop (a + b) w)
     ++ take d (drop (a + b + c) w)
     ++ take e (drop (a + b + c + d) w)
-take-parts w a b c d e =
-    rw (take-add (a + b + c + d) e w, take-add (a + b + c) d w, take-add (a + b) c w, take-add a b w)
+    ++ take f (drop (a + b + c + d + e) w)
+    ++ take g (drop (a + b + c + d + e + f) w)
+take-parts w a b c d e f g =
+    rw (
+      take-add (a + b + c + d + e + f) g w,
+      take-add (a + b + c + d + e) f w,
+      take-add (a + b + c + d) e w,
+      take-add (a + b + c) d w,
+      take-add (a + b) c w,
+      take-add a b w,
+    )
 
-module _ (w : List ℕ) (c : chained w ≡ true) where
+module _ (w : List ℕ) (c : chained w ≡ true) (f : footed w ≡ true) where
   first-start : startAt w 0 ≡ 0
   unfolding chained
   first-start = eqb-true (startAt w 0) 0 (and-left (eqb (startAt w 0) 0) _ c)
@@ -171,7 +201,23 @@ module _ (w : List ℕ) (c : chained w ≡ true) where
   stop-count : length (stopsOf (timetableOf w .trips)) ≡ stopCount w
   stop-count = simp (all-stops, length-map, length-range)
 
-  module _ (h : wordsCount (stationCount w) (tripCount w) (stopCount w) ≤ length w) where
+  walk-count : length (timetableOf w .walks) ≡ walkCount w
+  unfolding timetableOf
+  walk-count = simp (length-map, length-range)
+
+  counts-told : footWords (stationCount w) (timetableOf w .walks)
+      ≡ map (walksTo w) (range 0 (suc (stationCount w)))
+  unfolding footed
+  counts-told =
+      sym (same-eq (map (walksTo w) (range 0 (suc (stationCount w))))
+      (footWords (stationCount w) (timetableOf w .walks))
+      (subst T (sym f) tt))
+
+  -- the words that the timetable takes
+  abbrev count : ℕ
+  count = wordsCount (stationCount w) (tripCount w) (stopCount w) (walkCount w)
+
+  module _ (h : count ≤ length w) where
     station-part : stationWords (timetableOf w .stations) ≡ take (2 * stationCount w) (drop 3 w)
     unfolding timetableOf
     station-part = stations-back w 0 (stationCount w) (omega arith)
@@ -189,14 +235,32 @@ module _ (w : List ℕ) (c : chained w ≡ true) where
         let starts = starts-chained w 0 (tripCount w) rises (omega arith) in
         rw (first-start, add-zero) at starts
 
-    number-part : timetableOf w .numbers
-        ≡ take (tripCount w) (drop (3 + 2 * stationCount w + 5 * stopCount w + suc (tripCount w)) w)
-    unfolding timetableOf
-    number-part =
-        let place : numbersPlace w + 0 ≡ 3 + 2 * stationCount w + 5 * stopCount w + suc (tripCount w) = omega arith in
-        rw (← place) (numbers-back w 0 (tripCount w) (omega arith))
+    -- the words before the numbers, and those before the counts of walks
+    abbrev front : ℕ
+    front = 3 + 2 * stationCount w + 5 * stopCount w + suc (tripCount w)
 
-    pub own-words : words (timetableOf w) ≡ take (wordsCount (stationCount w) (tripCount w) (stopCount w)) w
+    number-part : timetableOf w .numbers ≡ take (tripCount w) (drop front w)
+    unfolding timetableOf numberAt
+    number-part =
+        let at = stopPlace w (stopCount w) + (tripCount w + 1) in
+        let place : at + 0 ≡ front = omega arith in
+        rw (← place) (words-back w at 0 (tripCount w) (omega arith))
+
+    count-part : footWords (stationCount w) (timetableOf w .walks)
+        ≡ take (suc (stationCount w)) (drop (front + tripCount w) w)
+    unfolding walksTo
+    count-part =
+        let place : footPlace w + 0 ≡ front + tripCount w = omega arith in
+        counts-told ∙ rw (← place) (words-back w (footPlace w) 0 (suc (stationCount w)) (omega arith))
+
+    walk-part : walkWords (timetableOf w .walks)
+        ≡ take (4 * walkCount w) (drop (front + tripCount w + suc (stationCount w)) w)
+    unfolding timetableOf
+    walk-part =
+        let place : walkPlace w 0 ≡ front + tripCount w + suc (stationCount w) = omega arith in
+        rw (← place) (walks-back w 0 (walkCount w) (omega arith))
+
+    pub own-words : words (timetableOf w) ≡ take count w
     unfolding words
     own-words =
         rw (
@@ -207,21 +271,36 @@ module _ (w : List ℕ) (c : chained w ≡ true) where
           stop-part,
           start-part,
           number-part,
-          take-parts w 3 (2 * stationCount w) (5 * stopCount w) (suc (tripCount w)) (tripCount w),
+          count-part,
+          walk-part,
+          take-parts w 3 (2 * stationCount w) (5 * stopCount w) (suc (tripCount w)) (tripCount w)
+              (suc (stationCount w)) (4 * walkCount w),
           take-three w (omega arith),
         )
 
 -- words that have their yes, and are enough, begin with those of the timetable that they spell
 module _ (w : List ℕ) (y : isTimetable w ≡ true) where
-  yes-fits : wordsCount (stationCount w) (tripCount w) (stopCount w) ≤ wordsMost
+  abbrev chain : chained w ≡ true
+  chain = is-chained w y
+
+  abbrev foot : footed w ≡ true
+  foot = is-footed w y
+
+  yes-fits : count w chain foot ≤ wordsMost
   yes-fits =
       let v = is-valid (timetableOf w) (spelled-valid w y) in
-      omega (arith, station-count w (is-chained w y), trip-count w (is-chained w y), stop-count w (is-chained w y))
+      omega (
+        arith,
+        station-count w chain foot,
+        trip-count w chain foot,
+        stop-count w chain foot,
+        walk-count w chain foot,
+      )
 
   pub yes-begins : wordsMost ≤ length w → take (length (words (timetableOf w))) w ≡ words (timetableOf w)
   yes-begins h =
-      let count : ℕ = wordsCount (stationCount w) (tripCount w) (stopCount w) in
-      let own : words (timetableOf w) ≡ take count w = own-words w (is-chained w y) (omega (arith, yes-fits)) in
-      let long : length (words (timetableOf w)) ≡ count =
-      ap length own ∙ length-take-le count w (omega (arith, yes-fits)) in
+      let own : words (timetableOf w) ≡ take (count w chain foot) w =
+      own-words w chain foot (omega (arith, yes-fits)) in
+      let long : length (words (timetableOf w)) ≡ count w chain foot =
+      ap length own ∙ length-take-le (count w chain foot) w (omega (arith, yes-fits)) in
       rw long (sym own)

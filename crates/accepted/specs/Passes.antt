@@ -1,32 +1,44 @@
 -- When a line has a yes to each question put to it: the facts that the questions ask for, in both directions.
-use mathlib.Core.Path.{ap, _≡_, refl}
+use mathlib.Core.Path.{ap, _≡_, refl, sym, _∙_}
 use mathlib.Core.Bool.{Bool, true, false, not, cond, _&&_, _||_, false≢true}
 use mathlib.Core.List.{List, _∷_}
 use Prim.Native.Nat.{ℕ, suc, _+_, _≤_, _<_}
 use lib.Dec.{leb, ltb, eqb, leb·zero}
+use lib.ListN.{length}
 use native.Mathlib.Omega.{arith}
 use borrow.Author.Tests.{not-true, leb-true, ltb-true, eqb-true, le-leb, lt-ltb, eq-eqb, ne-eqb}
 use Rattle.lists.specs.Tests.{and-left, and-right, or-right, or-other}
 use Rattle.text.specs.Range.{inRange}
 use Rattle.text.specs.Shape.{shapeBy}
+use Rattle.text.specs.declared.Line.the-variants.{Station as StationIn, Walk as WalkIn}
 use Rattle.text.specs.declared.StationLine.{StationLine}
+use Rattle.text.specs.declared.WalkLine.{WalkLine}
 use Rattle.text.specs.declared.StopLine.{StopLine}
-use Rattle.timetable.specs.Timetable.{lastMinute, stationsMost, tripsMost, stopsMost}
-use Rattle.reading.specs.Draft.{Draft, Rules, textRules, withLine}
-use Rattle.reading.specs.Draft.{stopInRange, extraStation}
-use Rattle.reading.specs.Progress.{progress, stationNumberAt, stopFitsAt, stopNumberAt, extraStopAt, lineNumberAt}
+use Rattle.timetable.specs.Timetable.{lastMinute, stationsMost, walksMost, tripsMost, stopsMost}
+use Rattle.reading.specs.Draft.{Draft, Rules, textRules, withLine, stopsIn, stationNumber, walkOfLine, risesAfter}
+use Rattle.reading.specs.Draft.{walkFits, walkNumber, stopInRange, extraStation, extraWalk}
+use Rattle.reading.specs.Progress.{progress, stopFitsAt, stopNumberAt, extraStopAt, lineNumberAt}
 use Rattle.reading.specs.Progress.{same-number}
 use Rattle.reading.specs.Reading.{Refused, readUnder}
 use Rattle.reading.specs.declared.Progress.{Progress}
+use Rattle.accepted.specs.Valid.{ValidWalk}
 
 -- "In range? 3. In place: .. ? 4. Within the three counts? 5"
-pub record StationPasses (p : Progress) (l : StationLine) : Type 0 where
+pub record StationPasses (d : Draft) (l : StationLine) : Type 0 where
   pub minutes : l .minutes ≤ 240
   pub least : 1 ≤ l .points
   pub points : l .points ≤ 1000
-  pub first : p .stops ≡ 0
-  pub number : l .number ≡ p .stations + 1
-  pub count : p .stations < stationsMost
+  pub walks : length (d .walks) ≡ 0
+  pub first : length (stopsIn d) ≡ 0
+  pub number : l .number ≡ length (d .stations) + 1
+  pub count : length (d .stations) < stationsMost
+
+-- "Lines out of place or of rising order give 4, too many 5, unlisted stations 6."
+pub record WalkPasses (d : Draft) (l : WalkLine) : Type 0 where
+  pub walk : ValidWalk (length (d .stations)) (walkOfLine l)
+  pub first : length (stopsIn d) ≡ 0
+  pub rises : risesAfter (d .walks) (walkOfLine l) ≡ true
+  pub count : length (d .walks) < walksMost
 
 -- .. and "For stops: ..? 6". So many trips and stops as the rules say run already.
 pub record StopPasses (r : Rules) (p : Progress) (l : StopLine) : Type 0 where
@@ -56,29 +68,83 @@ later-yes before true rest e = e
 later-yes before false rest e = absurd (omega arith)
 
 -- ---- a station line
-module _ (p : Progress) (l : StationLine) where
-  pub station-passes : StationPasses p l → stationNumberAt p l ≡ 0
-  unfolding stationNumberAt inRange
+module _ (d : Draft) (l : StationLine) where
+  pub station-passes : StationPasses d l → lineNumberAt textRules (progress d) (StationIn l) ≡ 0
+  unfolding stationNumber inRange
   station-passes h =
+      let none : stationNumber d l ≡ 0 =
       simp (
         leb·zero,
         le-leb (l .minutes) 240 (h .minutes),
         le-leb 1 (l .points) (h .least),
         le-leb (l .points) 1000 (h .points),
-        eq-eqb (p .stops) 0 (h .first),
-        eq-eqb (l .number) (p .stations + 1) (h .number),
-        lt-ltb (p .stations) stationsMost (h .count),
+        eq-eqb (length (d .walks)) 0 (h .walks),
+        eq-eqb (length (stopsIn d)) 0 (h .first),
+        eq-eqb (l .number) (length (d .stations) + 1) (h .number),
+        lt-ltb (length (d .stations)) stationsMost (h .count),
+      ) in
+      sym (same-number textRules d (StationIn l)) ∙ none
+
+  pub station-passed : lineNumberAt textRules (progress d) (StationIn l) ≡ 0 → StationPasses d l
+  unfolding stationNumber inRange
+  station-passed e =
+      let none : stationNumber d l ≡ 0 = same-number textRules d (StationIn l) ∙ e in
+      search (
+        this-yes 2,
+        later-yes 2,
+        this-yes 3,
+        later-yes 3,
+        this-yes 4,
+        and-left,
+        and-right,
+        leb-true,
+        eqb-true,
+        ltb-true,
       )
 
-  pub station-passed : stationNumberAt p l ≡ 0 → StationPasses p l
-  unfolding stationNumberAt inRange
-  station-passed e =
-      search (this-yes 2, later-yes 2, this-yes 3, later-yes 3, this-yes 4, and-left, and-right, leb-true, eqb-true)
+-- ---- a walk line
+module _ (d : Draft) (l : WalkLine) where
+  pub walk-passes : WalkPasses d l → lineNumberAt textRules (progress d) (WalkIn l) ≡ 0
+  unfolding walkNumber walkFits inRange
+  walk-passes h =
+      let w = h .walk in
+      let none : walkNumber d l ≡ 0 =
+      simp (
+        le-leb 1 (l .minutes) (w .minutes-least),
+        le-leb (l .minutes) 60 (w .minutes-most),
+        le-leb 1 (l .points) (w .points-least),
+        le-leb (l .points) 1000 (w .points-most),
+        eq-eqb (length (stopsIn d)) 0 (h .first),
+        h .rises,
+        lt-ltb (length (d .walks)) walksMost (h .count),
+        le-leb 1 (l .from) (w .from-least),
+        le-leb (l .from) (length (d .stations)) (w .from-most),
+        le-leb 1 (l .to) (w .to-least),
+        le-leb (l .to) (length (d .stations)) (w .to-most),
+      ) in
+      sym (same-number textRules d (WalkIn l)) ∙ none
 
--- a station is no line of an extra trip
+  pub walk-passed : lineNumberAt textRules (progress d) (WalkIn l) ≡ 0 → WalkPasses d l
+  unfolding walkNumber walkFits inRange
+  walk-passed e =
+      let none : walkNumber d l ≡ 0 = same-number textRules d (WalkIn l) ∙ e in
+      record {
+        walk =
+            search (this-yes 2, later-yes 2, later-yes 3, later-yes 4, this-yes 5, and-left, and-right, leb-true)
+            depth 9;
+        first = search (later-yes 2, this-yes 3, and-left, eqb-true);
+        rises = search (later-yes 2, this-yes 3, and-right);
+        count = search (later-yes 2, later-yes 3, this-yes 4, ltb-true);
+      }
+
+-- a station or a walk is no line of an extra trip
 pub station-refused : (l : StationLine) → extraStation l ≡ 0 → ⊥
 unfolding extraStation
 station-refused l e = let no : false ≡ true = search (later-yes 2, this-yes 3) in false≢true no
+
+pub walk-refused : (l : WalkLine) → extraWalk l ≡ 0 → ⊥
+unfolding extraWalk
+walk-refused l e = let no : false ≡ true = search (later-yes 2, this-yes 3) in false≢true no
 
 -- ---- a stop line
 module _ (p : Progress) (l : StopLine) where

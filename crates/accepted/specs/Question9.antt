@@ -3,7 +3,7 @@
 -- The test isTimetable has a yes exactly for the words that are, and what reading wrote, with number 0, always has its
 -- yes. This is for a reader, as `question9`, `read-leads` and `zero-has-yes` say it; `LedTo` stands in Led.
 use mathlib.Core.Path.{_≡_, refl, sym, ap, subst, _∙_}
-use mathlib.Core.Bool.{Bool, true, false, cond}
+use mathlib.Core.Bool.{Bool, true, false, cond, _&&_}
 use mathlib.Core.Logic.{_↔_}
 use mathlib.Core.List.{List, [], _∷_, _++_}
 use Prim.Native.Nat.{ℕ, zero, suc, _+_, _-_, _≤_}
@@ -20,7 +20,7 @@ use Rattle.text.specs.Piece.{pieces}
 use Rattle.text.specs.Time.{timeValue}
 use Rattle.text.specs.Shape.{shapeOf}
 use Rattle.timetable.specs.Timetable.{Timetable, valid}
-use Rattle.timetable.specs.Words.{words, timetableOf, isTimetable}
+use Rattle.timetable.specs.Words.{countTo, words, timetableOf, chained, footed, isTimetable}
 use Rattle.timetable.specs.Access.{spelled-valid}
 use Rattle.reading.specs.declared.Reply.{Reply}
 use Rattle.reading.specs.declared.Reply.the-variants.{Refused as ReplyRefused}
@@ -31,7 +31,8 @@ use Rattle.reading.specs.Reading.{reading, slicesLeast, replyTo, readReply, rea
 use Rattle.accepted.specs.Valid.{is-valid}
 use Rattle.accepted.specs.Passes.{read-more}
 use Rattle.accepted.specs.Sound.{accepted-valid}
-use Rattle.accepted.specs.Spelled.{words-spell, words-chained}
+use Rattle.accepted.specs.Spelled.{words-spell, words-footed, words-chained}
+use Rattle.accepted.specs.Fits.{walks-listed}
 use Rattle.accepted.specs.OwnWords.{yes-begins}
 use Rattle.accepted.specs.Kept.{wholeOf}
 use Rattle.accepted.specs.Led.{by-reading, LedTo}
@@ -47,9 +48,20 @@ yes-led w h y =
     }
 
 -- ---- and back
-pub valid-yes : (t : Timetable) (rest : List ℕ) → valid t ≡ true → isTimetable (words t ++ rest) ≡ true
-unfolding isTimetable
-valid-yes t rest v = and-both _ _ (words-chained t rest) (rw (words-spell t rest (is-valid t v .numbers)) v)
+module _ (t : Timetable) (rest : List ℕ) (v : valid t ≡ true) where
+  abbrev listed : countTo (t .walks) (length (t .stations)) ≡ length (t .walks)
+  listed = walks-listed (length (t .stations)) (t .walks) (is-valid t v .each-walk)
+
+  pub valid-spells : timetableOf (words t ++ rest) ≡ t
+  valid-spells = words-spell t rest (is-valid t v .numbers) listed
+
+  pub valid-yes : isTimetable (words t ++ rest) ≡ true
+  unfolding isTimetable
+  valid-yes =
+      let w = words t ++ rest in
+      and-both (chained w && valid (timetableOf w)) (footed w)
+      (and-both (chained w) (valid (timetableOf w)) (words-chained t rest) (rw valid-spells v))
+      (words-footed t rest (is-valid t v .numbers) listed)
 
 led-yes : (w : List ℕ) → LedTo w → isTimetable w ≡ true
 led-yes w c =
@@ -85,8 +97,7 @@ module _ (text : List ℕ) (t : Timetable) (n : ℕ) (e : reading text ≡ Accep
     -- it spells the timetable of the text
     pub read-spells : timetableOf (readWords text old) ≡ t
     read-spells =
-        let many = is-valid t (accepted-valid text t n e) .numbers in
-        rw (read-writes old h) (words-spell t (drop (length (words t)) old) many)
+        rw (read-writes old h) (valid-spells t (drop (length (words t)) old) (accepted-valid text t n e))
 
 -- ---- no refusal has number 0, so that a reply with number 0 has an accepted text
 abbrev Numbered : Outcome → Type 0

@@ -8,11 +8,12 @@ use lib.Dec.{eqb}
 use borrow.Author.Tests.{leb-true, eq-eqb, eqb-false, not-true}
 use Rattle.lists.specs.Tests.{and-left, and-right}
 use Rattle.text.specs.Number.{emptyField}
-use Rattle.text.specs.Shape.{stationOf, stationShape, arriveFits, departFits, filled, stopFits, stopOf}
-use Rattle.text.specs.Shape.{stopShape, shapeBy}
+use Rattle.text.specs.Shape.{stationOf, stationShape, walkOf, walkShape, arriveFits, departFits, filled, stopFits}
+use Rattle.text.specs.Shape.{stopOf, stopShape, shapeBy}
 use Rattle.text.specs.declared.Line.{Line}
-use Rattle.text.specs.declared.Line.the-variants.{Station as StationIn, Stop as StopIn, Shapeless}
+use Rattle.text.specs.declared.Line.the-variants.{Station as StationIn, Walk as WalkIn, Stop as StopIn, Shapeless}
 use Rattle.text.specs.declared.StationLine.{StationLine}
+use Rattle.text.specs.declared.WalkLine.{WalkLine}
 use Rattle.text.specs.declared.StopLine.{StopLine}
 
 -- a stop line
@@ -26,6 +27,7 @@ pub record ShapedStop (l : StopLine) : Type 0 where
 -- any line; only a stop line has a trip and fields that may be empty
 unfoldable pub Shaped : Line → Type 0
 Shaped (StationIn l) = Unit {0}
+Shaped (WalkIn l) = Unit {0}
 Shaped (StopIn l) = ShapedStop l
 Shaped Shapeless = Unit {0}
 
@@ -76,6 +78,10 @@ a-station : (l : StationLine) → Shaped (StationIn l)
 unfolding Shaped
 a-station l = tt
 
+a-walk : (l : WalkLine) → Shaped (WalkIn l)
+unfolding Shaped
+a-walk l = tt
+
 a-stop : (l : StopLine) → ShapedStop l → Shaped (StopIn l)
 unfolding Shaped
 a-stop l h = h
@@ -92,6 +98,10 @@ station-shaped : (number minutes points : ℕ) → Shaped (stationOf number minu
 unfolding stationOf
 station-shaped number minutes points = search (either-shaped, a-station, shapeless)
 
+walk-shaped : (from to minutes points : ℕ) → Shaped (walkOf from to minutes points)
+unfolding walkOf
+walk-shaped from to minutes points = search (either-shaped, a-walk, shapeless)
+
 stop-shaped : (trip stop station arrive depart points mark : ℕ)
     → Shaped (stopOf trip stop station arrive depart points mark)
 unfolding stopOf
@@ -99,5 +109,5 @@ stop-shaped trip stop station arrive depart points mark =
     search (either-shaped, a-stop, shapeless, fields-shaped)
 
 pub shaped : (time : List ℕ → ℕ) (s : List ℕ) → Shaped (shapeBy time s)
-unfolding shapeBy stationShape stopShape
-shaped time s = search (either-shaped, shapeless, station-shaped, stop-shaped)
+unfolding shapeBy stationShape walkShape stopShape
+shaped time s = search (either-shaped, shapeless, station-shaped, walk-shaped, stop-shaped) depth 8

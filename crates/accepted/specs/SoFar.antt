@@ -1,5 +1,5 @@
 -- A trip as far as its lines have come: valid so far, it goes on or ends with a stop that follows its last one. Lists
--- of stations and of trips stay valid with one more.
+-- of stations, of walks and of trips stay valid with one more.
 use mathlib.Core.Path.{_≡_, refl}
 use mathlib.Core.Bool.{Bool, true, _&&_}
 use mathlib.Core.List.{List, [], _∷_, _++_}
@@ -8,9 +8,9 @@ use lib.Dec.{leb, eqb}
 use lib.ListN.{length}
 use native.Mathlib.Omega.{arith}
 use Rattle.lists.specs.Tests.{and-left, and-right, and-both}
-use Rattle.timetable.specs.Timetable.{Station, Stop, Trip, validStation, listed, leaves, ends, follows, runs, validTrip}
-use Rattle.timetable.specs.Timetable.{validStations, validTrips}
-use Rattle.reading.specs.Draft.{final}
+use Rattle.timetable.specs.Timetable.{Station, Walk, Stop, Trip, validStation, validWalk, walkBefore, validWalks}
+use Rattle.timetable.specs.Timetable.{listed, leaves, ends, follows, runs, validTrip, validStations, validTrips}
+use Rattle.reading.specs.Draft.{risesAfter, final}
 use Rattle.accepted.specs.Valid.{runs-one, runs-more}
 
 -- the stops after stop b, of a trip that has not ended
@@ -31,6 +31,35 @@ stations-more [] s v w = and-both (validStation s) true w refl
 stations-more (x ∷ l) s v w =
     let rest = stations-more l s (search (and-right)) w in
     search (and-both, and-left)
+
+pub walks-more : (n : ℕ) (l : List Walk) (w : Walk) → validWalks n l ≡ true → validWalk n w ≡ true
+    → risesAfter l w ≡ true → validWalks n (l ++ (w ∷ [])) ≡ true
+unfolding validWalks
+walks-more n [] w v h r = h
+walks-more n (x ∷ []) w v h r = simp (v, r, h)
+walks-more n (x ∷ y ∷ l) w v h r =
+    let rest = walks-more n (y ∷ l) w (search (and-right)) h r in
+    let here : validWalk n x && walkBefore x y ≡ true = search (and-left) in
+    and-both (validWalk n x && walkBefore x y) (validWalks n (y ∷ l ++ (w ∷ []))) here rest
+
+-- and back: a walk among others is valid, and rises after those before it
+pub walk-first : (n : ℕ) (w : Walk) (l : List Walk) → validWalks n (w ∷ l) ≡ true → validWalk n w ≡ true
+unfolding validWalks
+walk-first n w [] v = v
+walk-first n w (x ∷ l) v = search (and-left)
+
+pub walks-rest : (n : ℕ) (w : Walk) (l : List Walk) → validWalks n (w ∷ l) ≡ true → validWalks n l ≡ true
+unfolding validWalks
+walks-rest n w [] v = refl
+walks-rest n w (x ∷ l) v = search (and-right)
+
+pub walk-among : (n : ℕ) (done : List Walk) (w : Walk) (l : List Walk) → validWalks n (done ++ w ∷ l) ≡ true
+    → (validWalk n w ≡ true) × (risesAfter done w ≡ true)
+unfolding validWalks
+walk-among n [] w l v = (walk-first n w l v, refl)
+walk-among n (x ∷ []) w l v =
+    (walk-first n w l (walks-rest n x (w ∷ l) v), and-right (validWalk n x) (walkBefore x w) (search (and-left)))
+walk-among n (x ∷ y ∷ done) w l v = walk-among n (y ∷ done) w l (search (and-right))
 
 pub trips-more : (n : ℕ) (l : List Trip) (t : Trip) → validTrips n l ≡ true → validTrip n t ≡ true
     → validTrips n (l ++ (t ∷ [])) ≡ true

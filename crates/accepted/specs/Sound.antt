@@ -1,5 +1,5 @@
 -- Whatever text is accepted, its timetable is valid: each line that has a yes to all questions keeps the draft sound,
--- so that its stations and ended trips are valid, and the trip that has begun is valid as far as it goes.
+-- so that its stations, walks and ended trips are valid, and the trip that has begun is valid as far as it goes.
 use mathlib.Core.Path.{_≡_, refl, subst}
 use mathlib.Core.Bool.{Bool, true, false}
 use mathlib.Core.Logic.{inl, inr}
@@ -16,33 +16,45 @@ use Rattle.lists.specs.Tests.{and-left, or-other}
 use Rattle.text.specs.Piece.{pieces}
 use Rattle.text.specs.Time.{timeValue}
 use Rattle.text.specs.declared.Line.{Line}
-use Rattle.text.specs.declared.Line.the-variants.{Station as StationIn, Stop as StopIn, Shapeless}
+use Rattle.text.specs.declared.Line.the-variants.{Station as StationIn, Walk as WalkIn, Stop as StopIn, Shapeless}
 use Rattle.text.specs.declared.StationLine.{StationLine}
+use Rattle.text.specs.declared.WalkLine.{WalkLine}
 use Rattle.text.specs.declared.StopLine.{StopLine}
-use Rattle.timetable.specs.Timetable.{stationsMost, tripsMost, stopsMost, numberMost, lastMinute, Trip, Timetable}
+use Rattle.timetable.specs.Timetable.{stationsMost, walksMost, tripsMost, stopsMost, numberMost, lastMinute, Walk}
+use Rattle.timetable.specs.Timetable.{Trip, Timetable, validWalks}
 use Rattle.timetable.specs.Timetable.{stopsOf, validStation, listed, leaves, ends, follows, validTrip, validStations}
 use Rattle.timetable.specs.Timetable.{validTrips, climb, valid}
 use Rattle.timetable.specs.WordLaws.{stopsOf-append}
-use Rattle.reading.specs.Draft.{Draft, Rules, textRules, blank, final, stationOfLine, stopOfLine, withStop, withLine}
-use Rattle.reading.specs.Progress.{progress, stationNumberAt, lineNumberAt}
+use Rattle.reading.specs.Draft.{Draft, Rules, textRules, blank, final, stationOfLine, walkOfLine, stopOfLine, withStop}
+use Rattle.reading.specs.Draft.{withLine}
+use Rattle.reading.specs.Progress.{progress, lineNumberAt}
 use Rattle.reading.specs.Reading.{textMost, Accepted, readBy, readFrom, readLines, reading}
 use Rattle.accepted.specs.Lists.{snoc-length}
-use Rattle.accepted.specs.Valid.{valid-is, trip-not-empty}
-use Rattle.accepted.specs.Passes.{StopPasses, station-passed, stop-passed, fits-least, fits-most, fits-after}
-use Rattle.accepted.specs.SoFar.{validSoFar, stations-more, trips-more, trip-so-far, first-so-far, trip-to-end}
+use Rattle.accepted.specs.Valid.{walk-valid, valid-is, trip-not-empty}
+use Rattle.accepted.specs.Passes.{StopPasses, station-passed, walk-passed, stop-passed, fits-least, fits-most}
+use Rattle.accepted.specs.Passes.{fits-after}
+use Rattle.accepted.specs.SoFar.{validSoFar, stations-more, walks-more, trips-more, trip-so-far, first-so-far}
+use Rattle.accepted.specs.SoFar.{trip-to-end}
 use Rattle.accepted.specs.Shaped.{ShapedStop, Shaped}
 use Rattle.accepted.specs.Kept.{accepted-test, accepted-yes, wholeOf, lines-kept}
 
 -- So many trips and stops as the rules say run already.
 pub record Sound (r : Rules) (d : Draft) : Type 0 where
   pub stations : length (d .stations) ≤ stationsMost
+  pub walks : length (d .walks) ≤ walksMost
   pub trips : r .trips + length (d .trips) ≤ tripsMost
   pub stops : r .stops + length (stopsOf (d .trips) ++ d .begun) ≤ stopsMost
   pub each-station : validStations (d .stations) ≡ true
+  pub each-walk : validWalks (length (d .stations)) (d .walks) ≡ true
   pub each-trip : validTrips (length (d .stations)) (d .trips) ≡ true
   pub begun : validSoFar (length (d .stations)) (d .begun) ≡ true
 
--- ---- a station line: no trip has begun, so that the stations may still change
+-- ---- a station line: no walk and no trip is there, so that the stations may still change
+no-walks : (n : ℕ) (l : List Walk) → length l ≡ 0 → validWalks n l ≡ true
+unfolding validWalks
+no-walks n [] e = refl
+no-walks n (w ∷ l) e = absurd (omega arith)
+
 no-trips : (n m : ℕ) (l : List Trip) → length (stopsOf l) ≡ 0 → validTrips n l ≡ true → validTrips m l ≡ true
 unfolding validTrips
 no-trips n m [] e v = refl
@@ -54,22 +66,41 @@ unfolding validSoFar
 none-begun n [] e = refl
 none-begun n (b ∷ t) e = absurd (omega arith)
 
-station-line : (d : Draft) (l : StationLine) → stationNumberAt (progress d) l ≡ 0 → Sound textRules d
-    → Sound textRules (withLine d (StationIn l))
+station-line : (d : Draft) (l : StationLine) → lineNumberAt textRules (progress d) (StationIn l) ≡ 0
+    → Sound textRules d → Sound textRules (withLine d (StationIn l))
 unfolding validStation
 station-line d l e h =
-    let p = station-passed (progress d) l e in
+    let p = station-passed d l e in
     let all = length-append (stopsOf (d .trips)) (d .begun) in
     let more = snoc-length (d .stations) (stationOfLine l) in
     let first = p .first in
     record {
       stations = omega arith;
+      walks = h .walks;
       trips = h .trips;
       stops = h .stops;
       each-station = stations-more (d .stations) (stationOfLine l) (h .each-station)
           (simp (le-leb _ _ (p .minutes), le-leb _ _ (p .least), le-leb _ _ (p .points)));
+      each-walk = no-walks _ (d .walks) (p .walks);
       each-trip = no-trips _ _ (d .trips) (omega arith) (h .each-trip);
       begun = none-begun _ (d .begun) (omega arith);
+    }
+
+-- ---- a walk line
+walk-line : (d : Draft) (l : WalkLine) → lineNumberAt textRules (progress d) (WalkIn l) ≡ 0 → Sound textRules d
+    → Sound textRules (withLine d (WalkIn l))
+walk-line d l e h =
+    let p = walk-passed d l e in
+    let one = walk-valid (length (d .stations)) (walkOfLine l) (p .walk) in
+    record {
+      stations = h .stations;
+      walks = omega (arith, snoc-length (d .walks) (walkOfLine l), p .count);
+      trips = h .trips;
+      stops = h .stops;
+      each-station = h .each-station;
+      each-walk = walks-more _ (d .walks) (walkOfLine l) (h .each-walk) one (p .rises);
+      each-trip = h .each-trip;
+      begun = h .begun;
     }
 
 -- ---- a stop line
@@ -143,18 +174,22 @@ module _ (r : Rules) (d : Draft) (l : StopLine) (passes : StopPasses r (progress
     with-stop true last =
         record {
           stations = h .stations;
+          walks = h .walks;
           trips = omega (arith, snoc-length (d .trips) (d .begun ++ (stopOfLine l ∷ [])), passes .trips);
           stops = simp (stopsOf-append, append-nil, length-append) one-more;
           each-station = h .each-station;
+          each-walk = h .each-walk;
           each-trip = trips-more _ (d .trips) _ (h .each-trip) (ends-trip last);
           begun = refl;
         }
     with-stop false on =
         record {
           stations = h .stations;
+          walks = h .walks;
           trips = h .trips;
           stops = simp length-append one-more;
           each-station = h .each-station;
+          each-walk = h .each-walk;
           each-trip = h .each-trip;
           begun = goes-on on;
         }
@@ -164,18 +199,21 @@ sound-line : (d : Draft) (line : Line) → Shaped line → lineNumberAt textRule
     → Sound textRules d → Sound textRules (withLine d line)
 unfolding Shaped
 sound-line d (StationIn l) shape e h = station-line d l e h
+sound-line d (WalkIn l) shape e h = walk-line d l e h
 sound-line d (StopIn l) shape e h =
     with-stop textRules d l (stop-passed (progress d) l e) shape h (l .last) refl
 sound-line d Shapeless shape e h = absurd (omega arith)
 
 sound-blank : Sound textRules blank
-unfolding validStations validTrips validSoFar
+unfolding validStations validWalks validTrips validSoFar
 sound-blank =
     record {
       stations = omega arith;
+      walks = omega arith;
       trips = omega arith;
       stops = omega arith;
       each-station = refl;
+      each-walk = refl;
       each-trip = refl;
       begun = refl;
     }
@@ -198,11 +236,13 @@ draft-valid d h some =
     (record {
       least = some;
       stations = h .stations;
+      walks = h .walks;
       trips = omega (arith, h .trips);
       stops = omega (arith, h .stops);
       numbers = length-range 1 (length (d .trips));
       climbs = climb-range 0 (length (d .trips)) (omega (arith, h .trips));
       each-station = h .each-station;
+      each-walk = h .each-walk;
       each-trip = h .each-trip;
     })
 

@@ -1,22 +1,26 @@
 -- A timetable's words, whatever stands behind them, spell this timetable: what the words hold is read off from the
--- index where it stands, station by station, stop by stop, trip by trip and number by number.
+-- index where it stands, station by station, stop by stop, trip by trip, number by number and walk by walk.
 use mathlib.Core.Path.{_≡_, refl, sym, ap, _∙_}
 use mathlib.Core.Bool.{true}
 use mathlib.Core.List.{List, [], _∷_, _++_, map, append-assoc}
 use Prim.Native.Nat.{ℕ, suc, _+_, _-_, _*_}
 use lib.Dec.{eqb}
-use lib.ListN.{length, drop, length-append}
+use lib.ListN.{length, getD, drop, length-append}
 use native.Mathlib.Nat.{zero-add, add-assoc}
 use native.Mathlib.Numerals.{add-one}
 use native.Mathlib.Omega.{arith}
 use borrow.Author.Tests.{le-leb, eq-eqb}
-use Rattle.lists.specs.Lists.{range}
-use Rattle.lists.specs.Tests.{and-both}
+use Rattle.lists.specs.Lists.{range, same}
+use Rattle.lists.specs.Members.{same-refl}
+use Rattle.lists.specs.Tests.{and-both, T-true}
 use Rattle.timetable.specs.Timetable.{Station, Stop, Trip, Timetable, stopsOf}
-use Rattle.timetable.specs.Words.{stationWords, stopWords, startWords, words, stopCount, stationAt}
-use Rattle.timetable.specs.Words.{stopIn, stopPlace, tripCount, stopAt, startAt, tripAt, numberAt, timetableOf, rise}
-use Rattle.timetable.specs.Words.{chained}
-use Rattle.timetable.specs.WordLaws.{length-stationWords, length-stopWords, length-startWords, stopWords-append}
+use Rattle.timetable.specs.Words.{stationWords, stopWords, startWords, walkWords, countTo, footWords, words}
+use Rattle.timetable.specs.Words.{stationCount, stopCount}
+use Rattle.timetable.specs.Words.{stationAt, stopIn, stopPlace, tripCount, stopAt, startAt, tripAt, numberAt, footPlace}
+use Rattle.timetable.specs.Words.{walksTo, walkPlace, walkIn, walkAt, timetableOf, rise, chained, footed}
+use Rattle.timetable.specs.WordLaws.{length-stationWords, length-stopWords, length-startWords, length-footWords}
+use Rattle.timetable.specs.WordLaws.{stopWords-append, walks-from}
+use Rattle.timetable.specs.Access.{map-numbers}
 use Rattle.accepted.specs.Lists.{head-at, past-at}
 
 -- ---- how many words
@@ -74,27 +78,18 @@ module _ (w : List ℕ) where
   unfolding startAt
   start-at j k l e = head-at w (startsPlace + j) k l e
 
-  starts-at : (j : ℕ) (l more : List ℕ) → drop (startsPlace + j) w ≡ l ++ more
-      → map (startAt w) (range j (length l)) ≡ l
-  starts-at j [] more e = refl
-  starts-at j (k ∷ l) more e =
-      let place : startsPlace + suc j ≡ startsPlace + j + 1 = omega arith in
-      let next = past-at w (startsPlace + j) 1 (k ∷ []) (l ++ more) refl e in
-      λ i. start-at j k (l ++ more) e i ∷ starts-at (suc j) l more (ap (λ n. drop n w) place ∙ next) i
+  -- words that stand from a place on: the starts, the numbers of trips, the counts of walks by station
+  words-at : (place j : ℕ) (l more : List ℕ) → drop (place + j) w ≡ l ++ more
+      → map (λ k. getD w (place + k) 0) (range j (length l)) ≡ l
+  words-at place j [] more e = refl
+  words-at place j (k ∷ l) more e =
+      let on : place + suc j ≡ place + j + 1 = omega arith in
+      let next = past-at w (place + j) 1 (k ∷ []) (l ++ more) refl e in
+      λ i. head-at w (place + j) k (l ++ more) e i ∷ words-at place (suc j) l more (ap (λ n. drop n w) on ∙ next) i
 
   -- where the numbers stand
   abbrev numbersPlace : ℕ
   numbersPlace = startsPlace + (tripCount w + 1)
-
-  numbers-at : (j : ℕ) (l more : List ℕ) → drop (numbersPlace + j) w ≡ l ++ more
-      → map (numberAt w) (range j (length l)) ≡ l
-  unfolding numberAt
-  numbers-at j [] more e = refl
-  numbers-at j (k ∷ l) more e =
-      let place : numbersPlace + suc j ≡ numbersPlace + j + 1 = omega arith in
-      let next = past-at w (numbersPlace + j) 1 (k ∷ []) (l ++ more) refl e in
-      λ i. head-at w (numbersPlace + j) k (l ++ more) e i
-      ∷ numbers-at (suc j) l more (ap (λ n. drop n w) place ∙ next) i
 
   stops-past : (k : ℕ) (t : Trip) (more : List ℕ) → drop (stopPlace w k) w ≡ stopWords t ++ more
       → drop (stopPlace w (k + length t)) w ≡ more
@@ -132,11 +127,18 @@ module _ (w : List ℕ) where
 
 -- ---- the whole
 module _ (t : Timetable) (rest : List ℕ) where
-  -- behind the starts
-  abbrev past : List ℕ
-  past = t .numbers ++ rest
+  -- behind the counts of walks, behind the numbers, behind the starts
+  abbrev behind : List ℕ
+  behind = walkWords (t .walks) ++ rest
 
-  -- the stations' words stand behind the three counts, the stops' words behind those, then the starts and the numbers
+  abbrev walking : List ℕ
+  walking = footWords (length (t .stations)) (t .walks) ++ behind
+
+  abbrev past : List ℕ
+  past = t .numbers ++ walking
+
+  -- the stations' words stand behind the three counts, the stops' words behind those, then the starts, the numbers, and
+  -- what is said of walks
   from-stations : drop 3 (words t ++ rest)
       ≡ stationWords (t .stations) ++ (stopWords (stopsOf (t .trips)) ++ (startWords 0 (t .trips) ++ past))
   unfolding words
@@ -168,17 +170,77 @@ module _ (t : Timetable) (rest : List ℕ) where
       (length-startWords 0 (t .trips)) from-starts
 
   -- where each trip has a number
-  pub words-spell : length (t .numbers) ≡ length (t .trips) → timetableOf (words t ++ rest) ≡ t
-  unfolding timetableOf words
-  words-spell many =
-      let numbers : map (numberAt (words t ++ rest)) (range 0 (length (t .trips))) ≡ t .numbers =
-      ap (λ n. map (numberAt (words t ++ rest)) (range 0 n)) (sym many)
-      ∙ numbers-at (words t ++ rest) 0 (t .numbers) rest from-numbers in
-      λ i. record {
-        stations = stations-at (words t ++ rest) 0 (t .stations) _ from-stations i;
-        numbers = numbers i;
-        trips = trips-at (words t ++ rest) 0 0 (t .trips) _ past from-stops from-starts i;
-      }
+  module _ (many : length (t .numbers) ≡ length (t .trips)) where
+    from-foot : drop (footPlace (words t ++ rest) + 0) (words t ++ rest) ≡ walking
+    unfolding words
+    from-foot =
+        let at = numbersPlace (words t ++ rest) in
+        let place : footPlace (words t ++ rest) + 0 ≡ at + 0 + length (t .trips) = omega arith in
+        ap (λ n. drop n (words t ++ rest)) place
+        ∙ past-at (words t ++ rest) (at + 0) (length (t .trips)) (t .numbers) walking many from-numbers
+
+    from-walks : drop (walkPlace (words t ++ rest) 0) (words t ++ rest) ≡ behind
+    unfolding words
+    from-walks =
+        let at = footPlace (words t ++ rest) in
+        let foot = footWords (length (t .stations)) (t .walks) in
+        let place : walkPlace (words t ++ rest) 0 ≡ at + 0 + (length (t .stations) + 1) = omega arith in
+        ap (λ n. drop n (words t ++ rest)) place
+        ∙ past-at (words t ++ rest) (at + 0) (length (t .stations) + 1) foot behind
+        (length-footWords (length (t .stations)) (t .walks)) from-foot
+
+    counts-spelled : map (walksTo (words t ++ rest)) (range 0 (suc (length (t .stations))))
+        ≡ footWords (length (t .stations)) (t .walks)
+    unfolding walksTo
+    counts-spelled =
+        let foot = footWords (length (t .stations)) (t .walks) in
+        let long : suc (length (t .stations)) ≡ length foot =
+        omega (arith, length-footWords (length (t .stations)) (t .walks)) in
+        ap (λ n. map (walksTo (words t ++ rest)) (range 0 n)) long
+        ∙ words-at (words t ++ rest) (footPlace (words t ++ rest)) 0 foot behind from-foot
+
+    -- and each walk is from a station that is listed
+    module _ (listed : countTo (t .walks) (length (t .stations)) ≡ length (t .walks)) where
+      walk-count : walksTo (words t ++ rest) (length (t .stations)) ≡ length (t .walks)
+      unfolding footWords
+      walk-count =
+          let n = length (t .stations) in
+          let told : getD (map (walksTo (words t ++ rest)) (range 0 (suc n))) n 0 ≡ walksTo (words t ++ rest) (0 + n) =
+          map-numbers (walksTo (words t ++ rest)) 0 (suc n) n 0 (omega arith) in
+          let counted : getD (map (countTo (t .walks)) (range 0 (suc n))) n 0 ≡ countTo (t .walks) (0 + n) =
+          map-numbers (countTo (t .walks)) 0 (suc n) n 0 (omega arith) in
+          sym (rw zero-add at told) ∙ ap (λ l. getD l n 0) counts-spelled ∙ (rw zero-add at counted) ∙ listed
+
+      walks-spelled : map (walkAt (words t ++ rest)) (range 0 (walksTo (words t ++ rest) (length (t .stations))))
+          ≡ t .walks
+      unfolding walkAt walkIn
+      walks-spelled =
+          let place = footPlace (words t ++ rest) + (stationCount (words t ++ rest) + 1) in
+          ap (λ n. map (walkAt (words t ++ rest)) (range 0 n)) walk-count
+          ∙ walks-from (words t ++ rest) place 0 (t .walks) rest from-walks
+
+      pub words-spell : timetableOf (words t ++ rest) ≡ t
+      unfolding timetableOf numberAt words
+      words-spell =
+          let numbers : map (numberAt (words t ++ rest)) (range 0 (length (t .trips))) ≡ t .numbers =
+          ap (λ n. map (numberAt (words t ++ rest)) (range 0 n)) (sym many)
+          ∙ words-at (words t ++ rest) (numbersPlace (words t ++ rest)) 0 (t .numbers) walking from-numbers in
+          λ i. record {
+            stations = stations-at (words t ++ rest) 0 (t .stations) _ from-stations i;
+            walks = walks-spelled i;
+            numbers = numbers i;
+            trips = trips-at (words t ++ rest) 0 0 (t .trips) _ past from-stops from-starts i;
+          }
+
+      -- the counts of walks by station are those of the walks
+      pub words-footed : footed (words t ++ rest) ≡ true
+      unfolding footed words
+      words-footed =
+          let n = length (t .stations) in
+          let counts : List ℕ = map (walksTo (words t ++ rest)) (range 0 (suc n)) in
+          let all : counts ≡ footWords n (timetableOf (words t ++ rest) .walks) =
+          counts-spelled ∙ ap (λ u. footWords n (u .walks)) (sym words-spell) in
+          ap (same counts) (sym all) ∙ T-true (same counts counts) (same-refl counts)
 
 -- ---- the trips follow one another
 length-later : (k : ℕ) (l : List Trip) → length (laterStarts k l) ≡ length l
@@ -204,9 +266,10 @@ module _ (t : Timetable) (rest : List ℕ) where
       (from-starts t rest ∙ ap (λ r. r ++ past t rest) (starts-later 0 (t .trips)))
 
   later-spelled : map (startAt (words t ++ rest)) (range 1 (length (t .trips))) ≡ laterStarts 0 (t .trips)
+  unfolding startAt
   later-spelled =
       rw (← length-later 0 (t .trips))
-      (starts-at (words t ++ rest) 1 (laterStarts 0 (t .trips)) (past t rest) from-later)
+      (words-at (words t ++ rest) (startsPlace (words t ++ rest)) 1 (laterStarts 0 (t .trips)) (past t rest) from-later)
 
   later-rises :
       rise 0 (map (startAt (words t ++ rest)) (range 1 (length (t .trips)))) (length (stopsOf (t .trips))) ≡ true

@@ -1,6 +1,6 @@
--- The text written out from the stations of a valid timetable is accepted, and so is that of a trip that may be added:
--- each line has a yes to all questions, and the draft grows by the station or stop that was written.
-use mathlib.Core.Path.{_≡_, refl, sym, ap, _∙_}
+-- The text written out from the stations and walks of a valid timetable is accepted, and so is that of a trip that may
+-- be added: each line has a yes to all questions, and the draft grows by the station, walk or stop that was written.
+use mathlib.Core.Path.{_≡_, refl, sym, ap, subst, _∙_}
 use mathlib.Core.Bool.{Bool, true, false, _||_}
 use mathlib.Core.List.{List, [], _∷_, _++_, map, append-nil}
 use Prim.Native.Nat.{ℕ, _+_, _-_, _≤_, _<_}
@@ -16,20 +16,22 @@ use Rattle.text.specs.Piece.{pieces}
 use Rattle.text.specs.Time.{timeValue}
 use Rattle.text.specs.Shape.{shapeOf}
 use Rattle.text.specs.declared.Line.{Line}
-use Rattle.timetable.specs.Timetable.{stationsMost, tripsMost, stopsMost, lastMinute, Station, Stop, Trip, Timetable}
-use Rattle.timetable.specs.Timetable.{stopsOf, validStation, leaves, follows, runs, validTrip, validStations}
+use Rattle.timetable.specs.Timetable.{stationsMost, walksMost, tripsMost, stopsMost, lastMinute, Station, Walk, Stop}
+use Rattle.timetable.specs.Timetable.{Trip, Timetable, stopsOf, validStation, validWalks, leaves, follows, runs}
+use Rattle.timetable.specs.Timetable.{validTrip, validStations}
 use Rattle.reading.specs.Draft.{Draft, Rules, textRules, extraRules, opening, blank, final, withLine}
 use Rattle.reading.specs.Progress.{progress, lineNumberAt}
 use Rattle.reading.specs.Reading.{textMost, Accepted, ended, readUnder, readLines, reading, readExtra}
 use Rattle.reading.proofs.DraftLaws.{final-append}
 use Rattle.accepted.specs.Lists.{snoc-length}
-use Rattle.accepted.specs.Valid.{valid-station, is-listed, it-leaves, it-ends, it-follows, runs-none, runs-last}
-use Rattle.accepted.specs.Valid.{runs-on, begins, trip-not-empty}
-use Rattle.accepted.specs.Passes.{station-passes, extra-passes, first-fits, later-fits, read-more}
+use Rattle.accepted.specs.Valid.{valid-station, valid-walk, is-listed, it-leaves, it-ends, it-follows}
+use Rattle.accepted.specs.Valid.{runs-none, runs-last, runs-on, begins, trip-not-empty}
+use Rattle.accepted.specs.Passes.{station-passes, walk-passes, extra-passes, first-fits, later-fits, read-more}
+use Rattle.accepted.specs.SoFar.{walk-among}
 use Rattle.accepted.specs.Marks.{lined, bytes-lined, pieces-lined}
-use Rattle.accepted.specs.WrittenOut.{stationLines, stopLines, stationText, tripText}
-use Rattle.accepted.specs.LineReadBack.{stopRead}
-use Rattle.accepted.specs.TextReadBack.{Written, stationsRead, stations-written, stations-short, stopsRead}
+use Rattle.accepted.specs.WrittenOut.{stopLines, netLines, netText, tripText}
+use Rattle.accepted.specs.LineReadBack.{walkRead, stopRead}
+use Rattle.accepted.specs.TextReadBack.{Written, stationsRead, netRead, net-written, net-short, stopsRead}
 use Rattle.accepted.specs.TextReadBack.{trip-written}
 use Rattle.accepted.specs.Changed.{Addable}
 
@@ -39,6 +41,11 @@ module _ (r : Rules) where
   abbrev Takes : Draft → List Line → Draft → Type 0
   Takes d [] e = d ≡ e
   Takes d (l ∷ more) e = (lineNumberAt r (progress d) l ≡ 0) × Takes (withLine d l) more e
+
+  -- some lines, and then others
+  taken-both : (d e f : Draft) (l more : List Line) → Takes d l e → Takes e more f → Takes d (l ++ more) f
+  taken-both d e f [] more x y = subst (λ z. Takes z more f) (sym x) y
+  taken-both d e f (s ∷ l) more x y = (x .0, taken-both (withLine d s) e f l more (x .1) y)
 
   read-line : (d : Draft) (k : ℕ) (s u : List ℕ) (l : List (List ℕ)) → lineNumberAt r (progress d) (shapeOf s) ≡ 0
       → readUnder r timeValue d k (s ∷ u ∷ l) ≡ readUnder r timeValue (withLine d (shapeOf s)) (k + 1) (u ∷ l)
@@ -67,8 +74,9 @@ module _ (r : Rules) where
       let taken : Takes d (map shapeOf l) e = rw (w .shapes) x in
       rw (pieces-lined l (w .plain)) (taken-read d e 1 l taken)
 
+-- the stations of an extra trip have no walks
 abbrev draft : List Station → List Trip → Trip → Draft
-draft stations trips begun = record { stations = stations; trips = trips; begun = begun }
+draft stations trips begun = record { stations = stations; walks = []; trips = trips; begun = begun }
 
 -- ---- stations
 stations-taken : (n : ℕ) (done l : List Station) → n ≡ length done + 1 → validStations l ≡ true
@@ -78,10 +86,11 @@ stations-taken n done [] e v h = ap opening (sym (append-nil done))
 stations-taken n done (s ∷ l) e v h =
     let here = valid-station s (and-left (validStation s) (validStations l) v) in
     let more = snoc-length done s in (
-      station-passes _ _ (record {
+      station-passes (opening done) _ (record {
         minutes = here .minutes;
         least = here .least;
         points = here .points;
+        walks = refl;
         first = refl;
         number = e;
         count = omega arith;
@@ -91,33 +100,58 @@ stations-taken n done (s ∷ l) e v h =
           (omega arith)),
     )
 
--- the timetable of the stations given, in which no trip runs
-abbrev pub noTrips : List Station → Timetable
-noTrips l = record { stations = l; numbers = []; trips = [] }
+-- ---- walks, behind the stations
+abbrev walked : List Station → List Walk → Draft
+walked stations walks = record { stations = stations; walks = walks; trips = []; begun = [] }
 
-stations-ended : (l : List Station) (n : ℕ) → 1 ≤ length l
-    → ended textRules (opening l) (1 + n) ≡ Accepted (noTrips l) n
+walks-taken : (s : List Station) (done l : List Walk) → validWalks (length s) (done ++ l) ≡ true
+    → length done + length l ≤ walksMost → Takes textRules (walked s done) (map walkRead l) (walked s (done ++ l))
+walks-taken s done [] v h = ap (walked s) (sym (append-nil done))
+walks-taken s done (w ∷ l) v h =
+    let among = walk-among (length s) done w l v in
+    let more = snoc-length done w in (
+      walk-passes (walked s done) _ (record {
+        walk = valid-walk (length s) w (among .0);
+        first = refl;
+        rises = among .1;
+        count = omega arith;
+      }),
+      rw (← append-snoc done w l)
+          (walks-taken s (done ++ (w ∷ [])) l (rw (append-snoc done w l) v) (omega arith)),
+    )
+
+-- the timetable of the stations and walks given, in which no trip runs
+abbrev pub noTrips : List Station → List Walk → Timetable
+noTrips s l = record { stations = s; walks = l; numbers = []; trips = [] }
+
+net-ended : (s : List Station) (l : List Walk) (n : ℕ) → 1 ≤ length s
+    → ended textRules (walked s l) (1 + n) ≡ Accepted (noTrips s l) n
 unfolding ended
-stations-ended l n h =
+net-ended s l n h =
     let lines : 1 + n - 1 ≡ n = omega arith in
-    simp (le-leb 1 (length l) h, lines)
+    simp (le-leb 1 (length s) h, lines)
 
-module _ (l : List Station) (v : validStations l ≡ true) (least : 1 ≤ length l) (few : length l ≤ stationsMost) where
-  pub stations-accepted : reading (stationText l) ≡ Accepted (noTrips l) (length (stationLines 1 l))
-  unfolding reading readLines stationText
-  stations-accepted =
-      let short : length (lined (stationLines 1 l)) ≤ textMost = omega (arith, stations-short 1 l v (omega arith)) in
-      let w = stations-written 1 l v (omega arith) in
-      rw (
-        le-leb (length (lined (stationLines 1 l))) textMost short,
-        written-read textRules blank (opening l) (stationLines 1 l) (stationsRead 1 l) w
-            (stations-taken 1 [] l refl v (omega arith)),
-      )
-      (stations-ended l (length (stationLines 1 l)) least)
+module _ (s : List Station) (l : List Walk) (v : validStations s ≡ true) (least : 1 ≤ length s)
+    (few : length s ≤ stationsMost) (w : validWalks (length s) l ≡ true) (some : length l ≤ walksMost)
+  where
+    net-taken : Takes textRules blank (netRead s l) (walked s l)
+    net-taken =
+        taken-both textRules blank (opening s) (walked s l) (stationsRead 1 s) (map walkRead l)
+        (stations-taken 1 [] s refl v (omega arith)) (walks-taken s [] l w (omega arith))
 
-  pub stations-bytes : Below 256 (stationText l)
-  unfolding stationText
-  stations-bytes = bytes-lined (stationLines 1 l) (stations-written 1 l v (omega arith) .plain)
+    pub net-accepted : reading (netText s l) ≡ Accepted (noTrips s l) (length (netLines s l))
+    unfolding reading readLines netText
+    net-accepted =
+        let short : length (lined (netLines s l)) ≤ textMost = omega (arith, net-short s l v few w some) in
+        rw (
+          le-leb (length (lined (netLines s l))) textMost short,
+          written-read textRules blank (walked s l) (netLines s l) (netRead s l) (net-written s l v few w) net-taken,
+        )
+        (net-ended s l (length (netLines s l)) least)
+
+    pub net-bytes : Below 256 (netText s l)
+    unfolding netText
+    net-bytes = bytes-lined (netLines s l) (net-written s l v few w .plain)
 
 -- ---- the stops of an extra trip of number n, where so many trips and stops run
 module _ (stations : List Station) (n trips stops : ℕ) (least : 1 ≤ n) (few : trips < tripsMost) where
@@ -201,7 +235,7 @@ module _ (stations : List Station) (n trips stops : ℕ) (least : 1 ≤ n) (few 
 
 -- the timetable of the extra trip alone
 abbrev pub oneTrip : List Station → (n : ℕ) → Trip → Timetable
-oneTrip l n x = record { stations = l; numbers = n ∷ []; trips = x ∷ [] }
+oneTrip l n x = record { stations = l; walks = []; numbers = n ∷ []; trips = x ∷ [] }
 
 trip-ended : (l : List Station) (n trips stops : ℕ) (x : Trip) (k : ℕ)
     → ended (extraRules n trips stops) (draft l (x ∷ []) []) (1 + k) ≡ Accepted (oneTrip l n x) k

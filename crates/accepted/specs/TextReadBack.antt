@@ -1,22 +1,26 @@
--- The text written out from stations, or from a trip, of a valid timetable falls into its lines again, and each reads
--- back to what was written. That of stations has at most 64 * 14 = 896 bytes.
-use mathlib.Core.Path.{_≡_, refl}
+-- The text written out from stations and walks, or from a trip, of a valid timetable falls into its lines again, and
+-- each reads back to what was written. That of stations and walks has at most 64 * 14 + 256 * 16 = 4,992 bytes.
+use mathlib.Core.Path.{_≡_, refl, _∙_}
 use mathlib.Core.Bool.{true, false, false≢true}
-use mathlib.Core.List.{List, [], _∷_, map}
+use mathlib.Core.List.{List, [], _∷_, _++_, map, map-append}
 use Prim.Native.Nat.{ℕ, _+_, _*_, _≤_, _<_}
 use lib.ListN.{length, length-append}
 use native.Mathlib.Omega.{arith}
 use Rattle.lists.specs.Tests.{and-left, and-right, and-both}
 use Rattle.text.specs.Shape.{shapeOf}
 use Rattle.text.specs.declared.Line.{Line}
-use Rattle.timetable.specs.Timetable.{stationsMost, stopsMost, numberMost, Station, Stop, Trip}
-use Rattle.timetable.specs.Timetable.{validStation, leaves, ends, follows, runs, validTrip, validStations}
+use Rattle.timetable.specs.Timetable.{stationsMost, walksMost, stopsMost, numberMost, Station, Walk, Stop, Trip}
+use Rattle.timetable.specs.Timetable.{validStation, validWalk, validWalks, leaves, ends, follows, runs, validTrip}
+use Rattle.timetable.specs.Timetable.{validStations}
 use Rattle.accepted.specs.Valid.{Begins, first-ranges, inner-ranges, last-ranges, it-ends, runs-none}
 use Rattle.accepted.specs.Valid.{runs-last, runs-on, begins, trip-not-empty}
 use Rattle.accepted.specs.Marks.{above, allAbove, lined}
-use Rattle.accepted.specs.WrittenOut.{stationLine, stationLines, noneAfter, stopLines}
-use Rattle.accepted.specs.LineReadBack.{stationRead, stopRead, station-shape, station-above, station-short}
-use Rattle.accepted.specs.LineReadBack.{Writable, stop-shape, stop-above}
+use Rattle.accepted.specs.WrittenOut.{stationLine, walkLine, stationLines, noneAfter, stopLines, netLines}
+use Rattle.accepted.specs.WrittenOut.{netText}
+use Rattle.accepted.specs.LineReadBack.{stationRead, walkRead, stopRead, station-shape, station-above}
+use Rattle.accepted.specs.LineReadBack.{station-short, walk-shape, walk-above, walk-short, Writable, stop-shape}
+use Rattle.accepted.specs.LineReadBack.{stop-above}
+use Rattle.accepted.specs.SoFar.{walk-first, walks-rest}
 
 -- ---- lines as they are written: what is read from them, and no byte 10 within
 pub record Written (lines : List (List ℕ)) (read : List Line) : Type 0 where
@@ -36,12 +40,37 @@ written-more s r lines read e a rest =
       plain = and-both (above 10 s) (allAbove 10 lines) a (rest .plain);
     }
 
+above-both : (a b : List (List ℕ)) → allAbove 10 a ≡ true → allAbove 10 b ≡ true → allAbove 10 (a ++ b) ≡ true
+unfolding allAbove
+above-both [] b h g = g
+above-both (s ∷ a) b h g =
+    and-both (above 10 s) (allAbove 10 (a ++ b)) (and-left (above 10 s) (allAbove 10 a) h)
+    (above-both a b (and-right (above 10 s) (allAbove 10 a) h) g)
+
+written-both : (a b : List (List ℕ)) (r q : List Line) → Written a r → Written b q → Written (a ++ b) (r ++ q)
+written-both a b r q w v =
+    record {
+      shapes = map-append shapeOf a b ∙ (λ i. w .shapes i ++ v .shapes i);
+      plain = above-both a b (w .plain) (v .plain);
+    }
+
+length-lined : (a b : List (List ℕ)) → length (lined (a ++ b)) ≡ length (lined a) + length (lined b)
+unfolding lined
+length-lined [] b = omega arith
+length-lined (s ∷ a) b =
+    omega (
+      arith,
+      length-append s (10 ∷ lined (a ++ b)),
+      length-append s (10 ∷ lined a),
+      length-lined a b,
+    )
+
 -- ---- stations
 unfoldable pub stationsRead : ℕ → List Station → List Line
 stationsRead n [] = []
 stationsRead n (s ∷ l) = stationRead n s ∷ stationsRead (n + 1) l
 
-pub stations-written : (n : ℕ) (l : List Station) → validStations l ≡ true → n + length l ≤ stationsMost + 1
+stations-written : (n : ℕ) (l : List Station) → validStations l ≡ true → n + length l ≤ stationsMost + 1
     → Written (stationLines n l) (stationsRead n l)
 unfolding stationLines stationsRead validStations
 stations-written n [] v h = written-none
@@ -50,7 +79,7 @@ stations-written n (s ∷ l) v h =
     written-more _ _ _ _ (station-shape n s (omega arith) here) (station-above n s (omega arith) here)
     (stations-written (n + 1) l (and-right (validStation s) (validStations l) v) (omega arith))
 
-pub stations-short : (n : ℕ) (l : List Station) → validStations l ≡ true → n + length l ≤ stationsMost + 1
+stations-short : (n : ℕ) (l : List Station) → validStations l ≡ true → n + length l ≤ stationsMost + 1
     → length (lined (stationLines n l)) ≤ 14 * length l
 unfolding stationLines validStations lined
 stations-short n [] v h = omega arith
@@ -62,6 +91,47 @@ stations-short n (s ∷ l) v h =
       station-short n s (omega arith) here,
       stations-short (n + 1) l (and-right (validStation s) (validStations l) v) (omega arith),
     )
+
+-- ---- walks, of n stations
+module _ (n : ℕ) (few : n ≤ stationsMost) where
+  walks-written : (l : List Walk) → validWalks n l ≡ true → Written (map walkLine l) (map walkRead l)
+  walks-written [] v = written-none
+  walks-written (w ∷ l) v =
+      let here = walk-first n w l v in
+      written-more _ _ _ _ (walk-shape n w few here) (walk-above n w few here)
+      (walks-written l (walks-rest n w l v))
+
+  walks-short : (l : List Walk) → validWalks n l ≡ true → length (lined (map walkLine l)) ≤ 16 * length l
+  unfolding lined
+  walks-short [] v = omega arith
+  walks-short (w ∷ l) v =
+      omega (
+        arith,
+        length-append (walkLine w) (10 ∷ lined (map walkLine l)),
+        walk-short n w few (walk-first n w l v),
+        walks-short l (walks-rest n w l v),
+      )
+
+-- ---- both
+abbrev pub netRead : List Station → List Walk → List Line
+netRead stations walks = stationsRead 1 stations ++ map walkRead walks
+
+module _ (s : List Station) (l : List Walk) (v : validStations s ≡ true) (few : length s ≤ stationsMost)
+    (w : validWalks (length s) l ≡ true)
+  where
+    pub net-written : Written (netLines s l) (netRead s l)
+    net-written =
+        written-both _ _ _ _ (stations-written 1 s v (omega arith)) (walks-written (length s) few l w)
+
+    pub net-short : length l ≤ walksMost → length (netText s l) ≤ 4992
+    unfolding netText
+    net-short h =
+        omega (
+          arith,
+          length-lined (stationLines 1 s) (map walkLine l),
+          stations-short 1 s v (omega arith),
+          walks-short (length s) few l w,
+        )
 
 -- ---- the stops of a trip
 unfoldable pub stopsRead : (trip k : ℕ) → List Stop → List Line

@@ -9,7 +9,8 @@ use lib.ListN.{length}
 use native.Mathlib.Omega.{arith}
 use borrow.Author.Tests.{leb-true, ltb-true, eqb-true, not-true, le-leb, eq-eqb}
 use Rattle.lists.specs.Tests.{and-left, and-right}
-use Rattle.timetable.specs.Timetable.{Station, Stop, Timetable, stopsOf, stationsMost, tripsMost, stopsMost}
+use Rattle.timetable.specs.Timetable.{Station, Walk, Stop, Timetable, stopsOf, stationsMost, walksMost, tripsMost}
+use Rattle.timetable.specs.Timetable.{stopsMost, validWalk, validWalks}
 use Rattle.timetable.specs.Timetable.{lastMinute, validStation, listed, leaves, ends, follows, runs, validTrip}
 use Rattle.timetable.specs.Timetable.{validStations, validTrips, counted, climb, numbered, valid}
 
@@ -18,6 +19,16 @@ pub record ValidStation (s : Station) : Type 0 where
   pub minutes : s .minutes ≤ 240
   pub least : 1 ≤ s .points
   pub points : s .points ≤ 1000
+
+pub record ValidWalk (n : ℕ) (w : Walk) : Type 0 where
+  pub from-least : 1 ≤ w .from
+  pub from-most : w .from ≤ n
+  pub to-least : 1 ≤ w .to
+  pub to-most : w .to ≤ n
+  pub minutes-least : 1 ≤ w .minutes
+  pub minutes-most : w .minutes ≤ 60
+  pub points-least : 1 ≤ w .points
+  pub points-most : w .points ≤ 1000
 
 pub record Listed (n : ℕ) (s : Stop) : Type 0 where
   pub least : 1 ≤ s .station
@@ -55,17 +66,37 @@ pub record Begins (n : ℕ) (b : Stop) (l : List Stop) : Type 0 where
 pub record Valid (t : Timetable) : Type 0 where
   pub least : 1 ≤ length (t .stations)
   pub stations : length (t .stations) ≤ stationsMost
+  pub walks : length (t .walks) ≤ walksMost
   pub trips : length (t .trips) ≤ tripsMost
   pub stops : length (stopsOf (t .trips)) ≤ stopsMost
   pub numbers : length (t .numbers) ≡ length (t .trips)
   pub climbs : climb 0 (t .numbers) ≡ true
   pub each-station : validStations (t .stations) ≡ true
+  pub each-walk : validWalks (length (t .stations)) (t .walks) ≡ true
   pub each-trip : validTrips (length (t .stations)) (t .trips) ≡ true
 
 -- ---- from the tests to the facts
 pub valid-station : (s : Station) → validStation s ≡ true → ValidStation s
 unfolding validStation
 valid-station s v = search (and-left, and-right, leb-true)
+
+pub valid-walk : (n : ℕ) (w : Walk) → validWalk n w ≡ true → ValidWalk n w
+unfolding validWalk
+valid-walk n w v = search (and-left, and-right, leb-true) depth 9
+
+pub walk-valid : (n : ℕ) (w : Walk) → ValidWalk n w → validWalk n w ≡ true
+unfolding validWalk
+walk-valid n w h =
+    simp (
+      le-leb 1 (w .from) (h .from-least),
+      le-leb (w .from) n (h .from-most),
+      le-leb 1 (w .to) (h .to-least),
+      le-leb (w .to) n (h .to-most),
+      le-leb 1 (w .minutes) (h .minutes-least),
+      le-leb (w .minutes) 60 (h .minutes-most),
+      le-leb 1 (w .points) (h .points-least),
+      le-leb (w .points) 1000 (h .points-most),
+    )
 
 pub is-listed : (n : ℕ) (s : Stop) → listed n s ≡ true → Listed n s
 unfolding listed
@@ -91,7 +122,7 @@ it-follows n b s v =
 
 pub is-valid : (t : Timetable) → valid t ≡ true → Valid t
 unfolding valid counted numbered
-is-valid t v = search (and-left, and-right, leb-true, eqb-true)
+is-valid t v = search (and-left, and-right, leb-true, eqb-true) depth 10
 
 -- and back
 pub valid-is : (t : Timetable) → Valid t → valid t ≡ true
@@ -100,11 +131,13 @@ valid-is t h =
     simp (
       le-leb 1 (length (t .stations)) (h .least),
       le-leb (length (t .stations)) stationsMost (h .stations),
+      le-leb (length (t .walks)) walksMost (h .walks),
       le-leb (length (t .trips)) tripsMost (h .trips),
       le-leb (length (stopsOf (t .trips))) stopsMost (h .stops),
       eq-eqb (length (t .numbers)) (length (t .trips)) (h .numbers),
       h .climbs,
       h .each-station,
+      h .each-walk,
       h .each-trip,
     )
 

@@ -1,23 +1,29 @@
--- Lines written out from a timetable: a line for each station, and a line for each stop of a trip.
--- "Station: `S,station,change minutes,change penalty`", "Stop: `T,trip,stop,station,arrive,depart,ride penalty`",
--- "Each T line gains a last field".
+-- Lines written out from a timetable: a line for each station, for each walk, and for each stop of a trip.
+-- "Station: `S,station,change minutes,change penalty`", "Lines `W,from,to,minutes,penalty` follow the S lines", "Stop:
+-- `T,trip,stop,station,arrive,depart,ride penalty`", "Each T line gains a last field".
 -- "Exports write arrive and depart as `hh:mm`".
 -- "Arrive is empty exactly at stop 1. Depart and ride penalty are empty together, only at a trip's last stop".
 use mathlib.Core.Bool.{Bool, true, false, cond}
-use mathlib.Core.List.{List, [], _∷_}
+use mathlib.Core.List.{List, [], _∷_, _++_, map}
 use Prim.Native.Nat.{ℕ, _+_}
 use lib.Dec.{eqb}
-use Rattle.timetable.specs.Timetable.{Station, Stop, Trip}
+use Rattle.timetable.specs.Timetable.{Station, Walk, Stop, Trip}
 use Rattle.accepted.specs.Marks.{lined, fielded}
 use Rattle.accepted.specs.Digits.{digits}
 use Rattle.accepted.specs.Clock.{clock}
 
--- S is byte 83, T byte 84, the comma byte 44
+-- S is byte 83, W byte 87, T byte 84, the comma byte 44
 abbrev pub stationFields : ℕ → Station → List (List ℕ)
 stationFields n s = digits n ∷ digits (s .minutes) ∷ digits (s .points) ∷ []
 
 unfoldable pub stationLine : ℕ → Station → List ℕ
 stationLine n s = 83 ∷ 44 ∷ fielded (stationFields n s)
+
+abbrev pub walkFields : Walk → List (List ℕ)
+walkFields w = digits (w .from) ∷ digits (w .to) ∷ digits (w .minutes) ∷ digits (w .points) ∷ []
+
+unfoldable pub walkLine : Walk → List ℕ
+walkLine w = 87 ∷ 44 ∷ fielded (walkFields w)
 
 -- a field that may be empty
 abbrev pub emptyOr : Bool → List ℕ → List ℕ
@@ -53,9 +59,13 @@ unfoldable pub stopLines : (trip k : ℕ) → List Stop → List (List ℕ)
 stopLines trip k [] = []
 stopLines trip k (s ∷ l) = stopLine trip k s (noneAfter l) ∷ stopLines trip (k + 1) l
 
--- "Each line ends with byte 10": the text of stations alone, and that of an extra trip of number n
-unfoldable pub stationText : List Station → List ℕ
-stationText l = lined (stationLines 1 l)
+-- the lines of a timetable in which no trip runs: those of its stations, and then those of its walks
+abbrev pub netLines : List Station → List Walk → List (List ℕ)
+netLines stations walks = stationLines 1 stations ++ map walkLine walks
+
+-- "Each line ends with byte 10": the text of stations and walks alone, and that of an extra trip of number n
+unfoldable pub netText : List Station → List Walk → List ℕ
+netText stations walks = lined (netLines stations walks)
 
 unfoldable pub tripText : (n : ℕ) → Trip → List ℕ
 tripText n t = lined (stopLines n 1 t)

@@ -9,7 +9,7 @@ use lib.ListN.{length, getD, take, drop, length-append}
 use Rattle.questions.specs.Question.{ask, firstNo}
 use Rattle.replies.specs.Later.{asked-on, asked-out}
 use Rattle.words.specs.Put.{put}
-use Rattle.timetable.specs.Timetable.{Trip, Timetable, stopsOf, climb, validStations, validTrips, valid}
+use Rattle.timetable.specs.Timetable.{Trip, Timetable, stopsOf, climb, validStations, validWalks, validTrips, valid}
 use Rattle.timetable.specs.Words.{words, timetableOf, isTimetable}
 use Rattle.timetable.specs.Check.{length-stations, length-trips}
 use Rattle.timetable.specs.Access.{spelled-valid}
@@ -150,7 +150,7 @@ module _ (w v : List ℕ) (m n : ℕ) (text : List ℕ) where
 
           -- the trip alone is a timetable
           one-valid : valid one ≡ true
-          unfolding validTrips climb
+          unfolding validWalks validTrips climb
           one-valid =
               let t = is-valid (timetableOf w) (spelled-valid w okay) in
               let a = is-one .addable in
@@ -160,11 +160,13 @@ module _ (w v : List ℕ) (m n : ℕ) (text : List ℕ) where
               (record {
                 least = omega (arith, t .least, ap length (is-one .stations));
                 stations = omega (arith, t .stations, ap length (is-one .stations));
+                walks = omega (arith, ap length (is-one .walks));
                 trips = omega (arith, ap length (is-one .trips));
                 stops = omega (arith, stops, length-append trip [], a .stops);
                 numbers = ap length (is-one .numbers) ∙ sym (ap length (is-one .trips));
                 climbs = ap (climb 0) (is-one .numbers) ∙ climb-more 0 n [] (omega (arith, a .least)) (a .most) refl;
                 each-station = ap validStations (is-one .stations) ∙ t .each-station;
+                each-walk = ap (validWalks (length (one .stations))) (is-one .walks);
                 each-trip =
                     (λ i. validTrips (length (is-one .stations i)) (is-one .trips i))
                     ∙ ap (λ b. b && true) (a .trip);
@@ -208,6 +210,7 @@ module _ (w v : List ℕ) (m n : ℕ) (text : List ℕ) where
               ∙ (λ i.
               record {
                 stations = (timetableOf w) .stations;
+                walks = (timetableOf w) .walks;
                 numbers =
                     take (is-place i) ((timetableOf w) .numbers)
                     ++ is-one .numbers i
@@ -220,6 +223,7 @@ module _ (w v : List ℕ) (m n : ℕ) (text : List ℕ) where
               ∙ (λ i.
               record {
                 stations = (timetableOf w) .stations;
+                walks = (timetableOf w) .walks;
                 numbers =
                     append-assoc (take (placeOf n ((timetableOf w) .numbers)) ((timetableOf w) .numbers)) (n ∷ [])
                     (drop (placeOf n ((timetableOf w) .numbers)) ((timetableOf w) .numbers)) i;

@@ -9,9 +9,7 @@ use Rattle.timetable.specs.Timetable.{Timetable, valid}
 use Rattle.timetable.specs.Words.{words, timetableOf, isTimetable}
 use Rattle.timetable.specs.Access.{spelled-valid}
 use Rattle.timetable.specs.Changes.{placeOf, cancelled}
-use Rattle.accepted.specs.Valid.{is-valid}
-use Rattle.accepted.specs.Spelled.{words-spell}
-use Rattle.accepted.specs.Question9.{valid-yes}
+use Rattle.accepted.specs.Question9.{valid-yes, valid-spells}
 use Rattle.accepted.specs.Changed.{cancelled-valid}
 use Rattle.lines_tables.specs.Model.{linesAt, tableAt}
 use Rattle.lines_tables.specs.Tables.{tableWords}
@@ -37,7 +35,7 @@ module _ (t : Timetable) (v : valid t ≡ true) (w out : List ℕ) (e : out ≡ 
   after-yes = ap isTimetable begins ∙ valid-yes t (drop (length (words t)) w) v
 
   pub after-spells : timetableOf out ≡ t
-  after-spells = ap timetableOf begins ∙ words-spell t (drop (length (words t)) w) (is-valid t v .numbers)
+  after-spells = ap timetableOf begins ∙ valid-spells t (drop (length (words t)) w) v
 
 -- ---- cancelled
 module _ (w : List ℕ) (okay : isTimetable w ≡ true) (n place : ℕ) (is : place ≡ placeOf n ((timetableOf w) .numbers))

@@ -13,6 +13,7 @@ use Rattle.timetable.specs.Words.{
   stationWords,
   stopWords,
   startWords,
+  walkWords,
   words,
   joined,
   stationCount,
@@ -22,14 +23,17 @@ use Rattle.timetable.specs.Words.{
   startAt,
   tripAt,
   numberAt,
+  walkCount,
   timetableOf,
   isTimetable,
 }
 use Rattle.timetable.specs.WordLaws.{joined-words}
-use Rattle.timetable.specs.Check.{stationsAt, tripsAt, numbersAt, between, length-stations}
+use Rattle.timetable.specs.Check.{stationsAt, tripsAt, numbersAt, walksAt, between, length-stations, length-walks}
+use Rattle.timetable.specs.Check.{walks-there}
+use Rattle.timetable.specs.Walks.{walks-few}
 use Rattle.timetable.specs.Access.{stations-few, trips-few, stops-few, start-first, start-last, start-most}
 use Rattle.timetable.specs.Changes.{without}
-use Rattle.changes.specs.Appended.{Held, Extends, Front, Middle, Filled, Fitting, leftOut, putIn}
+use Rattle.changes.specs.Appended.{Held, Extends, Front, Middle, Filled, WrittenOver, Fitting, leftOut, putIn}
 use Rattle.changes.specs.Runs.{between-take, between-drop, trips-are, numbers-are, starts-up}
 use Rattle.changes.specs.declared.Counts.{Counts}
 
@@ -245,38 +249,44 @@ module _ (w : List ℕ) (okay : isTimetable w ≡ true) (place : ℕ) (inside : 
               ∙ (λ i. numbersAt w 0 place ++ numbersAt e 0 1 ++ numbersAt w place (sym is i)))
 
 -- ---- the words of the timetable that the arrays hold
-pub filled-words : (t : Timetable) (p : Counts) (body starts numbers body₀ starts₀ numbers₀ old out : List ℕ) (s : ℕ)
-    → Filled t p body starts numbers body₀ starts₀ numbers₀ → s ≡ length (t .stations)
-    → out ≡ put 0 (joined s (p .trips) (p .stops) body starts numbers) old → out ≡ put 0 (words t) old
-filled-words t p body starts numbers body₀ starts₀ numbers₀ old out s f e wrote =
-    wrote
-    ∙ ap (λ l. put 0 l old)
-    (joined-words t s (p .trips) (p .stops) e (f .trips) (f .stops) body starts numbers body₀ starts₀ numbers₀
-    (f .is-body) (f .is-starts) (f .is-numbers) (f .all-numbered))
+module _ (w : List ℕ) (okay : isTimetable w ≡ true) where
+  pub few-stations : (s : ℕ) → s ≡ getD w 0 0 → s ≤ 64
+  few-stations s e = omega (arith, stations-few w okay)
 
-pub left-stations : (w : List ℕ) (place s : ℕ) → s ≡ getD w 0 0
-    → s ≡ length ((leftOut (timetableOf w) place) .stations)
-unfolding leftOut
-left-stations w place s e = e ∙ sym (length-stations w)
+  pub few-walks : (k : ℕ) → k ≡ walkCount w → k ≤ 256
+  few-walks k e = omega (arith, walks-few w okay)
 
-pub left-words : (w : List ℕ) (place s : ℕ) (p : Counts) (body starts numbers body₀ starts₀ numbers₀ out : List ℕ)
-    → s ≡ getD w 0 0
-    → Filled (leftOut (timetableOf w) place) p body starts numbers body₀ starts₀ numbers₀
-    → out ≡ put 0 (joined s (p .trips) (p .stops) body starts numbers) w
-    → out ≡ put 0 (words (leftOut (timetableOf w) place)) w
-left-words w place s p body starts numbers body₀ starts₀ numbers₀ out e f wrote =
-    filled-words (leftOut (timetableOf w) place) p body starts numbers body₀ starts₀ numbers₀ w out s f
-    (left-stations w place s e) wrote
+pub written-over : (w : List ℕ) (s k : ℕ) (p : Counts) (body starts numbers walking walking₀ out : List ℕ)
+    → s ≡ getD w 0 0 → k ≡ walkCount w
+    → walking ≡ put 0 (walkWords (walksAt w 0 (walkCount w))) walking₀
+    → out ≡ put 0 (joined s (p .trips) (p .stops) k body starts numbers walking) w
+    → WrittenOver w p body starts numbers out
+written-over w s k p body starts numbers walking walking₀ out is-s is-k copied wrote = record { is = over }
+  where
+    over : (t : Timetable) (body₀ starts₀ numbers₀ : List ℕ) → t .stations ≡ (timetableOf w) .stations
+        → t .walks ≡ (timetableOf w) .walks → Filled t p body starts numbers body₀ starts₀ numbers₀
+        → out ≡ put 0 (words t) w
+    over t body₀ starts₀ numbers₀ same kept f =
+        let stations : s ≡ length (t .stations) = is-s ∙ sym (length-stations w) ∙ ap length (sym same) in
+        let walks : k ≡ length (t .walks) = is-k ∙ sym (length-walks w) ∙ ap length (sym kept) in
+        let walked : walking ≡ put 0 (walkWords (t .walks)) walking₀ =
+        copied ∙ ap (λ l. put 0 (walkWords l) walking₀) (sym (walks-there w) ∙ sym kept) in
+        wrote
+        ∙ ap (λ l. put 0 l w)
+        (joined-words t s (p .trips) (p .stops) k stations (f .trips) (f .stops) walks body starts numbers walking body₀
+        starts₀ numbers₀ walking₀ (f .is-body) (f .is-starts) (f .is-numbers) walked (f .all-numbered))
 
-pub few-stations : (w : List ℕ) (s : ℕ) → isTimetable w ≡ true → s ≡ getD w 0 0 → s ≤ 64
-few-stations w s okay e = omega (arith, stations-few w okay)
+-- cancelling and adding keep stations and walks
+module _ (w : List ℕ) (p : Counts) (body starts numbers out : List ℕ) (over : WrittenOver w p body starts numbers out)
+    (place : ℕ) (body₀ starts₀ numbers₀ : List ℕ)
+  where
+    pub left-words : Filled (leftOut (timetableOf w) place) p body starts numbers body₀ starts₀ numbers₀
+        → out ≡ put 0 (words (leftOut (timetableOf w) place)) w
+    unfolding leftOut
+    left-words f = over .is (leftOut (timetableOf w) place) body₀ starts₀ numbers₀ refl refl f
 
-pub in-words : (w e : List ℕ) (place s : ℕ) (p : Counts) (body starts numbers body₀ starts₀ numbers₀ out : List ℕ)
-    → s ≡ getD w 0 0
-    → Filled (putIn (timetableOf w) place (timetableOf e)) p body starts numbers body₀ starts₀ numbers₀
-    → out ≡ put 0 (joined s (p .trips) (p .stops) body starts numbers) w
-    → out ≡ put 0 (words (putIn (timetableOf w) place (timetableOf e))) w
-unfolding putIn
-in-words w e place s p body starts numbers body₀ starts₀ numbers₀ out is f wrote =
-    filled-words (putIn (timetableOf w) place (timetableOf e)) p body starts numbers body₀ starts₀ numbers₀ w out s f
-    (is ∙ sym (length-stations w)) wrote
+    pub in-words : (e : List ℕ)
+        → Filled (putIn (timetableOf w) place (timetableOf e)) p body starts numbers body₀ starts₀ numbers₀
+        → out ≡ put 0 (words (putIn (timetableOf w) place (timetableOf e))) w
+    unfolding putIn
+    in-words e f = over .is (putIn (timetableOf w) place (timetableOf e)) body₀ starts₀ numbers₀ refl refl f

@@ -8,13 +8,14 @@ use native.Mathlib.Numerals.{add-one}
 use native.Mathlib.Omega.{arith}
 use lib.ListN.{length, getD, set, drop}
 use Rattle.lists.specs.Lists.{range}
-use Rattle.words.specs.Put.{put, put-one, put-front}
+use Rattle.words.specs.Put.{put, put-none, put-one, put-front}
 use Rattle.text.specs.Piece.{pieces}
 use Rattle.text.specs.Time.{timeValue}
 use Rattle.timetable.specs.Timetable.{Station, Timetable, stopsOf}
 use Rattle.timetable.specs.Words.{
   stationWords,
   startWords,
+  walkWords,
   words,
   joined,
   stationCount,
@@ -130,17 +131,20 @@ module _ (w : List ℕ) (okay : isTimetable w ≡ true) (n s t m : ℕ) (is-s : 
         let stops = is-m ∙ sym (all-stops w okay) in
         λ i. readUnder (extraRules n (trips i) (stops i)) timeValue (opening (stations-read i)) 1 (pieces 10 text)
 
-    module _ (r : Lines) (body₁ starts starts₀ : List ℕ) (free : runsAs n ((timetableOf w) .numbers) ≡ false)
+    module _ (r : Lines) (body₁ starts starts₀ walking walking₀ : List ℕ)
+        (free : runsAs n ((timetableOf w) .numbers) ≡ false)
         (lines : LinesRead (record { extra = true; number = n; trips = t; stops = m })
-        (readAfter (record { extra = true; number = n; trips = t; stops = m }) body s text) r body₁ starts body starts₀)
+        (readAfter (record { extra = true; number = n; trips = t; stops = m }) body s text) r body₁ starts walking body
+        starts₀ walking₀)
       where
         abbrev rules : Rules
         rules = record { extra = true; number = n; trips = t; stops = m }
 
-        read : LinesRead rules (readExtra (timetableOf w) n text) r body₁ starts body starts₀
-        read = subst (λ o. LinesRead rules o r body₁ starts body starts₀) lines-same lines
+        read : LinesRead rules (readExtra (timetableOf w) n text) r body₁ starts walking body starts₀ walking₀
+        read = subst (λ o. LinesRead rules o r body₁ starts walking body starts₀ walking₀) lines-same lines
 
-        told : (o : Outcome) → readExtra (timetableOf w) n text ≡ o → LinesRead rules o r body₁ starts body starts₀
+        told : (o : Outcome) → readExtra (timetableOf w) n text ≡ o
+            → LinesRead rules o r body₁ starts walking body starts₀ walking₀
             → StopsAre n o r body₁ starts
         told (Accepted one k) e l =
             let is = extra-one (timetableOf w) n text (spelled-valid w okay) one k e free in (
@@ -152,6 +156,7 @@ module _ (w : List ℕ) (okay : isTimetable w ≡ true) (n s t m : ℕ) (is-s : 
                 old-starts = starts₀;
                 is-starts = l .3;
                 small = is .addable .most;
+                unwalked = is .walks;
                 numbered = l .4;
                 single = ap length (is .trips);
               },
@@ -204,21 +209,24 @@ module _ (o : Outcome) (n : ℕ) (r : Lines) (body starts : List ℕ) (read : St
     pub number-small : n < 65536
     number-small = omega (arith, kept .single .small)
 
-    pub trip-whole : (numbers zeros : List ℕ) → numbers ≡ put 0 (n ∷ []) zeros → (old extra : List ℕ)
-        → extra ≡ put 0 (joined (p .stations) (p .trips) (p .stops) body starts numbers) old
+    pub trip-whole : (numbers zeros : List ℕ) → numbers ≡ put 0 (n ∷ []) zeros → (walking old extra : List ℕ)
+        → extra ≡ put 0 (joined (p .stations) (p .trips) (p .stops) 0 body starts numbers walking) old
         → TripRead o Whole extra old
-    trip-whole numbers zeros wrote old extra e =
+    unfolding walkWords
+    trip-whole numbers zeros wrote walking old extra e =
         let one = kept .one in
         let is = kept .is-progress in
         let held = kept .single in
         let stops : (progressOf one) .stops ≡ length (stopsOf (one .trips)) = simp append-nil in
         let told : numbers ≡ put 0 (one .numbers) zeros =
         wrote ∙ ap (λ l. put 0 l zeros) (sym (held .numbered)) in
-        let table : joined (p .stations) (p .trips) (p .stops) body starts numbers ≡ words one =
-        joined-words one (p .stations) (p .trips) (p .stops) (ap (λ (x : Progress). x .stations) is)
-        (ap (λ (x : Progress). x .trips) is) (ap (λ (x : Progress). x .stops) is ∙ stops) body starts numbers
-        (held .old-body) (held .old-starts) zeros (held .is-body) (held .is-starts) told
-        (ap length (held .numbered) ∙ sym (held .single)) in
+        let walked : walking ≡ put 0 (walkWords (one .walks)) walking =
+        sym (put-none 0 walking) ∙ ap (λ l. put 0 (walkWords l) walking) (sym (held .unwalked)) in
+        let table : joined (p .stations) (p .trips) (p .stops) 0 body starts numbers walking ≡ words one =
+        joined-words one (p .stations) (p .trips) (p .stops) 0 (ap (λ (x : Progress). x .stations) is)
+        (ap (λ (x : Progress). x .trips) is) (ap (λ (x : Progress). x .stops) is ∙ stops)
+        (ap length (sym (held .unwalked))) body starts numbers walking (held .old-body) (held .old-starts) zeros walking
+        (held .is-body) (held .is-starts) told walked (ap length (held .numbered) ∙ sym (held .single)) in
         subst (λ o. TripRead o Whole extra old) (sym (kept .accepted))
         (record { is = (refl, e ∙ ap (λ l. put 0 l old) table) })
 

@@ -61,6 +61,12 @@ abbrev pub Filled : Timetable → Counts → (body starts numbers body₀ starts
 Filled t p body starts numbers body₀ starts₀ numbers₀ =
     Held (t .stations) (t .trips) (t .numbers) p body starts numbers body₀ starts₀ numbers₀
 
+-- words written over those of a timetable: the words of what the arrays hold, with the same stations and walks
+pub record WrittenOver (w : List ℕ) (p : Counts) (body starts numbers out : List ℕ) : Type 0 where
+  pub is : (t : Timetable) (body₀ starts₀ numbers₀ : List ℕ) → t .stations ≡ (timetableOf w) .stations
+      → t .walks ≡ (timetableOf w) .walks → Filled t p body starts numbers body₀ starts₀ numbers₀
+      → out ≡ put 0 (words t) w
+
 -- a timetable of one trip and the same stations, for which there is room
 pub record Fitting (w e : List ℕ) : Type 0 where
   pub okay : isTimetable e ≡ true
@@ -72,18 +78,24 @@ pub record Fitting (w e : List ℕ) : Type 0 where
 -- a timetable without the trip at place k
 unfoldable pub leftOut : Timetable → (k : ℕ) → Timetable
 leftOut t k =
-    record { stations = t .stations; numbers = without k (t .numbers); trips = without k (t .trips) }
+    record {
+      stations = t .stations;
+      walks = t .walks;
+      numbers = without k (t .numbers);
+      trips = without k (t .trips);
+    }
 
 -- a timetable with the trip of another at place k
 unfoldable pub putIn : Timetable → (k : ℕ) → Timetable → Timetable
 putIn t k one =
     record {
       stations = t .stations;
+      walks = t .walks;
       numbers = take k (t .numbers) ++ one .numbers ++ drop k (t .numbers);
       trips = take k (t .trips) ++ one .trips ++ drop k (t .trips);
     }
 
--- the extra trip of number n, alone with the stations, in the arrays
+-- the extra trip of number n, alone with the stations, in the arrays; no walk line is a line of it
 pub record Single (n : ℕ) (one : Timetable) (body starts : List ℕ) : Type 0 where
   pub within : Within (progressOf one)
   pub old-body : List ℕ
@@ -91,6 +103,7 @@ pub record Single (n : ℕ) (one : Timetable) (body starts : List ℕ) : Type 0 
   pub old-starts : List ℕ
   pub is-starts : starts ≡ put 0 (startWords 0 (one .trips)) old-starts
   pub small : n ≤ 9999
+  pub unwalked : one .walks ≡ []
   pub numbered : one .numbers ≡ n ∷ []
   pub single : length (one .trips) ≡ 1
 

@@ -21,6 +21,7 @@ ghost use Rattle.changes.specs.Appended.{
   Front,
   Middle,
   Filled,
+  WrittenOver,
   Fitting,
   StopsRead,
   TripRead,
@@ -196,6 +197,35 @@ fn fill_without(
     append(words, place + 1, trips, body, starts, numbers, before)
 }
 
+// Writes the words of the timetable that the arrays hold over the old ones. Its stations and walks are the same.
+fn write_over(timetable: &mut [u16], all: Counts, body: &[u16], starts: &[u16], numbers: &[u16])
+    requires { ⌜ (16384 ≤ length (now timetable))
+        × (isTimetable (now timetable) ≡ true)
+        × (all .trips ≤ 256)
+        × (all .stops ≤ 2048)
+        × (length (now body) ≡ 10368)
+        × (length (now starts) ≡ 257)
+        × (length (now numbers) ≡ 256) ⌝ }
+    ensures { λ _. ⌜ WrittenOver (now (timetable .entry)) all (now (body .entry)) (now (starts .entry))
+        (now (numbers .entry)) (now (timetable .exit)) ⌝ }
+    ensures { λ _. ⌜ length (now (timetable .exit)) ≡ length (now (timetable .entry)) ⌝ }
+{
+    let stations = words::word(timetable, 0) as usize;
+    let mut walking = [0u16; timetable::WALKING_WORDS];
+    let walks = timetable::copy_walks(timetable, &mut walking);
+    timetable::write_words(
+        timetable,
+        stations,
+        all.trips,
+        all.stops,
+        walks,
+        body,
+        starts,
+        numbers,
+        &walking,
+    );
+}
+
 // Leaves out the trip at this place.
 fn leave_out(timetable: &mut [u16], place: usize)
     requires { ⌜ (16384 ≤ length (now timetable))
@@ -205,20 +235,11 @@ fn leave_out(timetable: &mut [u16], place: usize)
         ≡ put 0 (words (leftOut (timetableOf (now (timetable .entry))) place)) (now (timetable .entry)) ⌝ }
     ensures { λ _. ⌜ length (now (timetable .exit)) ≡ length (now (timetable .entry)) ⌝ }
 {
-    let stations = words::word(timetable, 0) as usize;
     let mut body = [0u16; timetable::BODY_WORDS];
     let mut starts = [0u16; timetable::STARTS_WORDS];
     let mut numbers = [0u16; timetable::NUMBERS_WORDS];
     let all = fill_without(timetable, place, &mut body, &mut starts, &mut numbers);
-    timetable::write_words(
-        timetable,
-        stations,
-        all.trips,
-        all.stops,
-        &body,
-        &starts,
-        &numbers,
-    );
+    write_over(timetable, all, &body, &starts, &numbers);
 }
 
 // The stations, the trips before this place, and the trip of the other timetable.
@@ -293,7 +314,6 @@ fn put_in(timetable: &mut [u16], place: usize, extra: &[u16])
         (now (timetable .entry)) ⌝ }
     ensures { λ _. ⌜ length (now (timetable .exit)) ≡ length (now (timetable .entry)) ⌝ }
 {
-    let stations = words::word(timetable, 0) as usize;
     let mut body = [0u16; timetable::BODY_WORDS];
     let mut starts = [0u16; timetable::STARTS_WORDS];
     let mut numbers = [0u16; timetable::NUMBERS_WORDS];
@@ -305,15 +325,7 @@ fn put_in(timetable: &mut [u16], place: usize, extra: &[u16])
         &mut starts,
         &mut numbers,
     );
-    timetable::write_words(
-        timetable,
-        stations,
-        all.trips,
-        all.stops,
-        &body,
-        &starts,
-        &numbers,
-    );
+    write_over(timetable, all, &body, &starts, &numbers);
 }
 
 // Reads the lines of an extra trip behind the stations of the timetable.
@@ -323,12 +335,14 @@ fn read_stops(
     text: &[u8],
     body: &mut [u16],
     starts: &mut [u16],
+    walking: &mut [u16],
 ) -> Lines
     requires { ⌜ (16384 ≤ length (now words))
         × (isTimetable (now words) ≡ true)
         × (runsAs number ((timetableOf (now words)) .numbers) ≡ false)
         × (length (now body) ≡ 10368)
-        × (length (now starts) ≡ 257) ⌝ }
+        × (length (now starts) ≡ 257)
+        × (length (now walking) ≡ 1024) ⌝ }
     ensures { λ r. ⌜ StopsRead number (readExtra (timetableOf (now (words .entry))) number (now (text .entry))) r
         (now (body .exit)) (now (starts .exit)) ⌝ }
 {
@@ -339,7 +353,14 @@ fn read_stops(
         stops: words::word(words, 2) as usize,
     };
     timetable::copy_stations(words, body);
-    reading::read_lines(rules, words::word(words, 0) as usize, text, body, starts)
+    reading::read_lines(
+        rules,
+        words::word(words, 0) as usize,
+        text,
+        body,
+        starts,
+        walking,
+    )
 }
 
 // The number of the one trip.
@@ -351,7 +372,8 @@ fn put_number(numbers: &mut [u16], number: u32)
     numbers[0] = number as u16;
 }
 
-// Reads the lines of an extra trip into the words of a timetable that has the same stations and this trip alone.
+// Reads the lines of an extra trip into the words of a timetable that has the same stations and this trip alone, and no
+// walks.
 fn read_trip(words: &[u16], number: u32, text: &[u8], extra: &mut [u16]) -> Found
     requires { ⌜ (16384 ≤ length (now words))
         × (isTimetable (now words) ≡ true)
@@ -364,7 +386,8 @@ fn read_trip(words: &[u16], number: u32, text: &[u8], extra: &mut [u16]) -> Foun
     let mut body = [0u16; timetable::BODY_WORDS];
     let mut starts = [0u16; timetable::STARTS_WORDS];
     let mut numbers = [0u16; timetable::NUMBERS_WORDS];
-    match read_stops(words, number, text, &mut body, &mut starts) {
+    let mut walking = [0u16; timetable::WALKING_WORDS];
+    match read_stops(words, number, text, &mut body, &mut starts, &mut walking) {
         Lines::Refused { number, line } => {
             return Found::Refused { number, line };
         }
@@ -375,9 +398,11 @@ fn read_trip(words: &[u16], number: u32, text: &[u8], extra: &mut [u16]) -> Foun
                 p.stations,
                 p.trips,
                 p.stops,
+                0,
                 &body,
                 &starts,
                 &numbers,
+                &walking,
             );
             return Found::Whole;
         }

@@ -1,18 +1,17 @@
 -- Connections, what makes one feasible, what it costs, and its pattern: Definitions 1 to 3 of the 2010 paper in the
 -- words of document 01. They speak of a net: the rides of a timetable and the ways of changing.
 use mathlib.Core.Path.{_≡_}
-use mathlib.Core.List.{List, [], _∷_, map}
+use mathlib.Core.List.{List, [], _∷_, _++_, map}
 use Prim.Native.Nat.{ℕ, suc, _+_, _-_, _≤_}
 use lib.Dec.{T}
 use lib.ListN.{length, getD}
-use Rattle.timetable.specs.Timetable.{Station, Timetable}
+use Rattle.timetable.specs.Timetable.{Station, Walk, Timetable}
 use Rattle.lists.specs.Lists.{_∈_, range}
 use Rattle.results.specs.Results.{Cost, dominates}
 use Rattle.connections.specs.Rides.{Ride, ridesOf}
 
 -- A way of changing: from the station alighted at to the station boarded at, with the minutes it takes and the points
--- it costs. "At each change alights and boards at one station, leaving no earlier than arrival plus that station's
--- change minutes": here every change stays at its station, and there is one for each station.
+-- it costs. Document 02, One: "a change is made either at the station itself or by walking".
 pub record Change : Type 0 where
   pub from : ℕ
   pub to : ℕ
@@ -31,8 +30,22 @@ changeAt l z =
       points = (getD l z noStation) .points;
     }
 
-unfoldable pub changesOf : List Station → List Change
-changesOf l = map (changeAt l) (range 0 (length l))
+-- "The walk's minutes and penalty replace the station's."
+abbrev pub onFoot : Walk → Change
+onFoot w = record { from = w .from; to = w .to; minutes = w .minutes; points = w .points }
+
+-- at each station, and by each walk: "From and to may be equal, for a long platform, and then both ways of changing are
+-- open"
+unfoldable pub changesOf : Timetable → List Change
+changesOf t = map (changeAt (t .stations)) (range 0 (length (t .stations))) ++ map onFoot (t .walks)
+
+-- what a pattern names of a change
+pub record Transfer : Type 0 where
+  pub alighted : ℕ
+  pub boarded : ℕ
+
+abbrev pub transfer : Change → Transfer
+transfer w = record { alighted = w .from; boarded = w .to }
 
 pub record Net : Type 0 where
   -- how many stations are listed
@@ -42,7 +55,7 @@ pub record Net : Type 0 where
 
 abbrev pub net : Timetable → Net
 net t =
-    record { stations = length (t .stations); rides = ridesOf t; changes = changesOf (t .stations) }
+    record { stations = length (t .stations); rides = ridesOf t; changes = changesOf t }
 
 -- "A connection is one or more rides": a single ride, or a ride, a change and a connection from there.
 pub data Connection : Type 0 where
@@ -65,8 +78,9 @@ abbrev pub ready : Ride → Change → ℕ
 ready r w = r .arrive + w .minutes
 
 -- "It is feasible for A at minute t to B if it boards at A at t or later, alights at B, and at each change alights and
--- boards at one station, leaving no earlier than arrival plus that station's change minutes. Staying aboard needs no
--- change minutes": it is part of a ride.
+-- boards at one station, leaving no earlier than arrival plus that station's change minutes", where a walk takes the
+-- place of the station. "Staying aboard needs no change minutes": it is part of a ride. "No walk stands before the
+-- first ride or after the last."
 abbrev pub Feasible : Net → (a t b : ℕ) → Connection → Type 0
 Feasible n a t b (direct r) = Boards n a t r × (r .to ≡ b)
 Feasible n a t b (onward r w c) = Boards n a t r × Changes n r w × Feasible n (w .to) (ready r w) b c
@@ -96,10 +110,10 @@ pub record Optimal (n : Net) (a t b : ℕ) (c : Connection) : Type 0 where
   pub feasible : Feasible n a t b c
   pub undominated : (e : Connection) → Feasible n a t b e → ¬ T (dominates (cost t e) (cost t c))
 
--- "the stations of the changes in order, then B"
+-- "the stations of the changes in order, then B": "Patterns now name the station alighted at and the one boarded at"
 abbrev pub stations : Connection → List ℕ
 stations (direct r) = r .to ∷ []
-stations (onward r w c) = w .from ∷ stations c
+stations (onward r w c) = w .from ∷ w .to ∷ stations c
 
 -- "The pattern is A, the stations of the changes in order, then B."
 abbrev pub pattern : ℕ → Connection → List ℕ

@@ -1,10 +1,11 @@
 -- Feasible connections take time, end within the two days, stay feasible for an earlier minute, and cost at most
--- 3,166,900 points.
-use mathlib.Core.Path.{_≡_}
+-- 3,166,900 points. Their stations are listed, one for each ride's end and one for each boarding after a change.
+use mathlib.Core.Path.{_≡_, refl}
 use mathlib.Core.List.{[]}
-use Prim.Native.Nat.{ℕ, _+_, _*_, _≤_}
+use Prim.Native.Nat.{ℕ, suc, _+_, _*_, _≤_}
 use native.Mathlib.Omega.{arith}
 use lib.Dec.{T}
+use lib.ListN.{length}
 use Rattle.timetable.specs.Timetable.{Timetable, lastMinute, valid}
 use Rattle.lists.specs.Pigeonhole.{Within}
 use Rattle.lists.specs.Members.{none, cons-cases}
@@ -26,6 +27,11 @@ boards-own n a t r b = record { listed = b .listed; here = b .here; timely = ome
 pub has-stations : (c : Connection) → ¬ (stations c ≡ [])
 has-stations (direct r) e = let z : _≡_ {A = ℕ} 0 1 = cc in omega arith
 has-stations (onward r w c) e = let z : _≡_ {A = ℕ} 0 1 = cc in omega arith
+
+-- an odd number: one for the first ride, and two for each ride more
+pub count-stations : (c : Connection) → suc (length (stations c)) ≡ 2 * rideCount c
+count-stations (direct r) = refl
+count-stations (onward r w c) = omega (arith, count-stations c)
 
 module _ (n : Net) where
   pub earlier : (a t u b : ℕ) (c : Connection) → t ≤ u → Feasible n a u b c → Feasible n a t b c
@@ -59,8 +65,12 @@ module _ (n : Net) where
     stations-listed a t b (onward r w c) f x m =
         cons-cases
         m
-        (λ e. rw (e, f .1 .here) (ok .arrives r (f .0 .listed)))
-        (stations-listed (w .to) (ready r w) b c (f .2) x)
+        (λ e. rw e (ok .alights w (f .1 .listed)))
+        (λ k.
+        cons-cases
+        k
+        (λ e. rw e (ok .boards w (f .1 .listed)))
+        (stations-listed (w .to) (ready r w) b c (f .2) x))
 
 -- A minute of a ride costs 100 points at the most, and before each change there is a minute of a ride.
 module _ (t : Timetable) (v : T (valid t)) where

@@ -1,16 +1,16 @@
--- What a connection is known by: a ride by its numbers, a change by its station, which has one way of changing.
+-- What a ride is known by: its numbers. A change is not known by its stations: "From and to may be equal, for a long
+-- platform, and then both ways of changing are open."
 use mathlib.Core.Path.{_≡_}
 use lib.Dec.{T}
 use Rattle.timetable.specs.Timetable.{Timetable, valid}
 use Rattle.lists.specs.Lists.{_∈_}
 use Rattle.connections.specs.Rides.{Ride}
-use Rattle.connections.specs.Connections.{Change, Net, net}
-use Rattle.connections.specs.RideLaws.{ride-unique, change-unique}
+use Rattle.connections.specs.Connections.{Net, net}
+use Rattle.connections.specs.RideLaws.{ride-unique}
 
 pub record Named (n : Net) : Type 0 where
   pub ride : (r s : Ride) → r ∈ n .rides → s ∈ n .rides → r .trip ≡ s .trip → r .board ≡ s .board
       → r .alight ≡ s .alight → r ≡ s
-  pub change : (w v : Change) → w ∈ n .changes → v ∈ n .changes → w .from ≡ v .from → w ≡ v
 
 pub named : (t : Timetable) → T (valid t) → Named (net t)
-named t ok = record { ride = ride-unique t ok; change = change-unique (t .stations) }
+named t ok = record { ride = ride-unique t ok }

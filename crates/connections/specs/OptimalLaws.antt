@@ -1,9 +1,11 @@
 -- Theorems 2 and 3. An optimal connection is optimal at its own departure minute, and what is left of it after a change
--- is optimal from there. It comes back to no station, since one could have begun there; so it changes at no station
--- twice, and neither at the source nor at the target.
+-- is optimal from there. It alights at no station twice, since one could have gone on from there the first time, or
+-- stayed at the target; and it boards at no station twice, the source included, since one could have waited there. So
+-- it has at most 64 rides. It may alight at its source, to walk from there, and board at its target, after a walk.
 use mathlib.Core.Path.{_≡_, refl, sym, subst, _∙_}
-use mathlib.Core.Logic.{_≢_}
-use Prim.Native.Nat.{ℕ, _≤_, _<_}
+use mathlib.Core.Logic.{_⊎_, inl, inr}
+use mathlib.Core.List.{List, [], _∷_}
+use Prim.Native.Nat.{ℕ, _+_, _*_, _≤_, _<_}
 use native.Mathlib.Omega.{arith}
 use lib.Dec.{T}
 use lib.ListN.{length}
@@ -15,9 +17,24 @@ use Rattle.results.specs.Results.{dominates}
 use Rattle.results.specs.Domination.{dominates-in, dominates-out}
 use Rattle.connections.specs.Rides.{Ride}
 use Rattle.connections.specs.Connections.{Change, Net, Connection, direct, onward, Feasible, Optimal, ready}
-use Rattle.connections.specs.Connections.{departure, arrival, penalty, cost, stations, pattern}
+use Rattle.connections.specs.Connections.{departure, arrival, penalty, cost, pattern}
+use Rattle.connections.specs.Planner.{rideCount}
 use Rattle.connections.specs.Sound.{Sound}
-use Rattle.connections.specs.Feasibility.{earlier, own-minute, takes-time, stations-listed}
+use Rattle.connections.specs.Feasibility.{earlier, own-minute, takes-time, count-stations}
+
+-- the stations at which its rides end, the target last
+abbrev pub alightedAt : Connection → List ℕ
+alightedAt (direct r) = r .to ∷ []
+alightedAt (onward r w c) = w .from ∷ alightedAt c
+
+-- the stations boarded at after changes
+abbrev pub boardedAt : Connection → List ℕ
+boardedAt (direct r) = []
+boardedAt (onward r w c) = w .to ∷ boardedAt c
+
+pub count-alighted : (c : Connection) → length (alightedAt c) ≡ rideCount c
+count-alighted (direct r) = refl
+count-alighted (onward r w c) = omega (arith, count-alighted c)
 
 -- domination does not turn on the minute from which both durations are measured
 pub same-shift : (t u : ℕ) (e c : Connection) → t ≤ arrival e → t ≤ arrival c → u ≤ arrival e → u ≤ arrival c
@@ -63,32 +80,132 @@ module _ (n : Net) (ok : Sound n) where
           (o .feasible .0, o .feasible .1, f)
           (dominates-in (cost t (onward r w e)) (cost t (onward r w c)) (omega arith))
 
-  -- a connection from a that arrives when c does, and costs less
-  pub record Shorter (a t b : ℕ) (c : Connection) : Type 0 where
-    pub rest : Connection
-    pub feasible : Feasible n a t b rest
-    pub arrives : arrival rest ≡ arrival c
-    pub saves : penalty rest < penalty c
+  -- ---- alighting
+  -- one who alights at y when c was not yet begun can go on as c does from there: by a change and a connection
+  record Resumed (y u b : ℕ) (c : Connection) : Type 0 where
+    change : Change
+    rest : Connection
+    minute : ℕ
+    listed : change ∈ n .changes
+    here : change .from ≡ y
+    late : u ≤ minute
+    feasible : Feasible n (change .to) (minute + change .minutes) b rest
+    arrives : arrival rest ≡ arrival c
+    within : change .points + penalty rest ≤ penalty c
 
-  -- a connection that changes at a station can be begun there
-  cut : (a x t b : ℕ) (c : Connection) → Feasible n x t b c → a ∈ stations c → a ≢ b → Shorter a t b c
-  cut a x t b (direct r) f m h = cons-cases m (λ e. absurd (h (e ∙ f .1))) none
-  cut a x t b (onward r w c) f m h = cons-cases m here (λ k. later (cut a (w .to) (ready r w) b c (f .2) k h))
+  resumed : (x u b y : ℕ) (c : Connection) → Feasible n x u b c → y ∈ alightedAt c → (y ≡ b) ⊎ Resumed y u b c
+  resumed x u b y (direct r) f m = cons-cases m (λ e. inl (e ∙ f .1)) none
+  resumed x u b y (onward r w c) f m =
+      cons-cases m (λ e. inr (here e)) (λ k. later (resumed (w .to) (ready r w) b y c (f .2) k))
+    where
+      here : y ≡ w .from → Resumed y u b (onward r w c)
+      here e =
+          record {
+            change = w;
+            rest = c;
+            minute = r .arrive;
+            listed = f .1 .listed;
+            here = sym e;
+            late = omega (arith, ok .forward r (f .0 .listed), f .0 .timely);
+            feasible = f .2;
+            arrives = refl;
+            within = omega arith;
+          }
+
+      later : (y ≡ b) ⊎ Resumed y (ready r w) b c → (y ≡ b) ⊎ Resumed y u b (onward r w c)
+      later (inl e) = inl e
+      later (inr k) =
+          inr
+          (record {
+            change = k .change;
+            rest = k .rest;
+            minute = k .minute;
+            listed = k .listed;
+            here = k .here;
+            late = omega (arith, ok .forward r (f .0 .listed), f .0 .timely, k .late);
+            feasible = k .feasible;
+            arrives = k .arrives;
+            within = omega (arith, k .within);
+          })
+
+  -- who alights at a station to come back to it could have gone on as the second time, and saved the change
+  alights-once : (a t b : ℕ) (r : Ride) (w : Change) (c : Connection) → Optimal n a t b (onward r w c)
+      → ¬ (w .from ∈ alightedAt c)
+  alights-once a t b r w c o m = go (resumed (w .to) (ready r w) b (w .from) c (o .feasible .2) m)
+    where
+      toll : 1 ≤ w .points
+      toll = ok .toll w (o .feasible .1 .listed)
+
+      go : (w .from ≡ b) ⊎ Resumed (w .from) (ready r w) b c → ⊥
+      go (inl e) =
+          let k = takes-time n ok (w .to) (ready r w) b c (o .feasible .2) in
+          o .undominated
+          (direct r)
+          (o .feasible .0, sym (o .feasible .1 .here) ∙ e)
+          (dominates-in (cost t (direct r)) (cost t (onward r w c)) (omega (arith, toll)))
+      go (inr k) =
+          let v = k .change in
+          let e = k .rest in
+          let h = k .late in
+          let on = earlier n (v .to) (ready r v) (k .minute + v .minutes) b e (omega arith) (k .feasible) in
+          let p = k .arrives in
+          let q = k .within in
+          o .undominated
+          (onward r v e)
+          (o .feasible .0, record { listed = k .listed; here = k .here ∙ o .feasible .1 .here }, on)
+          (dominates-in (cost t (onward r v e)) (cost t (onward r w c)) (omega (arith, toll)))
+
+  -- theorem 3: no two rides end at one station
+  pub alighted-distinct : (a t b : ℕ) (c : Connection) → Optimal n a t b c → Distinct (alightedAt c)
+  alighted-distinct a t b (direct r) o = (λ m. none m, tt)
+  alighted-distinct a t b (onward r w c) o = (
+    alights-once a t b r w c o,
+    alighted-distinct (w .to) (ready r w) b c (optimal-rest a t b r w c o),
+  )
+
+  pub alighted-listed : (a t b : ℕ) (c : Connection) → Feasible n a t b c → Within (n .stations) (alightedAt c)
+  alighted-listed a t b (direct r) f x m = cons-cases m (λ e. rw e (ok .arrives r (f .0 .listed))) none
+  alighted-listed a t b (onward r w c) f x m =
+      cons-cases
+      m
+      (λ e. rw e (ok .alights w (f .1 .listed)))
+      (alighted-listed (w .to) (ready r w) b c (f .2) x)
+
+  -- "a pattern has at most 64 rides"
+  pub rides-few : (a t b : ℕ) (c : Connection) → Optimal n a t b c → rideCount c ≤ stationsMost
+  rides-few a t b c o =
+      let distinct = alighted-distinct a t b c o in
+      let listed = alighted-listed a t b c (o .feasible) in
+      omega (arith, ok .few, count-alighted c, pigeonhole (n .stations) (alightedAt c) distinct listed)
+
+  -- so its stations are 128 at the most, the source among them
+  pub pattern-short : (a t b : ℕ) (c : Connection) → Optimal n a t b c → length (pattern a c) ≤ 2 * stationsMost
+  pattern-short a t b c o = omega (arith, rides-few a t b c o, count-stations c)
+
+  -- ---- boarding
+  -- a connection from a that arrives when c does, and costs less
+  record Shorter (a t b : ℕ) (c : Connection) : Type 0 where
+    rest : Connection
+    feasible : Feasible n a t b rest
+    arrives : arrival rest ≡ arrival c
+    saves : penalty rest < penalty c
+
+  -- a connection that boards at a station after a change can be begun there
+  cut : (a x t b : ℕ) (c : Connection) → Feasible n x t b c → a ∈ boardedAt c → Shorter a t b c
+  cut a x t b (direct r) f m = none m
+  cut a x t b (onward r w c) f m = cons-cases m here (λ k. later (cut a (w .to) (ready r w) b c (f .2) k))
     where
       late : t ≤ ready r w
       late = omega (arith, ok .forward r (f .0 .listed), f .0 .timely)
 
-      here : a ≡ w .from → Shorter a t b (onward r w c)
+      here : a ≡ w .to → Shorter a t b (onward r w c)
       here e =
           record {
             rest = c;
-            feasible = earlier n a t (ready r w) b c late (subst (λ y. Feasible n y (ready r w) b c) at (f .2));
+            feasible = earlier n a t (ready r w) b c late (subst (λ y. Feasible n y (ready r w) b c) (sym e) (f .2));
             arrives = refl;
             saves = omega (arith, ok .toll w (f .1 .listed));
           }
-        where
-          at : w .to ≡ a
-          at = ok .stays w (f .1 .listed) ∙ sym e
 
       later : Shorter a (ready r w) b c → Shorter a t b (onward r w c)
       later y =
@@ -99,46 +216,20 @@ module _ (n : Net) (ok : Sound n) where
             saves = omega (arith, y .saves);
           }
 
-  no-return : (a t b : ℕ) (c : Connection) → Optimal n a t b c → a ≢ b → ¬ (a ∈ stations c)
-  no-return a t b c o h m =
-      let y = cut a a t b c (o .feasible) m h in
-      let p = y .arrives in
-      let q = y .saves in
-      o .undominated (y .rest) (y .feasible) (dominates-in (cost t (y .rest)) (cost t c) (omega arith))
-
-  -- a change at the target is one too many
-  no-pass : (a t b : ℕ) (r : Ride) (w : Change) (c : Connection) → Optimal n a t b (onward r w c) → w .from ≢ b
-  no-pass a t b r w c o h =
-      let p = ok .forward r (o .feasible .0 .listed) in
-      let q = o .feasible .0 .timely in
-      let s = ok .toll w (o .feasible .1 .listed) in
-      let k = takes-time n ok (w .to) (ready r w) b c (o .feasible .2) in
-      o .undominated
-      (direct r)
-      (o .feasible .0, sym (o .feasible .1 .here) ∙ h)
-      (dominates-in (cost t (direct r)) (cost t (onward r w c)) (omega arith))
-
-  stations-distinct : (a t b : ℕ) (c : Connection) → Optimal n a t b c → Distinct (stations c)
-  stations-distinct a t b (direct r) o = (λ m. none m, tt)
-  stations-distinct a t b (onward r w c) o =
-      let rest = optimal-rest a t b r w c o in
-      let e = ok .stays w (o .feasible .1 .listed) in
-      let there = no-pass a t b r w c o in (
-        rw e at (no-return (w .to) (ready r w) b c rest (λ z. there (sym e ∙ z))),
-        stations-distinct (w .to) (ready r w) b c rest,
-      )
-
-  -- theorem 3: no station stands twice in the pattern
-  pub pattern-distinct : (a t b : ℕ) (c : Connection) → Optimal n a t b c → a ≢ b → Distinct (pattern a c)
-  pattern-distinct a t b c o h = (no-return a t b c o h, stations-distinct a t b c o)
-
-  -- so it has at most 64 stations
-  pub pattern-short : (a t b : ℕ) (c : Connection) → Optimal n a t b c → a ≢ b → 1 ≤ a → a ≤ n .stations
-      → length (pattern a c) ≤ stationsMost
-  pattern-short a t b c o h p q = omega (arith, ok .few, pigeonhole (n .stations) (pattern a c) distinct within)
+  -- theorem 3: no two rides begin at one station
+  pub boarded-distinct : (a t b : ℕ) (c : Connection) → Optimal n a t b c → Distinct (a ∷ boardedAt c)
+  boarded-distinct a t b (direct r) o = (λ m. none m, tt)
+  boarded-distinct a t b (onward r w c) o = (
+    away,
+    boarded-distinct (w .to) (ready r w) b c (optimal-rest a t b r w c o),
+  )
     where
-      distinct : Distinct (pattern a c)
-      distinct = pattern-distinct a t b c o h
-
-      within : Within (n .stations) (pattern a c)
-      within x m = cons-cases m (λ e. rw e (p, q)) (stations-listed n ok a t b c (o .feasible) x)
+      away : ¬ (a ∈ boardedAt (onward r w c))
+      away m =
+          let y = cut a a t b (onward r w c) (o .feasible) m in
+          let p = y .arrives in
+          let q = y .saves in
+          o .undominated
+          (y .rest)
+          (y .feasible)
+          (dominates-in (cost t (y .rest)) (cost t (onward r w c)) (omega arith))

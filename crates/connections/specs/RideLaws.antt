@@ -1,19 +1,20 @@
 -- The rides and changes of a timetable by their places, and how a ride's penalty is summed stop by stop.
 use mathlib.Core.Path.{_≡_, refl, sym, ap, subst, _∙_}
 use mathlib.Core.Bool.{not}
-use mathlib.Core.List.{List, [], _∷_, Memᴰ·map, Memᴰ·of-map}
+use mathlib.Core.Logic.{_⊎_, inl, inr}
+use mathlib.Core.List.{List, [], _∷_, map, Memᴰ·append-left, Memᴰ·append-right, Memᴰ·map, Memᴰ·of-map}
 use Prim.Native.Nat.{ℕ, zero, suc, _+_, _≤_, _<_}
 use native.Mathlib.Omega.{arith}
 use lib.Dec.{T, eqb}
 use lib.ListN.{length, getD}
-use Rattle.timetable.specs.Timetable.{Station, Stop, Trip, Timetable, numberOf, valid}
+use Rattle.timetable.specs.Timetable.{Walk, Stop, Trip, Timetable, numberOf, valid}
 use Rattle.timetable.specs.Numbers.{number-unique}
 use Rattle.lists.specs.Lists.{_∈_, filter, range}
 use Rattle.lists.specs.Tests.{T-left, T-right, reads, writes}
-use Rattle.lists.specs.Members.{filter-in, filter-out, concatMap-in, concatMap-out, range-in, range-out}
+use Rattle.lists.specs.Members.{append-cases, filter-in, filter-out, concatMap-in, concatMap-out, range-in, range-out}
 use Rattle.connections.specs.Rides.{Ride, noStop, ridePoints, rideAt, mayBoard, mayAlight, mayRide}
 use Rattle.connections.specs.Rides.{ridesFrom, tripRides, rideIn, ridesOf}
-use Rattle.connections.specs.Connections.{Change, changeAt, changesOf}
+use Rattle.connections.specs.Connections.{Change, changeAt, onFoot, changesOf}
 
 -- a ride of the timetable: a trip, a stop to board at and a later stop to alight at, both open to that
 pub record Taken (t : Timetable) (r : Ride) : Type 0 where
@@ -100,25 +101,35 @@ module _ (t : Timetable) where
       same-y : i .y ≡ j .y
       same-y = omega (arith, g, ap (λ r. r .alight) (i .is), ap (λ r. r .alight) (j .is))
 
-module _ (l : List Station) where
-  pub changes-out : (w : Change) → w ∈ changesOf l → (z : ℕ) × (z < length l) × (changeAt l z ≡ w)
-  unfolding changesOf
-  changes-out w m =
-      let r = Memᴰ·of-map (changeAt l) (range 0 (length l)) m in
-      let h = range-out 0 (length l) (r .0) (r .1) in
-      (r .0, omega arith, r .2)
+-- a way of changing is a station's own, or a walk
+module _ (t : Timetable) where
+  abbrev own : List Change
+  own = map (changeAt (t .stations)) (range 0 (length (t .stations)))
 
-  -- a station has one way of changing
-  pub change-unique : (w v : Change) → w ∈ changesOf l → v ∈ changesOf l → w .from ≡ v .from → w ≡ v
-  change-unique w v m k e =
-      let i = changes-out w m in
-      let j = changes-out v k in
-      let same : i .0 ≡ j .0 = omega (arith, ap (λ w. w .from) (i .2), ap (λ w. w .from) (j .2)) in
-      sym (i .2) ∙ ap (changeAt l) same ∙ j .2
-
-  pub changes-in : (z : ℕ) → z < length l → changeAt l z ∈ changesOf l
+  pub changes-out : (w : Change) → w ∈ changesOf t
+      → ((z : ℕ) × (z < length (t .stations)) × (changeAt (t .stations) z ≡ w))
+      ⊎ ((v : Walk) × (v ∈ t .walks) × (onFoot v ≡ w))
   unfolding changesOf
-  changes-in z h = Memᴰ·map (changeAt l) (range-in 0 (length l) z (omega arith) (omega arith))
+  changes-out w m = append-cases own m here (λ k. inr (Memᴰ·of-map onFoot (t .walks) k))
+    where
+      here : w ∈ own
+          → ((z : ℕ) × (z < length (t .stations)) × (changeAt (t .stations) z ≡ w))
+          ⊎ ((v : Walk) × (v ∈ t .walks) × (onFoot v ≡ w))
+      here k =
+          let r = Memᴰ·of-map (changeAt (t .stations)) (range 0 (length (t .stations))) k in
+          let h = range-out 0 (length (t .stations)) (r .0) (r .1) in
+          inl (r .0, omega arith, r .2)
+
+  pub changes-in : (z : ℕ) → z < length (t .stations) → changeAt (t .stations) z ∈ changesOf t
+  unfolding changesOf
+  changes-in z h =
+      Memᴰ·append-left
+      (map onFoot (t .walks))
+      (Memᴰ·map (changeAt (t .stations)) (range-in 0 (length (t .stations)) z (omega arith) (omega arith)))
+
+  pub walks-in : (v : Walk) → v ∈ t .walks → onFoot v ∈ changesOf t
+  unfolding changesOf
+  walks-in v m = Memᴰ·append-right own (Memᴰ·map onFoot m)
 
 -- the points of a ride, stop by stop
 pub points-none : (l : Trip) (x : ℕ) → ridePoints l x 0 ≡ 0

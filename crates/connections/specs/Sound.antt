@@ -1,17 +1,20 @@
--- An accepted timetable gives a sound net: rides take time and end within the two days, changes stay at their station
+-- An accepted timetable gives a sound net: rides take time and end within the two days, changes join listed stations
 -- and cost something. These few facts are all that the theory of connections asks of a timetable.
 use mathlib.Core.Path.{_≡_, refl, sym, subst}
+use mathlib.Core.Logic.{_⊎_, inl, inr}
 use mathlib.Core.List.{List, [], _∷_}
 use Prim.Native.Nat.{ℕ, zero, suc, _+_, _*_, _≤_, _<_}
 use native.Mathlib.Omega.{arith}
 use lib.Dec.{T}
 use lib.ListN.{length, getD}
-use Rattle.timetable.specs.Timetable.{Station, Stop, Trip, Timetable, lastMinute, stationsMost, validStation, listed}
-use Rattle.timetable.specs.Timetable.{leaves, follows, runs, validTrip, validStations, validTrips, counted, valid}
+use Rattle.timetable.specs.Timetable.{Station, Walk, Stop, Trip, Timetable, lastMinute, stationsMost, validStation}
+use Rattle.timetable.specs.Timetable.{validWalk, listed, leaves, follows, runs, validTrip, validStations, validWalks}
+use Rattle.timetable.specs.Timetable.{validTrips, counted, valid}
 use Rattle.lists.specs.Lists.{_∈_}
 use Rattle.lists.specs.Tests.{T-left, T-right, reads}
+use Rattle.lists.specs.Members.{none, cons-cases}
 use Rattle.connections.specs.Rides.{Ride, noStop, ridePoints}
-use Rattle.connections.specs.Connections.{Change, Net, net, noStation, changeAt}
+use Rattle.connections.specs.Connections.{Change, Net, net, noStation, changeAt, onFoot}
 use Rattle.connections.specs.RideLaws.{rides-out, changes-out, points-none, points-first, points-next}
 
 pub record Sound (n : Net) : Type 0 where
@@ -21,10 +24,11 @@ pub record Sound (n : Net) : Type 0 where
   pub bounded : (r : Ride) → r ∈ n .rides → r .arrive ≤ lastMinute
   -- "station listed"
   pub arrives : (r : Ride) → r ∈ n .rides → (1 ≤ r .to) × (r .to ≤ n .stations)
-  -- "change penalty 1 to 1,000": a change costs something
+  -- "change penalty 1 to 1,000", and a walk's likewise: a change costs something
   pub toll : (w : Change) → w ∈ n .changes → 1 ≤ w .points
-  -- "alights and boards at one station"
-  pub stays : (w : Change) → w ∈ n .changes → w .to ≡ w .from
+  -- a change joins listed stations: "unlisted stations 6"
+  pub alights : (w : Change) → w ∈ n .changes → (1 ≤ w .from) × (w .from ≤ n .stations)
+  pub boards : (w : Change) → w ∈ n .changes → (1 ≤ w .to) × (w .to ≤ n .stations)
   -- "At most 64 stations"
   pub few : n .stations ≤ stationsMost
 
@@ -129,17 +133,52 @@ valid-station [] t z h = absurd (omega arith)
 valid-station (s ∷ l) t zero h = search T-left
 valid-station (s ∷ l) t (suc z) h = valid-station l (search T-right) z (omega arith)
 
--- what a station's change takes and costs
-pub record Priced (w : Change) : Type 0 where
+pub valid-walk : (n : ℕ) (l : List Walk) → T (validWalks n l) → (v : Walk) → v ∈ l → T (validWalk n v)
+unfolding validWalks
+valid-walk n [] t v m = none m
+valid-walk n (w ∷ []) t v m = cons-cases m (λ e. subst (λ x. T (validWalk n x)) (sym e) t) none
+valid-walk n (w ∷ u ∷ l) t v m =
+    cons-cases
+    m
+    (λ e. subst (λ x. T (validWalk n x)) (sym e) (search T-left))
+    (valid-walk n (u ∷ l) (search T-right) v)
+
+-- what a change takes and costs, and between which of n stations it is
+pub record Priced (n : ℕ) (w : Change) : Type 0 where
   pub minutes-most : w .minutes ≤ 240
   pub points-least : 1 ≤ w .points
   pub points-most : w .points ≤ 1000
-  pub stays : w .to ≡ w .from
+  pub from-first : 1 ≤ w .from
+  pub from-last : w .from ≤ n
+  pub to-first : 1 ≤ w .to
+  pub to-last : w .to ≤ n
 
-priced : (l : List Station) (z : ℕ) → T (validStation (getD l z noStation)) → Priced (changeAt l z)
+priced-station : (l : List Station) (z : ℕ) → z < length l → T (validStation (getD l z noStation))
+    → Priced (length l) (changeAt l z)
 unfolding validStation
-priced l z t =
-    record { minutes-most = search reads; points-least = search reads; points-most = search reads; stays = refl }
+priced-station l z h t =
+    record {
+      minutes-most = search reads;
+      points-least = search reads;
+      points-most = search reads;
+      from-first = omega arith;
+      from-last = omega arith;
+      to-first = omega arith;
+      to-last = omega arith;
+    }
+
+priced-walk : (n : ℕ) (v : Walk) → T (validWalk n v) → Priced n (onFoot v)
+unfolding validWalk
+priced-walk n v t =
+    record {
+      minutes-most = let h : v .minutes ≤ 60 = search reads depth 10 in omega arith;
+      points-least = search reads depth 10;
+      points-most = search reads depth 10;
+      from-first = search reads depth 10;
+      from-last = search reads depth 10;
+      to-first = search reads depth 10;
+      to-last = search reads depth 10;
+    }
 
 module _ (t : Timetable) (v : T (valid t)) where
   pub trips-valid : T (validTrips (length (t .stations)) (t .trips))
@@ -150,14 +189,26 @@ module _ (t : Timetable) (v : T (valid t)) where
   unfolding valid
   stations-valid = search (T-left, T-right)
 
+  pub walks-valid : T (validWalks (length (t .stations)) (t .walks))
+  unfolding valid
+  walks-valid = search (T-left, T-right)
+
   pub stations-few : length (t .stations) ≤ stationsMost
   unfolding valid counted
-  stations-few = search reads depth 7
+  stations-few = search reads depth 9
 
-  pub change-priced : (w : Change) → w ∈ (net t) .changes → Priced w
-  change-priced w m =
-      let r = changes-out (t .stations) w m in
-      subst Priced (r .2) (priced (t .stations) (r .0) (valid-station (t .stations) stations-valid (r .0) (r .1)))
+  pub change-priced : (w : Change) → w ∈ (net t) .changes → Priced (length (t .stations)) w
+  change-priced w m = go (changes-out t w m)
+    where
+      n : ℕ
+      n = length (t .stations)
+
+      go : ((z : ℕ) × (z < n) × (changeAt (t .stations) z ≡ w)) ⊎ ((v : Walk) × (v ∈ t .walks) × (onFoot v ≡ w))
+          → Priced n w
+      go (inl r) =
+          let s = valid-station (t .stations) stations-valid (r .0) (r .1) in
+          subst (Priced n) (r .2) (priced-station (t .stations) (r .0) (r .1) s)
+      go (inr r) = subst (Priced n) (r .2) (priced-walk n (r .0) (valid-walk n (t .walks) walks-valid (r .0) (r .1)))
 
   record Good (r : Ride) : Type 0 where
     forward : r .depart < r .arrive
@@ -185,7 +236,8 @@ module _ (t : Timetable) (v : T (valid t)) where
         bounded = λ r m. ride-good r m .bounded;
         arrives = λ r m. (ride-good r m .first, ride-good r m .last);
         toll = λ w m. change-priced w m .points-least;
-        stays = λ w m. change-priced w m .stays;
+        alights = λ w m. (change-priced w m .from-first, change-priced w m .from-last);
+        boards = λ w m. (change-priced w m .to-first, change-priced w m .to-last);
         few = stations-few;
       }
 

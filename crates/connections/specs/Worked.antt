@@ -1,12 +1,13 @@
--- Timetable M of document 01 and its queries, and the places where planners slip, each as rows that are computed. For a
--- reader.
+-- Timetable M of document 01 and its queries, the places where planners slip, and walks, each as rows that are
+-- computed. For a reader.
 use mathlib.Core.Path.{_≡_, refl}
 use mathlib.Core.List.{List, [], _∷_}
 use Prim.Native.Nat.{ℕ}
 use lib.Dec.{T}
 use lib.ListN.{length, drop}
-use Rattle.timetable.specs.Timetable.{Timetable, validStation, listed, leaves, ends, follows, runs}
-use Rattle.timetable.specs.Timetable.{validTrip, validStations, validTrips, counted, climb, numbered, valid}
+use Rattle.timetable.specs.Timetable.{Walk, Timetable, validStation, listed, leaves, ends, follows, runs}
+use Rattle.timetable.specs.Timetable.{validTrip, validStations, validWalks, validTrips, counted, climb, numbered}
+use Rattle.timetable.specs.Timetable.{valid}
 use Rattle.timetable.specs.Worked.{station, stop, variant, M}
 use Rattle.results.specs.Results.{dominates, equal, entries, result}
 use Rattle.connections.specs.Rides.{mayBoard, mayAlight, ridePoints, ridesOf}
@@ -15,8 +16,8 @@ use Rattle.connections.specs.Planner.{connections, plannerList, tieKey, 
 
 -- it is accepted, so that the theorems hold of it
 pub M-valid : T (valid M)
-unfolding valid counted numbered climb validStations validTrips validTrip validStation listed leaves ends follows runs
-    M variant
+unfolding valid counted numbered climb validStations validWalks validTrips validTrip validStation listed leaves ends
+    follows runs M variant
 M-valid = tt
 
 -- the planner's rows, for a query from a at minute m to b
@@ -57,6 +58,7 @@ unfoldable pub valley : Timetable
 valley =
     record {
       stations = station 0 1 ∷ station 0 1 ∷ [];
+      walks = [];
       numbers = 1 ∷ 2 ∷ [];
       trips = (stop 1 0 480 0 ∷ stop 2 500 0 0 ∷ []) ∷ (stop 1 0 485 0 ∷ stop 2 515 0 0 ∷ []) ∷ [];
     }
@@ -71,6 +73,7 @@ unfoldable pub alike : Timetable
 alike =
     record {
       stations = station 0 1 ∷ station 0 1 ∷ [];
+      walks = [];
       numbers = 1 ∷ 2 ∷ [];
       trips = (stop 1 0 480 0 ∷ stop 2 500 0 0 ∷ []) ∷ (stop 1 0 490 0 ∷ stop 2 500 0 0 ∷ []) ∷ [];
     }
@@ -87,6 +90,7 @@ unfolding M variant
 closed m =
     record {
       stations = M .stations;
+      walks = M .walks;
       numbers = M .numbers;
       trips =
           (stop 1 0 480 0
@@ -111,3 +115,102 @@ pub setting-down-only : (planned (closed 2) 1 470 3 ≡ twoRides 50 10 1 1 2 2 1
 unfolding closed M variant ridesOf mayBoard mayAlight ridePoints changesOf plannerList connections entries result
     dominates equal rowsOf tieKey
 setting-down-only = (refl, refl, refl)
+
+-- Document 02, One: walks. From station 1 to 2, from there on foot to 3, and from 3 to 4.
+abbrev pub walk : (from to minutes points : ℕ) → Walk
+walk x y m p = record { from = x; to = y; minutes = m; points = p }
+
+-- "The walk's minutes and penalty replace the station's": neither end's change minutes or penalty are added.
+unfoldable pub onToThree : Timetable
+onToThree =
+    record {
+      stations = station 0 1 ∷ station 9 50 ∷ station 9 60 ∷ station 0 1 ∷ [];
+      walks = walk 2 3 5 7 ∷ [];
+      numbers = 1 ∷ 2 ∷ [];
+      trips = (stop 1 0 10 0 ∷ stop 2 20 0 0 ∷ []) ∷ (stop 3 0 25 2 ∷ stop 4 30 0 0 ∷ []) ∷ [];
+    }
+
+pub on-foot : planned onToThree 1 0 4 ≡ twoRides 30 9 1 1 2 2 1 2 ∷ []
+unfolding onToThree ridesOf mayBoard mayAlight ridePoints changesOf plannerList connections entries result dominates
+    equal rowsOf tieKey
+on-foot = refl
+
+-- A walk is one W line, and leads one way: 2 to 1 and 1 to 3 do not make 2 to 3.
+unfoldable pub apart : Timetable
+apart =
+    record {
+      stations = station 0 1 ∷ station 0 1 ∷ station 0 1 ∷ station 0 1 ∷ [];
+      walks = walk 1 3 1 1 ∷ walk 2 1 1 1 ∷ [];
+      numbers = 1 ∷ 2 ∷ [];
+      trips = (stop 1 0 10 0 ∷ stop 2 20 0 0 ∷ []) ∷ (stop 3 0 25 2 ∷ stop 4 30 0 0 ∷ []) ∷ [];
+    }
+
+pub one-walk : plannerList (net apart) 1 0 4 ≡ []
+unfolding apart ridesOf mayBoard mayAlight ridePoints changesOf plannerList connections
+one-walk = refl
+
+-- "From and to may be equal, for a long platform, and then both ways of changing are open": at 24 only the walk of 2
+-- minutes is in time, at 25 the station's change too, which is cheaper.
+unfoldable pub platform : (depart : ℕ) → Timetable
+platform d =
+    record {
+      stations = station 0 1 ∷ station 5 50 ∷ station 0 1 ∷ [];
+      walks = walk 2 2 2 70 ∷ [];
+      numbers = 1 ∷ 2 ∷ [];
+      trips = (stop 1 0 10 0 ∷ stop 2 20 0 0 ∷ []) ∷ (stop 2 0 d 0 ∷ stop 3 90 0 0 ∷ []) ∷ [];
+    }
+
+pub both-open : (planned (platform 24) 1 0 3 ≡ twoRides 90 70 1 1 2 2 1 2 ∷ [])
+    × (planned (platform 25) 1 0 3 ≡ twoRides 90 50 1 1 2 2 1 2 ∷ [])
+    × (length (plannerList (net (platform 25)) 1 0 3) ≡ 2)
+unfolding platform ridesOf mayBoard mayAlight ridePoints changesOf plannerList connections entries result dominates
+    equal rowsOf tieKey
+both-open = (refl, refl, refl)
+
+-- "No walk stands before the first ride or after the last": who has walked to station 3 has not arrived there, and
+-- rides a round from it.
+unfoldable pub roundAtEnd : Timetable
+roundAtEnd =
+    record {
+      stations = station 0 1 ∷ station 0 1 ∷ station 0 1 ∷ station 0 1 ∷ [];
+      walks = walk 2 3 2 3 ∷ [];
+      numbers = 1 ∷ 2 ∷ [];
+      trips =
+          (stop 1 0 10 0 ∷ stop 2 15 0 0 ∷ []) ∷ (stop 3 0 17 4 ∷ stop 4 20 20 0 ∷ stop 3 25 0 0 ∷ []) ∷ [];
+    }
+
+pub walked-to-target : planned roundAtEnd 1 0 3 ≡ twoRides 25 7 1 1 2 2 1 3 ∷ []
+unfolding roundAtEnd ridesOf mayBoard mayAlight ridePoints changesOf plannerList connections entries result dominates
+    equal rowsOf tieKey
+walked-to-target = refl
+
+-- and who would walk from station 1 rides a round to it first
+unfoldable pub roundAtStart : Timetable
+roundAtStart =
+    record {
+      stations = station 0 1 ∷ station 0 1 ∷ station 0 1 ∷ station 0 1 ∷ [];
+      walks = walk 1 3 2 3 ∷ [];
+      numbers = 1 ∷ 2 ∷ [];
+      trips =
+          (stop 1 0 10 0 ∷ stop 2 15 15 0 ∷ stop 1 20 0 0 ∷ []) ∷ (stop 3 0 22 0 ∷ stop 4 30 0 0 ∷ []) ∷ [];
+    }
+
+pub walked-from-source : planned roundAtStart 1 0 4 ≡ twoRides 30 3 1 1 3 2 1 2 ∷ []
+unfolding roundAtStart ridesOf mayBoard mayAlight ridePoints changesOf plannerList connections entries result dominates
+    equal rowsOf tieKey
+walked-from-source = refl
+
+-- Who alights, walks and boards the same trip again saves a ride penalty of 100.
+unfoldable pub sameTrip : Timetable
+sameTrip =
+    record {
+      stations = station 0 1 ∷ station 0 1 ∷ station 0 1 ∷ station 0 1 ∷ [];
+      walks = walk 2 3 5 7 ∷ [];
+      numbers = 1 ∷ [];
+      trips = (stop 1 0 10 0 ∷ stop 2 20 21 100 ∷ stop 3 40 41 1 ∷ stop 4 50 0 0 ∷ []) ∷ [];
+    }
+
+pub boarded-again : planned sameTrip 1 0 4 ≡ twoRides 50 8 1 1 2 1 3 4 ∷ []
+unfolding sameTrip ridesOf mayBoard mayAlight ridePoints changesOf plannerList connections entries result dominates
+    equal rowsOf tieKey
+boarded-again = refl

@@ -1,18 +1,23 @@
 -- Document 01: "Cases a to k stand together under one theorem about the definitions." Here they are, on timetable M, a
 -- part for each; M is the timetable that its text is read to. For a reader.
-use mathlib.Core.Path.{_≡_, _∙_}
+use mathlib.Core.Path.{_≡_, refl, _∙_}
 use mathlib.Core.Bool.{true}
 use mathlib.Core.List.{List, [], _∷_, _++_}
 use Prim.Native.Nat.{ℕ, _≤_}
 use native.Mathlib.Omega.{arith}
 use borrow.Author.Tests.{le-leb}
 use lib.ListN.{length}
+use Rattle.results.specs.Results.{dominates}
+use Rattle.connections.specs.Rides.{mayBoard, mayAlight, ridePoints, ridesOf}
 use Rattle.connections.specs.Connections.{net}
-use Rattle.connections.specs.Planner.{plannerList}
+use Rattle.connections.specs.Planner.{connections, plannerList}
+use Rattle.connections.specs.WithoutWalks.{ownChanges, formerNet}
 use Rattle.timetable.specs.Worked.{variant, M}
 use Rattle.connections.specs.Worked.{M-valid, planned, oneRide, twoRides, case-a, case-a-none, case-g, case-h}
 use Rattle.stores.specs.Words.{storeWords, readable, wellMade, keptList, answer}
+use Rattle.stores.specs.Stored.{optimals}
 use Rattle.stores.specs.Worked.{case-b, case-c, case-d, case-i, case-j}
+use Rattle.stores.specs.WithoutWalks.{formerStations, formerStored, formerNodes, formerArcs, formerEncode, formerWords}
 use Rattle.reading.specs.Reading.{Accepted, Refused, reading}
 use Rattle.accepted.specs.Cases.{textM, M-accepted, case-k}
 use Rattle.lines.specs.Lines.{lines, lineNumbers}
@@ -31,8 +36,10 @@ pub record Cases : Type 0 where
       → answer (net M) (storeWords (net M) 1 ++ post) 1 470 3 ≡ twoRides 50 10 1 1 2 2 1 2 ∷ oneRide 90 0 1 1 3 ∷ []
   pub a-none : plannerList (net M) 1 481 3 ≡ []
   pub a-none-stored : (post : List ℕ) → keptList (net M) (storeWords (net M) 1 ++ post) 1 481 3 ≡ []
-  -- "(b) Store of 1: 1,3,2,0,2,0,3,0,3,1. (c) Of 2: 0,1,3,0. (d) Of 3: 0,0."
-  pub b : storeWords (net M) 1 ≡ 1 ∷ 3 ∷ 2 ∷ 0 ∷ 2 ∷ 0 ∷ 3 ∷ 0 ∷ 3 ∷ 1 ∷ []
+  -- "(b) Store of 1: 1,3,2,0,2,0,3,0,3,1.", and document 02, One, where a node has both stations: "case b reads
+  -- 1,3,2,2,0,2,0,3,0,3,1". "(c) Of 2: 0,1,3,0. (d) Of 3: 0,0."
+  pub b-before : formerWords (formerNet M) 1 ≡ 1 ∷ 3 ∷ 2 ∷ 0 ∷ 2 ∷ 0 ∷ 3 ∷ 0 ∷ 3 ∷ 1 ∷ []
+  pub b : storeWords (net M) 1 ≡ 1 ∷ 3 ∷ 2 ∷ 2 ∷ 0 ∷ 2 ∷ 0 ∷ 3 ∷ 0 ∷ 3 ∷ 1 ∷ []
   pub c : storeWords (net M) 2 ≡ 0 ∷ 1 ∷ 3 ∷ 0 ∷ []
   pub d : storeWords (net M) 3 ≡ 0 ∷ 0 ∷ []
   -- "(e) Lines of M: trip 1; then trips 3, 2. (f) With trip 2 arriving at 514: three lines."
@@ -72,6 +79,12 @@ from-1 m i = to-3 1 m (omega arith) (omega arith) i
 pub from-2 : (m : ℕ) → m ≤ lastMinute → Query (net M) 2 m 3
 from-2 m i = to-3 2 m (omega arith) (omega arith) i
 
+-- the store of 1 as document 01 has it, from all 2,880 minutes
+former-b : formerWords (formerNet M) 1 ≡ 1 ∷ 3 ∷ 2 ∷ 0 ∷ 2 ∷ 0 ∷ 3 ∷ 0 ∷ 3 ∷ 1 ∷ []
+unfolding M variant ridesOf mayBoard mayAlight ridePoints ownChanges plannerList connections dominates optimals
+    formerStations formerStored formerNodes formerArcs formerEncode formerWords
+former-b = refl
+
 -- The store of case j holds one sequence, that of the ride to 3: no word behind it is read.
 rows-j : (post : List ℕ) → answer (net M) (0 ∷ 1 ∷ 3 ∷ 0 ∷ post) 1 470 3 ≡ oneRide 90 0 1 1 3 ∷ []
 unfolding answer keptList readable
@@ -89,6 +102,7 @@ cases =
       a-stored = λ post. three .made 1 470 3 post (from-1 470 (omega arith)) ∙ case-a;
       a-none = case-a-none;
       a-none-stored = λ post. three .made-none 1 481 3 post (from-1 481 (omega arith)) .1 case-a-none;
+      b-before = former-b;
       b = case-b;
       c = case-c;
       d = case-d;

@@ -121,5 +121,5 @@ module _ (t : Timetable) (v : T (valid t)) where
         kept = kept-pair (net t) ok;
         struck-answers = answer-answers (net t) ok;
         row-is = row-says;
-        well-made = λ a post h g. store-well-made (net t) ok a h g post;
+        well-made = λ a post h g. store-well-made (net t) ok a post;
       }

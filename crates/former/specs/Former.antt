@@ -1,5 +1,7 @@
 -- Document 02, Four: "the plain minute is dropped there. .. An accepted text in the new form must lead to the same
--- tables as its old equivalent." Here stand the old form and the old equivalent of a text, for that sentence alone.
+-- tables as its old equivalent." Here stand the old form and the old equivalent of a text, for that sentence alone. Of
+-- later requests a T line has its mark, and a text its walk lines (document 02, Two and One): neither holds a time, so
+-- that both are in the old form what they are now.
 use mathlib.Core.Bool.{cond, _&&_, _||_}
 use mathlib.Core.List.{List, [], _∷_, _++_}
 use Prim.Native.Nat.{ℕ, suc}
@@ -45,7 +47,7 @@ unfoldable pub formerFields : ℕ → List (List ℕ) → List (List ℕ)
 formerFields k [] = []
 formerFields k (f ∷ l) = formerAt k f ∷ formerFields (suc k) l
 
--- a line that begins with T (byte 84) and a comma (byte 44); all other lines stay
+-- a line that begins with T (byte 84) and a comma (byte 44); all other lines stay, those of stations and walks too
 unfoldable pub formerLine : List ℕ → List ℕ
 formerLine line =
     cond (eqb (getD line 0 0) 84 && eqb (getD line 1 0) 44)

@@ -1,7 +1,7 @@
 -- "An accepted text in the new form must lead to the same tables as its old equivalent." A text in the new form, of at
 -- most 65,536 bytes, is read exactly as its old equivalent was in the old form: accepted or refused with the same
 -- reply, number and line included, and with the same words of the timetable, from which the same line tables are built.
--- For a reader.
+-- This holds of a text with walk lines too, which the old form had as they are. For a reader.
 use mathlib.Core.Path.{_≡_, sym, ap}
 use mathlib.Core.Bool.{true}
 use mathlib.Core.List.{List}

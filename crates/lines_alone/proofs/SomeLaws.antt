@@ -1,5 +1,5 @@
 -- The timetable that line tables tell is drawn within the limits, its words spell it, and it answers question 10.
-use mathlib.Core.Path.{_≡_, sym, ap, _∙_}
+use mathlib.Core.Path.{_≡_, refl, sym, ap, _∙_}
 use mathlib.Core.Bool.{Bool, true, false, not, _&&_}
 use mathlib.Core.List.{List, _++_}
 use Prim.Native.Nat.{ℕ, _+_, _*_, _≤_, _<_}
@@ -8,15 +8,15 @@ use native.Mathlib.Omega.{arith}
 use borrow.Author.Tests.{le-leb, lt-leb, not-true, not-false}
 use lib.Dec.{leb}
 use lib.ListN.{length, getD, take, drop, replicate, length-map, length-replicate, take-append-drop}
-use Rattle.words.specs.Put.{put, put-append}
+use Rattle.words.specs.Put.{put, put-none, put-append}
 use Rattle.lists.specs.Lists.{range}
 use Rattle.lists.specs.Ranges.{length-range}
-use Rattle.lists.specs.Tests.{and-false}
+use Rattle.lists.specs.Tests.{and-true, and-false}
 use Rattle.timetable.specs.Timetable.{Timetable, stopsOf, counted, valid}
-use Rattle.timetable.specs.Words.{stationWords, stopWords, startWords, words, joined}
-use Rattle.timetable.specs.Words.{timetableOf, chained, isTimetable}
+use Rattle.timetable.specs.Words.{stationWords, stopWords, startWords, walkWords, countTo, words, joined}
+use Rattle.timetable.specs.Words.{timetableOf, chained, footed, isTimetable}
 use Rattle.timetable.specs.WordLaws.{length-stationWords, joined-words}
-use Rattle.accepted.specs.Spelled.{words-spell, words-chained}
+use Rattle.accepted.specs.Spelled.{words-spell, words-footed, words-chained}
 use Rattle.lines_check.specs.Question10.{begins, areTables}
 use Rattle.lines_alone.specs.Facts.{they-fit}
 use Rattle.lines_alone.specs.Drawn.{
@@ -56,8 +56,9 @@ drawn-numbered v =
     let n = length (drawnNumbers v) in
     sym (length-map (range 0 n) (drawnTrip v) ∙ length-range 0 n)
 
-module _ (v : List ℕ) (s t n : ℕ) (is-s : s ≡ getD v 0 0) (counts : n ≡ length (stopsOf (drawnTrips v 0 t)))
-    (numbers : List ℕ) (told : take t numbers ≡ drawnNumbers v) (room₃ : t ≤ length numbers) where
+module _ (v : List ℕ) (fit : countsFit v ≡ true) (s t n : ℕ) (is-s : s ≡ getD v 0 0)
+    (few : length (stopsOf (drawnTrips v 0 t)) ≤ 2048) (counts : n ≡ length (stopsOf (drawnTrips v 0 t)))
+    (numbers : List ℕ) (told : take t numbers ≡ drawnNumbers v) (long : length numbers ≡ 256) (inside : t ≤ 256) where
   abbrev stations : List ℕ
   stations = stationWords (replicate s plainStation)
 
@@ -65,21 +66,22 @@ module _ (v : List ℕ) (s t n : ℕ) (is-s : s ≡ getD v 0 0) (counts : n ≡ 
   stops = stopWords (stopsOf (drawnTrips v 0 t))
 
   is-t : t ≡ length (drawnNumbers v)
-  is-t = trips-told v numbers t told room₃
+  is-t = trips-told v numbers t told (omega arith)
 
   numbers-held : numbers ≡ put 0 (drawnNumbers v) numbers
   unfolding put
   numbers-held = sym (take-append-drop t numbers) ∙ (λ i. told i ++ drop (is-t i) numbers) ∙ rw zero-add
 
-  pub drawn-written : (zeros mid body zeros₂ starts old out : List ℕ)
-      → 2 * s + 5 * length (stopsOf (drawnTrips v 0 t)) ≤ length zeros
-      → mid ≡ put 0 (stationWords (replicate s plainStation)) zeros
+  pub drawn-written : (mid body zeros₂ starts walking old out : List ℕ)
+      → mid ≡ put 0 (stationWords (replicate s plainStation)) (replicate 10368 0)
       → body ≡ put (2 * s) (stopWords (stopsOf (drawnTrips v 0 t))) mid
       → starts ≡ put 0 (startWords 0 (drawnTrips v 0 t)) zeros₂
-      → out ≡ put 0 (joined s t n body starts numbers) old → out ≡ put 0 (words (drawn v)) old
-  unfolding drawn
-  drawn-written zeros mid body zeros₂ starts old out room first second third wrote =
+      → out ≡ put 0 (joined s t n 0 body starts numbers walking) old → out ≡ put 0 (words (drawn v)) old
+  unfolding drawn walkWords
+  drawn-written mid body zeros₂ starts walking old out first second third wrote =
       let m = length (drawnNumbers v) in
+      let zeros : List ℕ = replicate 10368 0 in
+      let room = stops-room v fit t few s is-s zeros (length-replicate {A = ℕ} 10368 0) in
       let many : length stations ≡ 2 * s =
       length-stationWords (replicate s plainStation) ∙ ap (λ k. 2 * k) (length-replicate s plainStation) in
       let both : body ≡ put 0 (stations ++ stops) zeros =
@@ -100,24 +102,32 @@ module _ (v : List ℕ) (s t n : ℕ) (is-s : s ≡ getD v 0 0) (counts : n ≡ 
       counts ∙ ap (λ k. length (stopsOf (drawnTrips v 0 k))) is-t in
       wrote
       ∙ ap (λ w. put 0 w old)
-      (joined-words (drawn v) s t n stations-are (is-t ∙ drawn-numbered v) stops-are body starts numbers zeros zeros₂
-      numbers held begun numbers-held (drawn-numbered v))
+      (joined-words (drawn v) s t n 0 stations-are (is-t ∙ drawn-numbered v) stops-are refl body starts numbers
+      walking zeros zeros₂ numbers walking held begun numbers-held (sym (put-none 0 walking)) (drawn-numbered v))
 
 -- ---- its words spell it, whatever stands behind them
-module _ (t : Timetable) (numbered : length (t .numbers) ≡ length (t .trips)) (old w : List ℕ)
-    (is : w ≡ put 0 (words t) old) where
-  begun : w ≡ words t ++ drop (0 + length (words t)) old
+module _ (v old w : List ℕ) (is : w ≡ put 0 (words (drawn v)) old) where
+  abbrev rest : List ℕ
+  rest = drop (0 + length (words (drawn v))) old
+
+  begun : w ≡ words (drawn v) ++ rest
   unfolding put
   begun = is
 
-  spelled : timetableOf w ≡ t
-  spelled = ap timetableOf begun ∙ words-spell t (drop (0 + length (words t)) old) numbered
+  -- no walk is from a station that is not listed
+  listed : countTo ((drawn v) .walks) (length ((drawn v) .stations)) ≡ length ((drawn v) .walks)
+  unfolding drawn countTo
+  listed = refl
 
-  tested : isTimetable w ≡ valid t
+  spelled : timetableOf w ≡ drawn v
+  spelled = ap timetableOf begun ∙ words-spell (drawn v) rest (drawn-numbered v) listed
+
+  tested : isTimetable w ≡ valid (drawn v)
   unfolding isTimetable
   tested =
-      let linked : chained w ≡ true = ap chained begun ∙ words-chained t (drop (0 + length (words t)) old) in
-      rw (linked, spelled)
+      let linked : chained w ≡ true = ap chained begun ∙ words-chained (drawn v) rest in
+      let counted : footed w ≡ true = ap footed begun ∙ words-footed (drawn v) rest (drawn-numbered v) listed in
+      rw (linked, spelled, counted) (and-true (valid (drawn v)))
 
 -- ---- question 10
 pub stops-few : (v : List ℕ) (t n : ℕ) → n ≡ length (stopsOf (drawnTrips v 0 t)) → n ≤ 2048
@@ -127,14 +137,18 @@ stops-few v t n counts h = omega (arith, counts)
 uncounted : (t : Timetable) → 256 < length (t .trips) → counted t ≡ false
 unfolding counted
 uncounted t h =
-    let stations : Bool = leb 1 (length (t .stations)) && leb (length (t .stations)) 64 in
-    rw (and-false stations (leb (length (t .trips)) 256) (lt-leb (length (t .trips)) 256 h))
+    let front : Bool =
+    leb 1 (length (t .stations)) && leb (length (t .stations)) 64 && leb (length (t .walks)) 256 in
+    rw (and-false front (leb (length (t .trips)) 256) (lt-leb (length (t .trips)) 256 h))
 
 many-uncounted : (t : Timetable) → 2048 < length (stopsOf (t .trips)) → counted t ≡ false
 unfolding counted
 many-uncounted t h =
     and-false
-    (leb 1 (length (t .stations)) && leb (length (t .stations)) 64 && leb (length (t .trips)) 256)
+    (leb 1 (length (t .stations))
+    && leb (length (t .stations)) 64
+    && leb (length (t .walks)) 256
+    && leb (length (t .trips)) 256)
     (leb (length (stopsOf (t .trips))) 2048)
     (lt-leb (length (stopsOf (t .trips))) 2048 h)
 
@@ -176,7 +190,7 @@ module _ (v : List ℕ) (r : Bool) (fits : r ≡ countsFit v) where
 
     module _ (old w : List ℕ) (drawn-is : w ≡ put 0 (words (drawn v)) old) (q : Bool) (asked : q ≡ isTimetable w) where
       is-valid : q ≡ valid (drawn v)
-      is-valid = asked ∙ tested (drawn v) (drawn-numbered v) old w drawn-is
+      is-valid = asked ∙ tested v old w drawn-is
 
       pub drawn-no : not q ≡ true → false ≡ areSome v
       drawn-no denied = drawn-not (sym is-valid ∙ not-true q denied)
@@ -185,7 +199,7 @@ module _ (v : List ℕ) (r : Bool) (fits : r ≡ countsFit v) where
       unfolding areSome
       some-asked granted b e =
           let sound : valid (drawn v) ≡ true = sym is-valid ∙ not-false q granted in
-          simp (counts-yes, sound) (e ∙ ap (begins v) (spelled (drawn v) (drawn-numbered v) old w drawn-is))
+          simp (counts-yes, sound) (e ∙ ap (begins v) (spelled v old w drawn-is))
 
 -- ---- the ways out of the call that asks
 module _ (v : List ℕ) (n : ℕ) where

@@ -11,20 +11,12 @@ use native.Mathlib.Omega.{arith}
 use borrow.Author.Tests.{le-leb}
 use lib.ListN.{length, getD, replicate, length-append, length-replicate}
 use Rattle.lists.specs.Tests.{and-left, and-right}
-use Rattle.timetable.specs.Timetable.{
-  Timetable,
-  validStation,
-  validStations,
-  validTrips,
-  counted,
-  numbered,
-  valid,
-}
+use Rattle.timetable.specs.Timetable.{Timetable, validStation, validStations, validWalks, valid}
 use Rattle.timetable.specs.Words.{timetableOf}
 use Rattle.timetable.specs.Access.{spelled-valid}
 use Rattle.accepted.specs.Led.{Led}
 use Rattle.accepted.specs.Leads.{led-valid, valid-led}
-use Rattle.accepted.specs.Valid.{is-valid}
+use Rattle.accepted.specs.Valid.{is-valid, valid-is}
 use Rattle.lines.specs.Lines.{lines}
 use Rattle.lines.specs.Once.{onLines}
 use Rattle.lines_found.specs.Bounds.{all-on-lines, no-more-lines}
@@ -72,17 +64,26 @@ unfolding validStations validStation
 plain-stations zero = refl
 plain-stations (suc n) = plain-stations n
 
--- change values aside, a valid timetable is valid
+-- the ways of changing aside, a valid timetable is valid
 plain-valid : (t : Timetable) → valid t ≡ true → valid (plain t) ≡ true
-unfolding valid counted numbered
+unfolding validWalks
 plain-valid t y =
     let n = length (t .stations) in
-    let stations : Bool = validStations (t .stations) in
-    let trips : Bool = validTrips n (t .trips) in
-    let front = and-left (counted t && numbered t && stations) trips y in
-    let counts = and-left (counted t && numbered t) stations front in
-    rw (length-replicate n plainStation, counts, plain-stations n)
-    (and-right (counted t && numbered t && stations) trips y)
+    let is = is-valid t y in
+    let few : length (replicate n plainStation) ≡ n = length-replicate n plainStation in
+    valid-is (plain t)
+    (record {
+      least = omega (arith, few, is .least);
+      stations = omega (arith, few, is .stations);
+      walks = omega arith;
+      trips = is .trips;
+      stops = is .stops;
+      numbers = is .numbers;
+      climbs = is .climbs;
+      each-station = plain-stations n;
+      each-walk = refl;
+      each-trip = rw few (is .each-trip);
+    })
 
 -- and its line tables are the same
 plain-places : (t : Timetable) (k : ℕ) (ls : List (List ℕ)) → linePlaces (plain t) k ls ≡ linePlaces t k ls

@@ -1,6 +1,6 @@
--- The timetable that line tables tell, change values aside: the numbers that stand on lines, rising, and for each of
--- them the trip that is found there, whose stops are read. From it question 10 is answered for tables lent without a
--- timetable: could they come from this one? Alone shows that, if they come from any, they come from this one.
+-- The timetable that line tables tell, the ways of changing aside: the numbers that stand on lines, rising, and for
+-- each of them the trip that is found there, whose stops are read. From it question 10 is answered for tables lent
+-- without a timetable: could they come from this one? Alone shows that, if they come from any, they come from this one.
 use mathlib.Core.Bool.{Bool, cond, _&&_}
 use mathlib.Core.List.{List, [], _∷_, map}
 use Prim.Native.Nat.{ℕ, zero, suc, _+_, _-_, _%_}
@@ -89,7 +89,7 @@ drawnTrip v z = tripOn v (homeOf v (getD (drawnNumbers v) z 0))
 abbrev pub drawnTrips : List ℕ → (z n : ℕ) → List Trip
 drawnTrips v z n = map (drawnTrip v) (range z n)
 
--- change minutes 0 and change penalty 1: line tables do not tell them
+-- change minutes 0 and change penalty 1: line tables do not tell them, nor any walk
 abbrev pub plainStation : Station
 plainStation = record { minutes = 0; points = 1 }
 
@@ -97,6 +97,7 @@ unfoldable pub drawn : List ℕ → Timetable
 drawn v =
     record {
       stations = replicate (getD v 0 0) plainStation;
+      walks = [];
       numbers = drawnNumbers v;
       trips = drawnTrips v 0 (length (drawnNumbers v));
     }

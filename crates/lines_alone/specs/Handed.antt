@@ -1,18 +1,17 @@
 -- What is handed out for a line: the numbers of its trips, as the timetable that the line tables tell has them, and a
 -- piece that lies within the slice.
-use mathlib.Core.Path.{_≡_, refl, sym, ap, subst, _∙_}
+use mathlib.Core.Path.{_≡_, refl, sym, ap, _∙_}
 use mathlib.Core.Bool.{Bool, true, false, _&&_}
 use mathlib.Core.List.{List, [], _∷_, _++_, map, append-assoc}
 use Prim.Native.Nat.{ℕ, _+_, _-_, _≤_, _<_}
 use native.Mathlib.Omega.{arith}
 use borrow.Author.Tests.{leb-true, eq-eqb}
-use lib.Dec.{T, leb}
+use lib.Dec.{leb}
 use lib.ListN.{length, getD, take, drop, length-map, length-append, List·getD-map}
 use lib.Seq.{take-at, drop-at, take-all, getD-take}
 use Rattle.questions.specs.Question.{ask, firstNo}
 use Rattle.lists.specs.Tests.{and-left, and-right}
 use Rattle.timetable.specs.Timetable.{Trip, Timetable, numberOf}
-use Rattle.timetable.specs.Numbers.{numbers-many}
 use Rattle.timetable.specs.Words.{words}
 use Rattle.lines.specs.Lines.{lines, lineNumbers, course}
 use Rattle.lines_tables.specs.Tables.{courseWords, lineTimes, lineWords, linePlaces, allLineWords, callPlaces}
@@ -21,8 +20,7 @@ use Rattle.lines_lookup.specs.Lookup.{lineCount, linePlace, lineAt}
 use Rattle.lines_lookup.specs.Told.{Holds}
 use Rattle.lines_lookup.specs.Places.{Stands, part-inside, left-stands, right-stands}
 use Rattle.lines_lookup.specs.Holding.{length-linePlaces, holding, line-stands}
-use Rattle.accepted.specs.Spelled.{words-spell}
-use Rattle.accepted.specs.Question9.{valid-yes}
+use Rattle.accepted.specs.Question9.{valid-yes, valid-spells}
 use Rattle.lines_check.specs.Built.{begins-holds, tables-fit}
 use Rattle.lines_alone.specs.Drawn.{drawn, areSome}
 use Rattle.lines_alone.specs.Facts.{Some, they-fit, they-are}
@@ -117,8 +115,7 @@ module _ (v : List ℕ) (n line : ℕ) (granted : pieceNumber v n line ≡ 0) wh
   told-few : length told ≤ 16384
   told-few =
       let w = words (drawn v) ++ [] in
-      let many = numbers-many (drawn v) (subst T (sym (some .sound)) tt) in
-      let is = words-spell (drawn v) [] many in
+      let is = valid-spells (drawn v) [] (some .sound) in
       omega (arith, tables-fit w (valid-yes (drawn v) [] (some .sound)), ap (λ t. length (tableWords t)) is)
 
   told-holds : Holds told (drawn v)

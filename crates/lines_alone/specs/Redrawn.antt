@@ -435,11 +435,13 @@ module _ (v : List ℕ) (timetable : Timetable) (told : Told v timetable) where
         ∙ drawn-there number home (T-true (valid timetable) ok) sound
         ∙ ap (λ k. getD t k []) is
 
--- ---- what is drawn: numbers and trips of the timetable, and as many stations, which say nothing of changes
+-- ---- what is drawn: numbers and trips of the timetable, and as many stations, which say nothing of changes, and no
+-- walks
 abbrev pub plain : Timetable → Timetable
 plain t =
     record {
       stations = replicate (length (t .stations)) plainStation;
+      walks = [];
       numbers = t .numbers;
       trips = t .trips;
     }
@@ -452,4 +454,10 @@ redrawn v t told sound =
     let many = ap length numbers ∙ numbers-many t ok in
     let trips =
     ap (λ k. map (drawnTrip v) (range 0 k)) many ∙ read-all [] (drawnTrip v) (t .trips) (drawn-trip v t told ok) in
-    λ i. record { stations = replicate (told .stations i) plainStation; numbers = numbers i; trips = trips i }
+    λ i.
+    record {
+      stations = replicate (told .stations i) plainStation;
+      walks = [];
+      numbers = numbers i;
+      trips = trips i;
+    }

@@ -53,7 +53,7 @@ module _ (v : List ℕ) (t : Timetable) (i : ℕ) (l : List ℕ) (told : LineTol
 -- ---- the lines of a valid timetable
 few-stations : (t : Timetable) → T (valid t) → length (t .stations) ≤ 64
 unfolding valid counted
-few-stations t okay = search reads depth 7
+few-stations t okay = search reads depth 9
 
 module _ (t : Timetable) (okay : valid t ≡ true) (i : ℕ) (h : i < length (lines (t .trips))) where
   abbrev l : List ℕ

@@ -6,7 +6,7 @@ use Prim.Native.Nat.{ℕ, suc, _+_, _*_, _≤_, _<_}
 use native.Mathlib.Omega.{arith}
 use lib.Dec.{T}
 use Rattle.timetable.specs.Timetable.{Timetable, valid}
-use Rattle.connections.specs.Connections.{net}
+use Rattle.connections.specs.Connections.{Transfer, net}
 use Rattle.connections.specs.Sound.{sound, ride-cheap, change-priced}
 use Rattle.optimality.specs.Along.{Along, Reaches}
 
@@ -16,7 +16,7 @@ penaltyMost = 3166900
 
 module _ (t : Timetable) (v : T (valid t)) (a d : ℕ) where
   -- by minute u at most 1,100 points for each minute since the start
-  reach-rate : (rev : List ℕ) (x u p : ℕ) → Along (net t) a d rev x u p → p + 1100 * d ≤ 1100 * u
+  reach-rate : (rev : List Transfer) (x u p : ℕ) → Along (net t) a d rev x u p → p + 1100 * d ≤ 1100 * u
   reach-rate [] x u p g = omega (arith, g .1, g .2)
   reach-rate (y ∷ rev) x u p g =
       let r = g .ride in
@@ -25,7 +25,7 @@ module _ (t : Timetable) (v : T (valid t)) (a d : ℕ) where
       let c = change-priced t v (g .change) (g .changes .listed) .points-most in
       omega (arith, g .timely, g .total, reach-rate rev (r .from) (r .depart) (g .paid) (g .below))
 
-  reach-bound : (rev : List ℕ) (x u p : ℕ) → Along (net t) a d rev x u p → p ≤ penaltyMost
+  reach-bound : (rev : List Transfer) (x u p : ℕ) → Along (net t) a d rev x u p → p ≤ penaltyMost
   reach-bound [] x u p g = omega (arith, g .2)
   reach-bound (y ∷ rev) x u p g =
       let r = g .ride in

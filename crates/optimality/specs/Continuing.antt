@@ -2,30 +2,31 @@
 -- of an optimal connection exactly if one who went along it arrives on the frontier; it is a beginning of one exactly
 -- if one who went along it can go on to a frontier within its penalty.
 use mathlib.Core.Path.{_≡_, refl, sym, ap, subst, _∙_}
-use mathlib.Core.Logic.{_↔_, _≢_}
-use mathlib.Core.List.{List, [], _∷_, _++_, reverseAux}
+use mathlib.Core.Logic.{_↔_}
+use mathlib.Core.List.{List, [], _∷_, reverseAux}
 use Prim.Native.Nat.{ℕ, _+_, _≤_}
 use native.Mathlib.Omega.{arith}
-use lib.ListN.{length, length-append}
+use lib.ListN.{length}
 use Rattle.lists.specs.Lists.{tail}
 use Rattle.results.specs.Picks.{lead}
-use Rattle.connections.specs.Connections.{Net, Connection, direct, onward, Feasible, ready, arrival, penalty, stations}
+use Rattle.connections.specs.Connections.{Transfer, transfer, Net, Connection, direct, onward, Feasible, ready, arrival}
+use Rattle.connections.specs.Connections.{penalty, stations}
 use Rattle.connections.specs.Sound.{Sound}
-use Rattle.optimality.specs.Along.{Along, Ends, Frontier}
+use Rattle.optimality.specs.Along.{readBack, Along, Ends, Frontier}
 use Rattle.optimality.specs.AlongLaws.{boarded, changed, start, Joined, join, reverse-twice, sequence-ends}
 use Rattle.optimality.specs.AlongLaws.{Sequenced}
 use Rattle.optimality.specs.Frontiers.{arrives, optimal-frontier, frontier-optimal}
 use Rattle.optimality.specs.Ways.{Way}
 
 module _ (n : Net) (ok : Sound n) (a t : ℕ) where
-  -- one who changed at these stations, the last one first, arrives at b on its frontier
-  pub record Closing (rev : List ℕ) (b : ℕ) : Type 0 where
+  -- one who had these changes, the last one first, arrives at b on its frontier
+  pub record Closing (rev : List Transfer) (b : ℕ) : Type 0 where
     pub minute : ℕ
     pub paid : ℕ
     pub ends : Ends n a t rev b minute paid
     pub frontier : Frontier n a t b minute paid
 
-  closing-way : (rev : List ℕ) (b : ℕ) → Closing rev b → Way n a t b (reverseAux rev (b ∷ []))
+  closing-way : (rev : List Transfer) (b : ℕ) → Closing rev b → Way n a t b (readBack rev (b ∷ []))
   closing-way rev b k =
       record { connection = c; optimal = frontier-optimal n a t ok b c (s .feasible) here; is = s .sequence }
     where
@@ -38,7 +39,7 @@ module _ (n : Net) (ok : Sound n) (a t : ℕ) where
       here : Frontier n a t b (arrival c) (penalty c)
       here = rw (s .arrives, s .pays) (k .frontier)
 
-  way-closing : (rev : List ℕ) (b : ℕ) → Way n a t b (reverseAux rev (b ∷ [])) → Closing rev b
+  way-closing : (rev : List Transfer) (b : ℕ) → Way n a t b (readBack rev (b ∷ [])) → Closing rev b
   way-closing rev b w =
       let c = w .connection in
       record {
@@ -57,11 +58,11 @@ module _ (n : Net) (ok : Sound n) (a t : ℕ) where
       }
 
   -- the sequences of the optimal connections at minute t to b
-  pub closing-exactly : (rev : List ℕ) (b : ℕ) → Closing rev b ↔ Way n a t b (reverseAux rev (b ∷ []))
+  pub closing-exactly : (rev : List Transfer) (b : ℕ) → Closing rev b ↔ Way n a t b (readBack rev (b ∷ []))
   closing-exactly rev b = (closing-way rev b, way-closing rev b)
 
-  -- one who changed at these stations goes on by the stations q to the frontier of b, and pays no more than it allows
-  pub record Continuing (rev q : List ℕ) (b : ℕ) : Type 0 where
+  -- one who had these changes goes on by the stations q to the frontier of b, and pays no more than it allows
+  pub record Continuing (rev : List Transfer) (q : List ℕ) (b : ℕ) : Type 0 where
     pub x : ℕ
     pub u : ℕ
     pub paid : ℕ
@@ -74,12 +75,12 @@ module _ (n : Net) (ok : Sound n) (a t : ℕ) where
     pub within : paid + penalty rest ≤ allowed
 
   -- whoever stays within what a frontier allows is on it
-  continuing-way : (rev q : List ℕ) (b : ℕ) → Continuing rev q b → Way n a t b (reverseAux rev q)
+  continuing-way : (rev : List Transfer) (q : List ℕ) (b : ℕ) → Continuing rev q b → Way n a t b (readBack rev q)
   continuing-way rev q b k =
       record {
         connection = j .whole;
         optimal = frontier-optimal n a t ok b (j .whole) (j .feasible) here;
-        is = j .sequence ∙ ap (reverseAux rev) (k .is);
+        is = j .sequence ∙ ap (readBack rev) (k .is);
       }
     where
       j : Joined n a t rev (k .paid) b (k .rest)
@@ -100,7 +101,7 @@ module _ (n : Net) (ok : Sound n) (a t : ℕ) where
           (subst (λ p. Frontier n a t b (arrival (k .rest)) p) allowed (k .frontier))
 
   -- A connection parted at a change: what was done so far, and the rest.
-  record Parted (rev q : List ℕ) (b v p : ℕ) : Type 0 where
+  record Parted (rev : List Transfer) (q : List ℕ) (b v p : ℕ) : Type 0 where
     x : ℕ
     u : ℕ
     paid : ℕ
@@ -111,9 +112,15 @@ module _ (n : Net) (ok : Sound n) (a t : ℕ) where
     arrives : arrival rest ≡ v
     pays : paid + penalty rest ≡ p
 
-  part-from : (mid pre q : List ℕ) (x u p b : ℕ) (c : Connection) → Along n a t pre x u p → Feasible n x u b c
-      → stations c ≡ mid ++ q → q ≢ [] → Parted (reverseAux mid pre) q b (arrival c) (p + penalty c)
-  part-from [] pre q x u p b c g f e h =
+  -- the stations of changes in their order, and then q
+  readOn : List Transfer → List ℕ → List ℕ
+  readOn [] q = q
+  readOn (y ∷ l) q = y .alighted ∷ y .boarded ∷ readOn l q
+
+  part-from : (mid pre : List Transfer) (q : List ℕ) (x u p b : ℕ) (c : Connection) → Along n a t pre x u p
+      → Feasible n x u b c → stations c ≡ readOn mid q → Parted (reverseAux mid pre) q b (arrival c) (p + penalty c)
+  unfolding readOn
+  part-from [] pre q x u p b c g f e =
       record {
         x = x;
         u = u;
@@ -125,55 +132,53 @@ module _ (n : Net) (ok : Sound n) (a t : ℕ) where
         arrives = refl;
         pays = refl;
       }
-  part-from (y ∷ mid) pre q x u p b (direct r) g f e h =
-      absurd (h (none-left q (omega (arith, ap length e, length-append mid q))))
-    where
-      none-left : (q : List ℕ) → length q ≡ 0 → q ≡ []
-      none-left [] z = refl
-      none-left (x ∷ q) z = absurd (omega arith)
-  part-from (y ∷ mid) pre q x u p b (onward r w c) g f e h =
-      restated (part-from mid (w .from ∷ pre) q (w .to) (ready r w) paid b c next (f .2) (ap tail e) h)
+  part-from (y ∷ mid) pre q x u p b (direct r) g f e = absurd (omega (arith, ap length e))
+  part-from (y ∷ mid) pre q x u p b (onward r w c) g f e =
+      restated
+      (part-from mid (transfer w ∷ pre) q (w .to) (ready r w) paid b c next (f .2) (ap (λ l. tail (tail l)) e))
     where
       paid : ℕ
       paid = p + r .points + w .points
 
-      next : Along n a t (w .from ∷ pre) (w .to) (ready r w) paid
+      next : Along n a t (transfer w ∷ pre) (w .to) (ready r w) paid
       next =
           changed n a t pre p (ready r w) r w (boarded n a t pre x u p r g (f .0)) (f .0 .listed) (f .1) (omega arith)
 
-      same : w .from ≡ y
-      same = ap lead e
+      same : transfer w ≡ y
+      same = λ i. record { alighted = lead (e i); boarded = lead (tail (e i)) }
 
-      restated : Parted (reverseAux mid (w .from ∷ pre)) q b (arrival c) (paid + penalty c)
+      restated : Parted (reverseAux mid (transfer w ∷ pre)) q b (arrival c) (paid + penalty c)
           → Parted (reverseAux mid (y ∷ pre)) q b (arrival c) (p + (r .points + w .points + penalty c))
       restated k =
           subst
           (λ z. Parted (reverseAux mid (z ∷ pre)) q b (arrival c) (p + (r .points + w .points + penalty c)))
           same
-          (subst (λ s. Parted (reverseAux mid (w .from ∷ pre)) q b (arrival c) s) (omega arith) k)
+          (subst (λ s. Parted (reverseAux mid (transfer w ∷ pre)) q b (arrival c) s) (omega arith) k)
 
-  reverse-append : (l m q : List ℕ) → reverseAux l (m ++ q) ≡ reverseAux l m ++ q
-  reverse-append [] m q = refl
-  reverse-append (x ∷ l) m q = reverse-append l (x ∷ m) q
+  read-turned : (rev l : List Transfer) (q : List ℕ) → readBack rev (readOn l q) ≡ readOn (reverseAux rev l) q
+  unfolding readOn
+  read-turned [] l q = refl
+  read-turned (y ∷ rev) l q = read-turned rev (y ∷ l) q
 
-  part : (rev q : List ℕ) (b : ℕ) (c : Connection) → Feasible n a t b c → stations c ≡ reverseAux rev q → q ≢ []
-      → Parted rev q b (arrival c) (penalty c)
-  part rev q b c f e h =
+  part : (rev : List Transfer) (q : List ℕ) (b : ℕ) (c : Connection) → Feasible n a t b c
+      → stations c ≡ readBack rev q → Parted rev q b (arrival c) (penalty c)
+  unfolding readOn
+  part rev q b c f e =
       subst
       (λ l. Parted l q b (arrival c) (penalty c))
       (reverse-twice rev [])
       (subst (λ p. Parted (reverseAux mid []) q b (arrival c) p) (omega arith) parted)
     where
-      mid : List ℕ
+      mid : List Transfer
       mid = reverseAux rev []
 
       parted : Parted (reverseAux mid []) q b (arrival c) (0 + penalty c)
-      parted = part-from mid [] q a t 0 b c (start n a t) f (e ∙ reverse-append rev [] q) h
+      parted = part-from mid [] q a t 0 b c (start n a t) f (e ∙ read-turned rev [] q)
 
-  way-continuing : (rev q : List ℕ) (b : ℕ) → q ≢ [] → Way n a t b (reverseAux rev q) → Continuing rev q b
-  way-continuing rev q b h w =
+  way-continuing : (rev : List Transfer) (q : List ℕ) (b : ℕ) → Way n a t b (readBack rev q) → Continuing rev q b
+  way-continuing rev q b w =
       let c = w .connection in
-      let k = part rev q b c (w .optimal .feasible) (w .is) h in
+      let k = part rev q b c (w .optimal .feasible) (w .is) in
       let e = k .pays in
       record {
         x = k .x;
@@ -193,5 +198,6 @@ module _ (n : Net) (ok : Sound n) (a t : ℕ) where
       }
 
   -- the beginnings of those sequences
-  pub continuing-exactly : (rev q : List ℕ) (b : ℕ) → q ≢ [] → Continuing rev q b ↔ Way n a t b (reverseAux rev q)
-  continuing-exactly rev q b h = (continuing-way rev q b, way-continuing rev q b h)
+  pub continuing-exactly : (rev : List Transfer) (q : List ℕ) (b : ℕ)
+      → Continuing rev q b ↔ Way n a t b (readBack rev q)
+  continuing-exactly rev q b = (continuing-way rev q b, way-continuing rev q b)

@@ -7,14 +7,14 @@ use Prim.Native.Nat.{ℕ, _+_, _≤_, _<_}
 use native.Mathlib.Omega.{arith}
 use Rattle.lists.specs.Lists.{_∈_}
 use Rattle.connections.specs.Rides.{Ride}
-use Rattle.connections.specs.Connections.{Change, Net, Changes, ready}
+use Rattle.connections.specs.Connections.{Change, Transfer, transfer, Net, Changes, ready}
 use Rattle.optimality.specs.Along.{Along, Ends}
 
 -- Values are below inf where something is reached. They are asked for minutes below a limit only, below which every
 -- ride leaves: one may be ready past it, but boards no more.
 module _ (n : Net) (a t inf limit : ℕ) where
-  -- val x u is the least penalty with which one who changed at these stations can board at x at minute u
-  pub record LeastAlong (rev : List ℕ) (val : ℕ → ℕ → ℕ) : Type 0 where
+  -- val x u is the least penalty with which one who changed so can board at x at minute u
+  pub record LeastAlong (rev : List Transfer) (val : ℕ → ℕ → ℕ) : Type 0 where
     pub attained : (x u : ℕ) → val x u < inf → Along n a t rev x u (val x u)
     pub below : (x u p : ℕ) → u < limit → Along n a t rev x u p → val x u ≤ p
 
@@ -30,29 +30,29 @@ module _ (n : Net) (a t inf limit : ℕ) where
         below = λ x u p h g. omega (arith, s .at-start u (g .1) h, ap (λ y. val y u) (g .0));
       }
 
-  -- by a ride and a change at station y
-  pub record Last (y : ℕ) (val next : ℕ → ℕ → ℕ) (x u : ℕ) : Type 0 where
+  -- by a ride and a change that a pattern names so
+  pub record Last (y : Transfer) (val next : ℕ → ℕ → ℕ) (x u : ℕ) : Type 0 where
     pub ride : Ride
     pub change : Change
     pub listed : ride ∈ n .rides
     pub changes : Changes n ride change
-    pub at : change .from ≡ y
+    pub at : transfer change ≡ y
     pub to : change .to ≡ x
     pub timely : ready ride change ≤ u
     pub is : next x u ≡ val (ride .from) (ride .depart) + ride .points + change .points
 
-  pub record Stepping (y : ℕ) (val next : ℕ → ℕ → ℕ) : Type 0 where
-    pub over : (r : Ride) (w : Change) (u : ℕ) → r ∈ n .rides → Changes n r w → w .from ≡ y → ready r w ≤ u
+  pub record Stepping (y : Transfer) (val next : ℕ → ℕ → ℕ) : Type 0 where
+    pub over : (r : Ride) (w : Change) (u : ℕ) → r ∈ n .rides → Changes n r w → transfer w ≡ y → ready r w ≤ u
         → u < limit → next (w .to) u ≤ val (r .from) (r .depart) + r .points + w .points
     pub attained : (x u : ℕ) → next x u < inf → Last y val next x u
 
   module _
-      (rev : List ℕ)
+      (rev : List Transfer)
       (val : ℕ → ℕ → ℕ)
       (l : LeastAlong rev val)
       (leaves : (r : Ride) → r ∈ n .rides → r .depart < limit)
     where
-      pub step-least : (y : ℕ) (next : ℕ → ℕ → ℕ) → Stepping y val next → LeastAlong (y ∷ rev) next
+      pub step-least : (y : Transfer) (next : ℕ → ℕ → ℕ) → Stepping y val next → LeastAlong (y ∷ rev) next
       step-least y next s = record { attained = attained; below = below }
         where
           attained : (x u : ℕ) → next x u < inf → Along n a t (y ∷ rev) x u (next x u)

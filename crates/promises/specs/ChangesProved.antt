@@ -23,10 +23,8 @@ use Rattle.text.specs.Shape.{shapeBy}
 use Rattle.reading.specs.Draft.{Draft, Rules, opening, numberUnder, withLine}
 use Rattle.reading.specs.Reading.{Outcome, Accepted, Refused, complete, ended, readUnder, readExtra}
 use Rattle.reading.specs.Reading.{numberOf as lineNumberOf}
-use Rattle.accepted.specs.Valid.{is-valid}
 use Rattle.accepted.specs.Fits.{words-most}
-use Rattle.accepted.specs.Spelled.{words-spell}
-use Rattle.accepted.specs.Question9.{valid-yes}
+use Rattle.accepted.specs.Question9.{valid-yes, valid-spells}
 use Rattle.accepted.specs.Changed.{cancelled-valid}
 use Rattle.accepted.specs.Extra.{extra-valid}
 use Rattle.lines_tables.specs.Building.{slicesLeast, lineCount}
@@ -81,7 +79,7 @@ module _ (plan : Timetable) (timetable lines : List ℕ) (long-timetable : slice
   past = drop (length (words plan)) timetable
 
   put-spells : timetableOf (put 0 (words plan) timetable) ≡ plan
-  put-spells = ap timetableOf (put-front (words plan) timetable) ∙ words-spell plan past (is-valid plan v .numbers)
+  put-spells = ap timetableOf (put-front (words plan) timetable) ∙ valid-spells plan past v
 
   put-yes : isTimetable (put 0 (words plan) timetable) ≡ true
   put-yes = ap isTimetable (put-front (words plan) timetable) ∙ valid-yes plan past v

@@ -9,3 +9,4 @@ pub mod FromWords
 pub mod FromAfresh
 pub mod Proved
 pub mod ChangesProved
+pub mod WithoutWalks

@@ -30,7 +30,7 @@ use Rattle.promises.specs.DirectQuery.{directReply, directWords}
 use Rattle.promises.specs.StoreCall.{storeReply, storeAfter}
 use Rattle.promises.specs.Query.{askReply, askWords}
 
--- ---- The calls: the `ensures` lines of host/src/lib.rt, one record for each call. Of the slice that a call writes to,
+-- ---- The calls: the `ensures` lines of dairyepoch/src, one record for each call. Of the slice that a call writes to,
 -- `before` and `after` are the words; of working space, `work` is the length.
 
 -- dairyepoch_read
@@ -180,9 +180,9 @@ nodeCount plan source = length (nodes (stored (net plan) source))
 abbrev pub arcCount : Timetable → (source : ℕ) → ℕ
 arcCount plan source = length (arcs (stored (net plan) source))
 
--- "2 + 2n + 2m"
+-- document 02, One: "a store has 2 + 3n + 2m words"
 abbrev pub wordCount : Timetable → (source : ℕ) → ℕ
-wordCount plan source = 2 + 2 * nodeCount plan source + 2 * arcCount plan source
+wordCount plan source = 2 + 3 * nodeCount plan source + 2 * arcCount plan source
 
 -- "Is the answer or store slice long enough, and for a store are n and m at most 16,383?"
 pub record StoreFits (plan : Timetable) (source room : ℕ) : Type 0 where
@@ -194,7 +194,7 @@ pub record Stores (plan : Timetable) (source : ℕ) (before after : List ℕ) (r
   -- 15 exactly if that has a no, and then nothing is written
   pub short : (reply ≡ refusal 15) ↔ ¬ StoreFits plan source (length before)
   pub short-writes : ¬ StoreFits plan source (length before) → after ≡ before
-  -- "A store call returns its words, 2 + 2n + 2m"; "Words past a result keep their values"
+  -- "A store call returns its words", 2 + 3n + 2m; "Words past a result keep their values"
   pub replies : StoreFits plan source (length before) → reply ≡ wordCount plan source
   pub writes : StoreFits plan source (length before)
       → after ≡ storeWords (net plan) source ++ drop (wordCount plan source) before

@@ -1,5 +1,6 @@
 -- What the store call answers and writes. Document 01: "One store per source, in 16-bit words."; "A store call returns
--- its words, 2 + 2n + 2m"; "Is the answer or store slice long enough, and for a store are n and m at most 16,383? 15".
+-- its words"; "Is the answer or store slice long enough, and for a store are n and m at most 16,383? 15". Document 02,
+-- One: "a store has 2 + 3n + 2m words".
 use mathlib.Core.Path.{_≡_}
 use mathlib.Core.Bool.{Bool, _&&_}
 use mathlib.Core.List.{List, [], _∷_, _++_}

@@ -2,7 +2,7 @@
 use mathlib.Core.Path.{_≡_, refl, sym, ap, subst, _∙_}
 use mathlib.Core.Bool.{true, false}
 use mathlib.Core.List.{List, [], _∷_}
-use Prim.Native.Nat.{ℕ, _+_, _-_, _≤_, _<_}
+use Prim.Native.Nat.{ℕ, _+_, _-_, _*_, _≤_, _<_}
 use native.Mathlib.Omega.{arith}
 use lib.ListN.{length, getD}
 use Rattle.timetable.specs.Words.{timetableOf, isTimetable}
@@ -13,27 +13,28 @@ use Rattle.query_costs.specs.Lowered.{Lowered}
 use Rattle.query_costs.specs.Layering.{takenAll, startOf, firstValue}
 use Rattle.query_costs.specs.Readies.{Ready, start-ready}
 use Rattle.query_costs.specs.Turning.{held, held-first}
-use Rattle.query_costs.specs.Patterns.{changesTo, changes-more, nowhere, nowhere-lowered}
+use Rattle.query_costs.specs.Patterns.{changesTo, changes-none, changes-more, nowhere, nowhere-lowered}
 use Rattle.query_costs.specs.Onward.{Listed, Stations, changeWords, is-valid, step-on, end-on}
 
--- the next station of the path
-pub listed-here : (w path : List ℕ) (r j y : ℕ) → Stations w path r → j < r → y ≡ getD path j 0 → Listed w y
-listed-here w path r j y s h e = subst (Listed w) (sym e) (s .listed j h)
+-- the next stations of the path
+pub alighted-here : (w path : List ℕ) (r j y : ℕ) → Stations w path (2 * r - 1) → j < r → y ≡ getD path (2 * j) 0
+    → Listed w y
+alighted-here w path r j y s h e = subst (Listed w) (sym e) (s .listed (2 * j) (omega arith))
+
+pub boarded-here : (w path : List ℕ) (r j x : ℕ) → Stations w path (2 * r - 1) → j < r → ¬ (j + 1 ≡ r)
+    → x ≡ getD path (2 * j + 1) 0 → Listed w x
+boarded-here w path r j x s h more e = subst (Listed w) (sym e) (s .listed (2 * j + 1) (omega (arith, more)))
 
 module _ (w : List ℕ) (accepted : isTimetable w ≡ true) where
   abbrev n : Net
   n = net (timetableOf w)
-
-  no-changes : (path : List ℕ) → changesTo path 0 ≡ []
-  unfolding changesTo
-  no-changes path = refl
 
   pub ready-first : (a t : ℕ) (path p q : List ℕ) → t < 2880 → p ≡ startOf t
       → Ready n a t (changesTo path 0) a t (held false p q)
   ready-first a t path p q h e =
       subst
       (λ l. Ready n a t l a t (held false p q))
-      (sym (no-changes path))
+      (sym (changes-none path))
       (subst
       (Ready n a t [] a t)
       (sym (held-first false p q refl ∙ e))
@@ -45,57 +46,63 @@ module _ (w : List ℕ) (accepted : isTimetable w ≡ true) where
       (path : List ℕ)
       (r j : ℕ)
       (more : j < r)
-      (long : r ≤ length path)
-      (stations : Stations w path r)
+      (stations : Stations w path (2 * r - 1))
       (a t x e : ℕ)
       (i : Listed w x)
       (k : List ℕ)
       (is : Ready n a t (changesTo path j) x e k)
       (y : ℕ)
-      (here : y ≡ getD path j 0)
+      (here : y ≡ getD path (2 * j) 0)
     where
-      pub ready-next : (after : List ℕ) → after ≡ changeWords w k y (allRead v x e y)
-          → (first : ℕ) → first ≡ firstValue after → Ready n a t (changesTo path (j + 1)) y first after
-      ready-next after h first f =
-          subst
-          (λ l. Ready n a t l y first after)
-          (sym (changes-more path j (omega arith) ∙ ap (λ z. z ∷ changesTo path j) (sym here)))
-          (subst
-          (λ m. Ready n a t (y ∷ changesTo path j) y m after)
-          (sym f)
-          (subst
-          (λ l. Ready n a t (y ∷ changesTo path j) y (firstValue l) l)
-          (sym h)
-          (step-on w accepted v own x i a t (changesTo path j) e k is y (listed-here w path r j y stations more here))))
-
       -- the last ride
       pub ended : j + 1 ≡ r → (old best after : List ℕ) → length old ≡ 2880 → best ≡ old
           → after ≡ takenAll k 0 0 best (allRead v x e y)
-          → Lowered n a t (changesTo path (r - 1)) (getD path (r - 1) 0) old after
+          → Lowered n a t (changesTo path (r - 1)) (getD path (2 * r - 2) 0) old after
       ended at old best after size same h =
           let last : j ≡ r - 1 = omega (arith, at) in
+          let end : 2 * j ≡ 2 * r - 2 = omega (arith, at) in
           let all = h ∙ ap (λ b. takenAll k 0 0 b (allRead v x e y)) same in
           let lowered = end-on w accepted v own x i a t (changesTo path j) e k is y old size in
           subst
-          (λ m. Lowered n a t (changesTo path m) (getD path m 0) old after)
+          (λ m. Lowered n a t (changesTo path m) (getD path (2 * r - 2) 0) old after)
           last
           (subst
           (λ z. Lowered n a t (changesTo path j) z old after)
-          here
+          (here ∙ ap (λ m. getD path m 0) end)
           (subst (Lowered n a t (changesTo path j) y old) (sym all) lowered))
 
-      -- no one is ready any more
-      pub stopped : ¬ (j + 1 ≡ r) → (after : List ℕ) → after ≡ changeWords w k y (allRead v x e y)
-          → (first : ℕ) → first ≡ firstValue after → first ≤ 2880 → 2880 ≤ first
-          → (old best : List ℕ) → best ≡ old
-          → Lowered n a t (changesTo path (r - 1)) (getD path (r - 1) 0) old best
-      stopped at after h first f most least old best same =
-          let end : first ≡ 2880 = omega arith in
-          let last = subst (λ m. Ready n a t (changesTo path (j + 1)) y m after) end (ready-next after h first f) in
-          let none = nowhere (timetableOf w) (is-valid w accepted) a t (changesTo path (j + 1)) y after last in
-          let later : j + 1 ≤ r - 1 = omega (arith, at) in
-          let b = getD path (r - 1) 0 in
-          subst
-          (Lowered n a t (changesTo path (r - 1)) (getD path (r - 1) 0) old)
-          (sym same)
-          (nowhere-lowered (timetableOf w) (is-valid w accepted) a t path (j + 1) (r - 1) later none b old)
+      -- a change more, to the station boarded at
+      module _ (z : ℕ) (there : z ≡ getD path (2 * j + 1) 0) where
+        named : record { alighted = y; boarded = z } ∷ changesTo path j ≡ changesTo path (j + 1)
+        named = (λ i. record { alighted = here i; boarded = there i } ∷ changesTo path j) ∙ sym (changes-more path j)
+
+        pub ready-next : (after : List ℕ) → after ≡ changeWords w k y z (allRead v x e y)
+            → (first : ℕ) → first ≡ firstValue after → Ready n a t (changesTo path (j + 1)) z first after
+        ready-next after h first f =
+            subst
+            (λ l. Ready n a t l z first after)
+            named
+            (subst
+            (λ m. Ready n a t (record { alighted = y; boarded = z } ∷ changesTo path j) z m after)
+            (sym f)
+            (subst
+            (λ l. Ready n a t (record { alighted = y; boarded = z } ∷ changesTo path j) z (firstValue l) l)
+            (sym h)
+            (step-on w accepted v own x i a t (changesTo path j) e k is y
+            (alighted-here w path r j y stations more here) z)))
+
+        -- no one is ready any more
+        pub stopped : ¬ (j + 1 ≡ r) → (after : List ℕ) → after ≡ changeWords w k y z (allRead v x e y)
+            → (first : ℕ) → first ≡ firstValue after → first ≤ 2880 → 2880 ≤ first
+            → (old best : List ℕ) → best ≡ old
+            → Lowered n a t (changesTo path (r - 1)) (getD path (2 * r - 2) 0) old best
+        stopped at after h first f most least old best same =
+            let end : first ≡ 2880 = omega arith in
+            let last = subst (λ m. Ready n a t (changesTo path (j + 1)) z m after) end (ready-next after h first f) in
+            let none = nowhere (timetableOf w) (is-valid w accepted) a t (changesTo path (j + 1)) z after last in
+            let later : j + 1 ≤ r - 1 = omega (arith, at) in
+            let b = getD path (2 * r - 2) 0 in
+            subst
+            (Lowered n a t (changesTo path (r - 1)) (getD path (2 * r - 2) 0) old)
+            (sym same)
+            (nowhere-lowered (timetableOf w) (is-valid w accepted) a t path (j + 1) (r - 1) later none b old)

@@ -6,6 +6,7 @@ use Rattle.lists.specs.Lists.{_∈_}
 use Rattle.connections.specs.Rides.{Ride}
 use Rattle.optimality.specs.Bounds.{penaltyMost}
 use Rattle.query_rides.specs.declared.Ride.{Ride as RideStruct}
+use Rattle.query_rides.specs.declared.Ways.{Ways}
 
 -- a ride as the code tells it, for one who has paid what p holds for its departure
 pub record Fits (p : List ℕ) (s : RideStruct) : Type 0 where
@@ -19,3 +20,10 @@ pub record Fitting (p : List ℕ) (l : List Ride) : Type 0 where
   pub depart : (r : Ride) → r ∈ l → r .depart < 2880
   pub low : (r : Ride) → r ∈ l → getD p (r .depart) 0 ≤ penaltyMost
   pub few : (r : Ride) → r ∈ l → r .points ≤ 287900
+
+-- what each way of changing takes and costs
+pub record Priced (g : Ways) : Type 0 where
+  pub stay-minutes : g .here .minutes .0 ≤ 240
+  pub stay-points : g .here .points .0 ≤ 1000
+  pub walk-minutes : g .walk .minutes ≤ 240
+  pub walk-points : g .walk .points ≤ 1000

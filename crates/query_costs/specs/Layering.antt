@@ -1,10 +1,11 @@
 -- How the code comes from the least penalties before a ride to those behind it. No reader of the promise needs this
 -- file: Readies shows what these words say.
 use mathlib.Core.Path.{_≡_}
-use mathlib.Core.List.{List, map}
+use mathlib.Core.List.{List, [], _∷_, map}
 use Prim.Native.Nat.{ℕ, _+_, _<_}
 use lib.Dec.{ltb}
 use lib.ListN.{getD, set}
+use Rattle.results.specs.declared.Cost.{Cost}
 use Rattle.connections.specs.Rides.{Ride}
 use Rattle.lines_lookup.specs.First.{firstFrom}
 use Rattle.query_minutes.specs.Minutes.{noPoints, blank, noteAll}
@@ -29,13 +30,18 @@ taken p minutes points r =
 unfoldable pub takenAll : (p : List ℕ) (minutes points : ℕ) → (best : List ℕ) → List Ride → List ℕ
 takenAll p minutes points best l = noteAll best (map (taken p minutes points) l)
 
+-- once for each way of changing behind them, by what it takes and costs
+unfoldable pub takenWays : (p : List ℕ) → List Cost → (best : List ℕ) → List Ride → List ℕ
+takenWays p [] best l = best
+takenWays p (c ∷ costs) best l = takenWays p costs (takenAll p (c .minutes .0) (c .points .0) best l) l
+
 -- before the first ride
 unfoldable pub startOf : (minute : ℕ) → List ℕ
 startOf minute = lowest noPoints (set blank minute 0)
 
--- behind some rides and a change that takes so many minutes and points
-unfoldable pub stepOf : (p : List ℕ) (minutes points : ℕ) → List Ride → List ℕ
-stepOf p minutes points l = lowest noPoints (takenAll p minutes points blank l)
+-- behind some rides and a change by one of some ways
+unfoldable pub stepOf : (p : List ℕ) → List Cost → List Ride → List ℕ
+stepOf p costs l = lowest noPoints (takenWays p costs blank l)
 
 -- the first minute with a penalty, or the one behind all
 unfoldable pub firstValue : List ℕ → ℕ

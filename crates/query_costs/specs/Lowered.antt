@@ -5,7 +5,7 @@ use mathlib.Core.Logic.{_⊎_}
 use mathlib.Core.List.{List}
 use Prim.Native.Nat.{ℕ, _≤_}
 use lib.ListN.{length, getD}
-use Rattle.connections.specs.Connections.{Net}
+use Rattle.connections.specs.Connections.{Transfer, Net}
 use Rattle.optimality.specs.Along.{Ends}
 use Rattle.query_minutes.specs.Minutes.{noPoints}
 
@@ -13,8 +13,8 @@ use Rattle.query_minutes.specs.Minutes.{noPoints}
 abbrev pub kept : List ℕ → (minute : ℕ) → ℕ
 kept l m = getD l m noPoints
 
--- for a start at station a from minute t on, with changes at the stations of rev, the last one first, and the end at b
-pub record Lowered (n : Net) (a t : ℕ) (rev : List ℕ) (b : ℕ) (old new : List ℕ) : Type 0 where
+-- for a start at station a from minute t on, with the changes of rev, the last one first, and the end at b
+pub record Lowered (n : Net) (a t : ℕ) (rev : List Transfer) (b : ℕ) (old new : List ℕ) : Type 0 where
   pub long : length new ≡ length old
   pub lower : (m : ℕ) → kept new m ≤ kept old m
   pub stems : (m : ℕ) → (kept new m ≡ kept old m) ⊎ Ends n a t rev b m (kept new m)

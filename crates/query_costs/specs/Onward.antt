@@ -1,20 +1,22 @@
 -- The same for the words of a timetable and line tables that belong to it: what the code computes from ready words is
 -- ready again, or lowers the penalties as is promised.
-use mathlib.Core.Path.{_≡_, subst}
-use mathlib.Core.Bool.{true}
+use mathlib.Core.Path.{_≡_, refl, sym, subst}
+use mathlib.Core.Bool.{Bool, true, false, cond}
 use mathlib.Core.Logic.{_↔_}
 use mathlib.Core.List.{List, _∷_}
 use Prim.Native.Nat.{ℕ, _-_, _≤_, _<_}
 use native.Mathlib.Omega.{arith}
-use lib.Dec.{T}
+use borrow.Author.Tests.{ltb-true}
+use lib.Dec.{T, ltb, eqb}
 use lib.ListN.{length, getD}
 use Rattle.lists.specs.Lists.{_∈_}
 use Rattle.timetable.specs.Timetable.{Timetable, valid}
-use Rattle.timetable.specs.Words.{timetableOf, isTimetable, stationCount, stationAt}
+use Rattle.timetable.specs.Words.{timetableOf, isTimetable, stationCount, stationAt, walksTo, walkAt}
 use Rattle.timetable.specs.Check.{length-stations}
-use Rattle.timetable.specs.Access.{spelled-valid, station-is, stations-few}
+use Rattle.timetable.specs.Access.{spelled-valid, station-is}
+use Rattle.timetable.specs.Walks.{walks-rise, good-walk}
 use Rattle.connections.specs.Rides.{Ride}
-use Rattle.connections.specs.Connections.{net, Boards, Change, changeAt, noStation}
+use Rattle.connections.specs.Connections.{net, Boards, Transfer, changeAt, noStation}
 use Rattle.connections.specs.RideLaws.{changes-in}
 use Rattle.connections.specs.Sound.{sound, ride-cheap, change-priced}
 use Rattle.lines_check.specs.Question10.{areTables}
@@ -22,8 +24,10 @@ use Rattle.query_direct.specs.Candidates.{allRead}
 use Rattle.query_minutes.specs.Minutes.{noPoints}
 use Rattle.query_minutes.specs.Noted.{getD-any}
 use Rattle.query_rides.specs.Ridden.{read-rides}
+use Rattle.query_rides.specs.declared.Ways.{Ways}
+use Rattle.query_rides.specs.Ways.{stayAt, noWalk, walkTo, waysBetween, costsIn, Open, open-ways}
 use Rattle.query_costs.specs.Layering.{stepOf, takenAll, firstValue}
-use Rattle.query_costs.specs.Fitting.{Fitting}
+use Rattle.query_costs.specs.Fitting.{Fitting, Priced}
 use Rattle.query_costs.specs.Lowered.{Lowered}
 use Rattle.query_costs.specs.Readies.{Between, Ready, leaves, step-ready, end-lowered}
 
@@ -32,13 +36,13 @@ pub record Listed (w : List ℕ) (x : ℕ) : Type 0 where
   pub some : 1 ≤ x
   pub inside : x ≤ stationCount w
 
--- so are the first r stations of a path
+-- so are the first r stations that a path names
 pub record Stations (w path : List ℕ) (r : ℕ) : Type 0 where
   pub listed : (k : ℕ) → k < r → Listed w (getD path k 0)
 
--- behind some rides to station y and the change there
-unfoldable pub changeWords : (w p : List ℕ) (y : ℕ) → List Ride → List ℕ
-changeWords w p y l = stepOf p (stationAt w (y - 1) .minutes) (stationAt w (y - 1) .points) l
+-- behind some rides to station y and a change from it to station z
+unfoldable pub changeWords : (w p : List ℕ) (y z : ℕ) → List Ride → List ℕ
+changeWords w p y z l = stepOf p (costsIn (waysBetween w y z)) l
 
 module _ (w : List ℕ) (accepted : isTimetable w ≡ true) where
   abbrev t : Timetable
@@ -47,28 +51,46 @@ module _ (w : List ℕ) (accepted : isTimetable w ≡ true) where
   pub is-valid : T (valid t)
   is-valid = rw (spelled-valid w accepted) tt
 
-  pub source-few : (x : ℕ) → Listed w x → x ≤ 64
-  source-few x i = omega (arith, i .inside, stations-few w accepted)
+  -- ---- the changes from a station
+  module _ (y : ℕ) (i : Listed w y) (z : ℕ) where
+    open-here : Open (net t) y z (costsIn (waysBetween w y z))
+    open-here = open-ways w accepted y z (i .some) (i .inside)
 
-  -- ---- the change at a station
-  module _ (y : ℕ) (i : Listed w y) where
-    abbrev change : Change
-    change = changeAt (t .stations) (y - 1)
+    -- no way takes or costs much
+    stay-priced : (stationAt w (y - 1) .minutes ≤ 240) × (stationAt w (y - 1) .points ≤ 1000)
+    stay-priced =
+        let inside : y - 1 < length (t .stations) = omega (arith, i .some, i .inside, length-stations w) in
+        let is = station-is w (y - 1) noStation (omega (arith, i .some, i .inside)) in
+        let own = change-priced t is-valid (changeAt (t .stations) (y - 1)) (changes-in t (y - 1) inside) in (
+          subst (λ s. s .minutes ≤ 240) is (own .minutes-most),
+          subst (λ s. s .points ≤ 1000) is (own .points-most),
+        )
 
-    change-listed : change ∈ (net t) .changes
-    change-listed = changes-in (t .stations) (y - 1) (omega (arith, i .some, i .inside, length-stations w))
+    pub ways-priced : (g : Ways) → g ≡ waysBetween w y z → Priced g
+    unfolding waysBetween
+    ways-priced g e = subst Priced (sym e) (go (ltb (walkTo w y z) (walksTo w y)) refl)
+      where
+        k : ℕ
+        k = walkTo w y z
 
-    change-at : change .from ≡ y
-    change-at = omega (arith, i .some)
-
-    change-is : getD (t .stations) (y - 1) noStation ≡ stationAt w (y - 1)
-    change-is = station-is w (y - 1) noStation (omega (arith, i .some, i .inside))
-
-    pub change-short : stationAt w (y - 1) .minutes ≤ 240
-    change-short = subst (λ s. s .minutes ≤ 240) change-is (change-priced t is-valid change change-listed .minutes-most)
-
-    pub change-cheap : stationAt w (y - 1) .points ≤ 1000
-    change-cheap = subst (λ s. s .points ≤ 1000) change-is (change-priced t is-valid change change-listed .points-most)
+        go : (b : Bool) → ltb k (walksTo w y) ≡ b
+            → Priced (record { stays = eqb y z; here = stayAt w y; walks = b; walk = cond b (walkAt w k) noWalk })
+        go false e =
+            record {
+              stay-minutes = stay-priced .0;
+              stay-points = stay-priced .1;
+              walk-minutes = omega arith;
+              walk-points = omega arith;
+            }
+        go true e =
+            let few = walks-rise w accepted y (stationCount w) (i .inside) (omega arith) in
+            let good = good-walk w accepted k (omega (arith, ltb-true k (walksTo w y) e)) in
+            record {
+              stay-minutes = stay-priced .0;
+              stay-points = stay-priced .1;
+              walk-minutes = omega (arith, good .minutes-most);
+              walk-points = good .points-most;
+            }
 
   module _ (v : List ℕ) (own : areTables w v ≡ true) (x : ℕ) (i : Listed w x) where
     inside : x ≤ length (t .stations)
@@ -87,7 +109,7 @@ module _ (w : List ℕ) (accepted : isTimetable w ≡ true) where
         read : (r : Ride) → r ∈ allRead v x e y ↔ (Boards (net t) x e r × (r .to ≡ y))
         read = read-rides w v x y e accepted own (i .some) inside
 
-    module _ (a u : ℕ) (rev : List ℕ) (e : ℕ) (p : List ℕ) (is : Ready (net t) a u rev x e p) (y : ℕ) where
+    module _ (a u : ℕ) (rev : List Transfer) (e : ℕ) (p : List ℕ) (is : Ready (net t) a u rev x e p) (y : ℕ) where
       abbrev l : List Ride
       l = allRead v x e y
 
@@ -113,14 +135,12 @@ module _ (w : List ℕ) (accepted : isTimetable w ≡ true) where
               let k = b .listed r m in
               omega (arith, ride-cheap t is-valid r k, sound t is-valid .bounded r k)
 
-      pub step-on : Listed w y
-          → Ready (net t) a u (y ∷ rev) y (firstValue (changeWords w p y l)) (changeWords w p y l)
+      pub step-on : Listed w y → (z : ℕ)
+          → Ready (net t) a u (record { alighted = y; boarded = z } ∷ rev) z (firstValue (changeWords w p y z l))
+          (changeWords w p y z l)
       unfolding changeWords
-      step-on j =
-          subst
-          (λ s. (let q = stepOf p (s .minutes) (s .points) l in Ready (net t) a u (y ∷ rev) y (firstValue q) q))
-          (change-is y j)
-          (step-ready t is-valid a u rev x e p is y l (between y e) (change y j) (change-listed y j) (change-at y j))
+      step-on j z =
+          step-ready t is-valid a u rev x e p is y l (between y e) z (costsIn (waysBetween w y z)) (open-here y j z)
 
       pub end-on : (old : List ℕ) → length old ≡ 2880 → Lowered (net t) a u rev y old (takenAll p 0 0 old l)
       end-on old long = end-lowered t is-valid a u rev x e p is y l (between y e) old long

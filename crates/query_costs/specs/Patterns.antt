@@ -1,52 +1,65 @@
--- Along a pattern, station by station: the changes so far, the last one first, as one goes on; and a pattern on which
--- no one is ready any more has no connection.
+-- Along a pattern, change by change: the changes so far, the last one first, as one goes on; and a pattern on which no
+-- one is ready any more has no connection.
 use mathlib.Core.Path.{_≡_, refl, ap, subst, sym, _∙_}
 use mathlib.Core.Logic.{inl}
-use mathlib.Core.List.{List, [], _∷_, _++_, reverseAux}
-use Prim.Native.Nat.{ℕ, _+_, _-_, _≤_, _<_}
+use mathlib.Core.List.{List, [], _∷_, _++_}
+use Prim.Native.Nat.{ℕ, zero, suc, _+_, _-_, _*_, _≤_, _<_}
 use native.Mathlib.Numerals.{add-one}
 use native.Mathlib.Omega.{arith}
 use lib.Dec.{T}
-use lib.ListN.{length, getD, take, drop}
-use lib.Seq.{take-suc, take-add}
+use lib.ListN.{length, getD, take}
+use lib.Seq.{append-snoc, take-suc}
 use Rattle.timetable.specs.Timetable.{Timetable, valid}
-use Rattle.connections.specs.Connections.{Net, net}
-use Rattle.optimality.specs.Along.{Along}
+use Rattle.connections.specs.Connections.{Transfer, Net, net}
+use Rattle.optimality.specs.Along.{Along, readBack}
 use Rattle.optimality.specs.Bounds.{reach-most}
 use Rattle.query_costs.specs.Lowered.{Lowered}
 use Rattle.query_costs.specs.Readies.{Ready, value-here, value-some, leaves}
 
--- the first j stations of a pattern behind its source, where one changes, the last one first
-unfoldable pub changesTo : (path : List ℕ) (j : ℕ) → List ℕ
-changesTo path j = reverseAux (take j path) []
+-- change j that a path names, counted from 0
+abbrev pub changeIn : (path : List ℕ) (j : ℕ) → Transfer
+changeIn path j = record { alighted = getD path (2 * j) 0; boarded = getD path (2 * j + 1) 0 }
 
-reverse-behind : (l k m : List ℕ) → reverseAux (l ++ k) m ≡ reverseAux k (reverseAux l m)
-reverse-behind [] k m = refl
-reverse-behind (x ∷ l) k m = reverse-behind l k (x ∷ m)
+-- the first j changes that a path names, the last one first
+unfoldable pub changesTo : (path : List ℕ) (j : ℕ) → List Transfer
+changesTo path zero = []
+changesTo path (suc j) = changeIn path j ∷ changesTo path j
 
-module _ (path : List ℕ) (j : ℕ) where
-  pub changes-more : j < length path → changesTo path (j + 1) ≡ getD path j 0 ∷ changesTo path j
+module _ (path : List ℕ) where
+  pub changes-none : changesTo path 0 ≡ []
   unfolding changesTo
-  changes-more h =
-      ap (λ k. reverseAux (take k path) []) (add-one j)
-      ∙ ap (λ l. reverseAux l []) (take-suc path j 0 h)
-      ∙ reverse-behind (take j path) (getD path j 0 ∷ []) []
+  changes-none = refl
 
-  -- all stations up to a later one
-  changes-later : (k : ℕ) → changesTo path (j + k) ≡ reverseAux (take k (drop j path)) (changesTo path j)
+  pub changes-more : (j : ℕ) → changesTo path (j + 1) ≡ changeIn path j ∷ changesTo path j
   unfolding changesTo
-  changes-later k =
-      ap (λ l. reverseAux l []) (take-add j k path) ∙ reverse-behind (take j path) (take k (drop j path)) []
+  changes-more j = ap (changesTo path) (add-one j)
+
+  -- they are the stations that it names
+  pub changes-read : (j : ℕ) (q : List ℕ) → 2 * j ≤ length path → readBack (changesTo path j) q ≡ take (2 * j) path ++ q
+  unfolding changesTo
+  changes-read zero q h = refl
+  changes-read (suc j) q h =
+      let two : 2 * suc j ≡ suc (suc (2 * j)) = omega arith in
+      let one : 2 * j + 1 ≡ suc (2 * j) = omega arith in
+      let y = getD path (2 * j) 0 in
+      let x = getD path (2 * j + 1) 0 in
+      changes-read j (y ∷ x ∷ q) (omega arith)
+      ∙ sym (append-snoc (take (2 * j) path) y (x ∷ q))
+      ∙ ap (λ l. l ++ (x ∷ q)) (sym (take-suc path (2 * j) 0 (omega arith)))
+      ∙ sym (append-snoc (take (suc (2 * j)) path) x q)
+      ∙ ap (λ k. (take (suc (2 * j)) path ++ (getD path k 0 ∷ [])) ++ q) one
+      ∙ ap (λ l. l ++ q) (sym (take-suc path (suc (2 * j)) 0 (omega arith)))
+      ∙ ap (λ k. take k path ++ q) (sym two)
 
 -- no one is ready along these changes
-pub record Nowhere (n : Net) (a t : ℕ) (rev : List ℕ) : Type 0 where
+pub record Nowhere (n : Net) (a t : ℕ) (rev : List Transfer) : Type 0 where
   pub none : (x u p : ℕ) → u < 2880 → ¬ Along n a t rev x u p
 
 module _ (tt : Timetable) (ok : T (valid tt)) (a t : ℕ) where
   abbrev n : Net
   n = net tt
 
-  pub nowhere : (rev : List ℕ) (x : ℕ) (p : List ℕ) → Ready n a t rev x 2880 p → Nowhere n a t rev
+  pub nowhere : (rev : List Transfer) (x : ℕ) (p : List ℕ) → Ready n a t rev x 2880 p → Nowhere n a t rev
   nowhere rev x p is = record { none = none }
     where
       none : (y u c : ℕ) → u < 2880 → ¬ Along n a t rev y u c
@@ -56,16 +69,22 @@ module _ (tt : Timetable) (ok : T (valid tt)) (a t : ℕ) where
           let here = value-some x p y u (omega (arith, low, few)) in
           omega (arith, low, few, value-here x p y u here, is .none u h)
 
-  nowhere-next : (y : ℕ) (rev : List ℕ) → Nowhere n a t rev → Nowhere n a t (y ∷ rev)
+  nowhere-next : (y : Transfer) (rev : List Transfer) → Nowhere n a t rev → Nowhere n a t (y ∷ rev)
   nowhere-next y rev z =
       record {
         none = λ x u p h g.
             (let r = g .ride in z .none (r .from) (r .depart) (g .paid) (leaves tt ok a t r (g .listed)) (g .below));
       }
 
-  nowhere-on : (l rev : List ℕ) → Nowhere n a t rev → Nowhere n a t (reverseAux l rev)
-  nowhere-on [] rev z = z
-  nowhere-on (y ∷ l) rev z = nowhere-on l (y ∷ rev) (nowhere-next y rev z)
+  nowhere-on : (path : List ℕ) (j k i : ℕ) → i ≡ k + j → Nowhere n a t (changesTo path j)
+      → Nowhere n a t (changesTo path i)
+  unfolding changesTo
+  nowhere-on path j zero i e z =
+      let same : j ≡ i = omega arith in
+      subst (λ i. Nowhere n a t (changesTo path i)) same z
+  nowhere-on path j (suc k) zero e z = absurd (omega arith)
+  nowhere-on path j (suc k) (suc i) e z =
+      nowhere-next (changeIn path i) (changesTo path i) (nowhere-on path j k i (omega arith) z)
 
   -- so there is nothing to note
   pub nowhere-lowered : (path : List ℕ) (j k : ℕ) → j ≤ k → Nowhere n a t (changesTo path j) → (b : ℕ) (old : List ℕ)
@@ -79,12 +98,5 @@ module _ (tt : Timetable) (ok : T (valid tt)) (a t : ℕ) where
             absurd (on .none (r .from) (r .depart) (g .paid) (leaves tt ok a t r (g .listed)) (g .below)));
       }
     where
-      all : j + (k - j) ≡ k
-      all = omega arith
-
       on : Nowhere n a t (changesTo path k)
-      on =
-          subst
-          (Nowhere n a t)
-          (sym (changes-later path j (k - j)) ∙ ap (changesTo path) all)
-          (nowhere-on (take (k - j) (drop j path)) (changesTo path j) z)
+      on = nowhere-on path j (k - j) k (omega arith) z

@@ -13,9 +13,9 @@ use lib.ListN.{length, getD, set, length-set, length-replicate, List·getD-eq-de
 use lib.Seq.{getD-set-same, getD-set-other}
 use Rattle.timetable.specs.Timetable.{Timetable, valid}
 use Rattle.lists.specs.Lists.{_∈_}
+use Rattle.results.specs.declared.Cost.{Cost}
 use Rattle.connections.specs.Rides.{Ride}
-use Rattle.connections.specs.Connections.{Net, net, Change, Changes, ready}
-use Rattle.connections.specs.RideLaws.{change-unique}
+use Rattle.connections.specs.Connections.{Net, net, Change, Transfer, transfer, Changes, ready}
 use Rattle.connections.specs.Sound.{sound, ride-cheap}
 use Rattle.optimality.specs.Along.{Along, Ends}
 use Rattle.optimality.specs.Layers.{LeastAlong, Starting, start-least, Last, Stepping, step-least}
@@ -24,6 +24,7 @@ use Rattle.optimality.specs.Bounds.{penaltyMost, reach-most}
 use Rattle.query_minutes.specs.Minutes.{noPoints, blank}
 use Rattle.query_minutes.specs.Noted.{getD-any, getD-blank}
 use Rattle.query_direct.specs.Foremost.{Foremost, foremost}
+use Rattle.query_rides.specs.Ways.{Open}
 use Rattle.query_costs.specs.Lowest.{length-lowest, lowest-below, lowest-stems}
 use Rattle.query_costs.specs.Layering.{startOf, stepOf, takenAll, firstValue}
 use Rattle.query_costs.specs.Taken.{Noting, noting, length-taken, Stepped, stepped}
@@ -67,7 +68,7 @@ pub record Between (n : Net) (x y e : ℕ) (l : List Ride) : Type 0 where
 
 -- Along rev, from station a at minute t on, one is ready to board at station x by minute u for word u of p at the
 -- least, from minute e on; before it not at all.
-pub record Ready (n : Net) (a t : ℕ) (rev : List ℕ) (x e : ℕ) (p : List ℕ) : Type 0 where
+pub record Ready (n : Net) (a t : ℕ) (rev : List Transfer) (x e : ℕ) (p : List ℕ) : Type 0 where
   pub long : length p ≡ 2880
   pub least : LeastAlong n a t noPoints 2880 rev (valueAt x p)
   pub none : (m : ℕ) → m < e → kept p m ≡ noPoints
@@ -82,7 +83,7 @@ module _ (tt : Timetable) (ok : T (valid tt)) (a t : ℕ) where
   leaves r m = omega (arith, sound tt ok .forward r m, sound tt ok .bounded r m)
 
   -- a value that is reached is small
-  least-low : (rev : List ℕ) (x u : ℕ) (p : List ℕ) → LeastAlong n a t noPoints 2880 rev (valueAt x p)
+  least-low : (rev : List Transfer) (x u : ℕ) (p : List ℕ) → LeastAlong n a t noPoints 2880 rev (valueAt x p)
       → kept p u < noPoints → kept p u ≤ penaltyMost
   least-low rev x u p l h =
       let e = value-here x p x u refl in
@@ -90,7 +91,7 @@ module _ (tt : Timetable) (ok : T (valid tt)) (a t : ℕ) where
       omega (arith, e, reach-most tt ok a t x u (valueAt x p x u) (record { changed = rev; along = g }))
 
   -- so is all that a connection costs
-  few : (rev : List ℕ) (y m c : ℕ) → Ends n a t rev y m c → c < noPoints
+  few : (rev : List Transfer) (y m c : ℕ) → Ends n a t rev y m c → c < noPoints
   few rev y m c g =
       let r = g .ride in
       let so-far = reach-most tt ok a t (r .from) (r .depart) (g .paid) (record { changed = rev; along = g .below }) in
@@ -162,7 +163,7 @@ module _ (tt : Timetable) (ok : T (valid tt)) (a t : ℕ) where
 
   -- ---- on from what is so
   module _
-      (rev : List ℕ)
+      (rev : List Transfer)
       (x e : ℕ)
       (p : List ℕ)
       (is : Ready n a t rev x e p)
@@ -191,67 +192,81 @@ module _ (tt : Timetable) (ok : T (valid tt)) (a t : ℕ) where
                 | no k ↦ omega arith
               ]
 
-      module _ (w : Change) (listed : w ∈ n .changes) (at : w .from ≡ y) where
+      -- by one of the ways from y to station z
+      module _ (z : ℕ) (costs : List Cost) (known : Open n y z costs) where
         abbrev q : List ℕ
-        q = stepOf p (w .minutes) (w .points) l
+        q = stepOf p costs l
 
-        s : Stepped p (w .minutes) (w .points) l
-        s = stepped p (w .minutes) (w .points) l
+        abbrev change : Transfer
+        change = record { alighted = y; boarded = z }
 
-        stays : w .to ≡ y
-        stays = sound tt ok .stays w listed ∙ at
+        s : Stepped p l costs
+        s = stepped p l costs
 
-        stepping : Stepping n a t noPoints 2880 y (valueAt x p) (valueAt y q)
+        stepping : Stepping n a t noPoints 2880 change (valueAt x p) (valueAt z q)
         stepping = record { over = over; attained = attained }
           where
-            over : (r : Ride) (c : Change) (u : ℕ) → r ∈ n .rides → Changes n r c → c .from ≡ y → ready r c ≤ u
-                → u < 2880 → valueAt y q (c .to) u ≤ valueAt x p (r .from) (r .depart) + r .points + c .points
+            over : (r : Ride) (c : Change) (u : ℕ) → r ∈ n .rides → Changes n r c → transfer c ≡ change → ready r c ≤ u
+                → u < 2880 → valueAt z q (c .to) u ≤ valueAt x p (r .from) (r .depart) + r .points + c .points
             over r c u m h g k i =
                 elim (decLt (valueAt x p (r .from) (r .depart)) noPoints) [
-                  | yes z ↦ reached z
-                  | no z ↦ omega (arith, here, s .most u)
+                  | yes some ↦ reached some
+                  | no some ↦ omega (arith, here, s .most u)
                 ]
               where
-                same : c ≡ w
-                same = change-unique (tt .stations) c w (h .listed) listed (g ∙ sym at)
+                from : c .from ≡ y
+                from = ap (λ t. t .alighted) g
 
-                here : valueAt y q (c .to) u ≡ kept q u
-                here = value-here y q (c .to) u (ap (λ c. c .to) same ∙ stays)
+                to : c .to ≡ z
+                to = ap (λ t. t .boarded) g
+
+                here : valueAt z q (c .to) u ≡ kept q u
+                here = value-here z q (c .to) u to
 
                 reached : valueAt x p (r .from) (r .depart) < noPoints
-                    → valueAt y q (c .to) u ≤ valueAt x p (r .from) (r .depart) + r .points + c .points
-                reached z =
-                    let to : r .to ≡ y = sym (h .here) ∙ g in
-                    let paid = before r m (value-some x p (r .from) (r .depart) z) in
-                    let done = s .over r (in-list r m to z) u (omega (arith, ap (λ c. c .minutes) same)) i in
-                    omega (arith, here, paid, done, ap (λ c. c .points) same)
+                    → valueAt z q (c .to) u ≤ valueAt x p (r .from) (r .depart) + r .points + c .points
+                reached some =
+                    let way = known .all c (h .listed) from to in
+                    let there : r .to ≡ y = sym (h .here) ∙ from in
+                    let paid = before r m (value-some x p (r .from) (r .depart) some) in
+                    let soon : r .arrive + way .0 .minutes .0 ≤ u = omega (arith, way .2 .minutes) in
+                    let done = s .over (way .0) (way .1) r (in-list r m there some) u soon i in
+                    omega (arith, here, paid, done, way .2 .points)
 
-            attained : (z u : ℕ) → valueAt y q z u < noPoints
-                → Last n a t noPoints 2880 y (valueAt x p) (valueAt y q) z u
-            attained z u h =
-                let there = value-some y q z u h in
-                let k = s .attained u (omega (arith, value-here y q z u there)) in
+            attained : (o u : ℕ) → valueAt z q o u < noPoints
+                → Last n a t noPoints 2880 change (valueAt x p) (valueAt z q) o u
+            attained o u h =
+                let there = value-some z q o u h in
+                let k = s .attained u (omega (arith, value-here z q o u there)) in
+                let way = known .sound (k .way) (k .among) in
                 let r = k .ride in
                 let m = b .listed r (k .listed) in
                 record {
                   ride = r;
-                  change = w;
+                  change = way .change;
                   listed = m;
-                  changes = record { listed = listed; here = at ∙ sym (b .to r (k .listed)) };
-                  at = at;
-                  to = stays ∙ sym there;
-                  timely = k .until;
-                  is = omega (arith, value-here y q z u there, k .pays, before r m (b .from r (k .listed)));
+                  changes = record { listed = way .listed; here = way .from ∙ sym (b .to r (k .listed)) };
+                  at = λ i. record { alighted = way .from i; boarded = way .to i };
+                  to = way .to ∙ sym there;
+                  timely = omega (arith, k .until, way .takes .minutes);
+                  is =
+                      omega (
+                        arith,
+                        value-here z q o u there,
+                        k .pays,
+                        way .takes .points,
+                        before r m (b .from r (k .listed)),
+                      );
                 }
 
-        least : LeastAlong n a t noPoints 2880 (y ∷ rev) (valueAt y q)
-        least = step-least n a t noPoints 2880 rev (valueAt x p) (is .least) leaves y (valueAt y q) stepping
+        least : LeastAlong n a t noPoints 2880 (change ∷ rev) (valueAt z q)
+        least = step-least n a t noPoints 2880 rev (valueAt x p) (is .least) leaves change (valueAt z q) stepping
 
         first : Foremost (λ m. ltb (getD q m 0) noPoints) 0 2880 (firstValue q)
         unfolding firstValue
         first = foremost (λ m. ltb (getD q m 0) noPoints) 0 2880
 
-        pub step-ready : Ready n a t (y ∷ rev) y (firstValue q) q
+        pub step-ready : Ready n a t (change ∷ rev) z (firstValue q) q
         step-ready = record { long = s .long; least = least; none = none; low = low }
           where
             word : (m : ℕ) → m < 2880 → getD q m 0 ≡ kept q m
@@ -270,7 +285,7 @@ module _ (tt : Timetable) (ok : T (valid tt)) (a t : ℕ) where
             low m h g =
                 let k = firstValue q in
                 let some = ltb→lt (getD q k 0) noPoints (first .passes (omega arith)) in
-                least-low (y ∷ rev) y m q least
+                least-low (change ∷ rev) z m q least
                 (omega (arith, some, word k (omega arith), s .falls k m h g))
 
       -- ---- the last ride, to y

@@ -1,8 +1,9 @@
 -- What the words say once the rides of a list are noted for those who take them, and once the least so far is taken.
-use mathlib.Core.Path.{_≡_, refl, sym, ap, _∙_}
+use mathlib.Core.Path.{_≡_, refl, sym, ap, subst, _∙_}
 use mathlib.Core.Bool.{Bool, not}
 use mathlib.Core.Logic.{_⊎_, inl, inr, ⊎-map}
 use mathlib.Core.List.{List, [], _∷_, map, Memᴰ·map, Memᴰ·of-map}
+use mathlib.Core.List.{List·Memᴰ·head as here, List·Memᴰ·tail as there}
 use Prim.Native.Nat.{ℕ, _+_, _≤_, _<_, min}
 use native.Mathlib.Omega.{arith}
 use native.Mathlib.Decide.{decLt}
@@ -11,13 +12,14 @@ use lib.ListN.{length, getD, length-set, length-replicate, List·getD-eq-default
 use lib.Seq.{set-out}
 use Rattle.lists.specs.Lists.{_∈_, filter}
 use Rattle.lists.specs.Tests.{either, T-true, T-false}
-use Rattle.lists.specs.Members.{filter-in, filter-out}
+use Rattle.lists.specs.Members.{none, cons-cases, filter-in, filter-out}
+use Rattle.results.specs.declared.Cost.{Cost}
 use Rattle.connections.specs.Rides.{Ride}
 use Rattle.query_minutes.specs.Minutes.{noPoints, blank, noted, noteAll}
 use Rattle.query_minutes.specs.Noted.{Arrives, Noted, all-noted, getD-blank, length-noted}
 use Rattle.query_costs.specs.Lowest.{lowest, length-lowest}
 use Rattle.query_costs.specs.Lowest.{Before, lowest-least, lowest-below, lowest-falls, lowest-stems}
-use Rattle.query_costs.specs.Layering.{taken, takenAll, stepOf}
+use Rattle.query_costs.specs.Layering.{taken, takenAll, takenWays, stepOf}
 
 -- the ride is noted within the two days
 abbrev inTime : Ride → Bool
@@ -112,90 +114,173 @@ module _ (p : List ℕ) (minutes points : ℕ) (l : List Ride) where
     unfolding takenAll
     length-taken = length-noted all best ∙ long
 
-  -- ---- from blank words, and the least so far
-  abbrev next : List ℕ
-  next = stepOf p minutes points l
+-- ---- once for each way of changing behind the rides
+module _ (p : List ℕ) (l : List Ride) where
+  -- by a ride of the list and one of the ways one who paid c is ready at minute m
+  record ReadyWith (costs : List Cost) (m c : ℕ) : Type 0 where
+    way : Cost
+    among : way ∈ costs
+    ready : ReadyBy p (way .minutes .0) (way .points .0) l m c
 
-  -- by a ride of the list one who paid c is ready by minute m
-  pub record ReadyUntil (m c : ℕ) : Type 0 where
-    pub ride : Ride
-    pub listed : ride ∈ l
-    pub until : ride .arrive + minutes ≤ m
-    pub pays : paid ride ≡ c
+  record WaysNoting (costs : List Cost) (best after : List ℕ) : Type 0 where
+    long : length after ≡ 2880
+    low : (c : Cost) → c ∈ costs → (r : Ride) → r ∈ l → r .arrive + c .minutes .0 < 2880
+        → getD after (r .arrive + c .minutes .0) noPoints ≤ paid p (c .minutes .0) (c .points .0) l r
+    kept : (m : ℕ) → getD after m noPoints ≤ getD best m noPoints
+    stems : (m : ℕ)
+        → (getD after m noPoints ≡ getD best m noPoints) ⊎ ReadyWith costs m (getD after m noPoints)
 
-  pub record Stepped : Type 0 where
-    pub long : length next ≡ 2880
-    pub most : (m : ℕ) → getD next m noPoints ≤ noPoints
-    pub falls : (j m : ℕ) → j ≤ m → m < 2880 → getD next m noPoints ≤ getD next j noPoints
-    pub over : (r : Ride) → r ∈ l → (m : ℕ) → r .arrive + minutes ≤ m → m < 2880 → getD next m noPoints ≤ paid r
-    pub attained : (m : ℕ) → getD next m noPoints < noPoints → ReadyUntil m (getD next m noPoints)
-
-  blank-long : length blank ≡ 2880
-  blank-long = length-replicate 2880 noPoints
-
-  abbrev all-noted-now : List ℕ
-  all-noted-now = takenAll p minutes points blank l
-
-  noted-long : length all-noted-now ≡ 2880
-  noted-long = length-taken blank blank-long
-
-  pub stepped : Stepped
-  unfolding stepOf
-  stepped = record { long = long; most = most; falls = falls; over = over; attained = attained }
+  ways-noting : (costs : List Cost) (best : List ℕ) → length best ≡ 2880
+      → WaysNoting costs best (takenWays p costs best l)
+  unfolding takenWays
+  ways-noting [] best long =
+      record { long = long; low = λ c i. none i; kept = λ m. omega arith; stems = λ m. inl refl }
+  ways-noting (c ∷ costs) best long = go (ways-noting costs first long-first)
     where
-      n : Noting blank blank-long
-      n = noting blank blank-long
+      minutes : ℕ
+      minutes = c .minutes .0
 
-      long : length (lowest noPoints all-noted-now) ≡ 2880
-      long = length-lowest noPoints all-noted-now ∙ noted-long
+      points : ℕ
+      points = c .points .0
 
-      most : (m : ℕ) → getD (lowest noPoints all-noted-now) m noPoints ≤ noPoints
-      most m =
-          elim (decLt m 2880) [
-            | yes h ↦ lowest-least noPoints all-noted-now noPoints m (omega (arith, noted-long))
-            | no h ↦ omega (
-              arith,
-              List·getD-eq-default (lowest noPoints all-noted-now) noPoints {n = m} (omega (arith, long)),
-            )
-          ]
+      first : List ℕ
+      first = takenAll p minutes points best l
 
-      falls : (j m : ℕ) → j ≤ m → m < 2880
-          → getD (lowest noPoints all-noted-now) m noPoints ≤ getD (lowest noPoints all-noted-now) j noPoints
-      falls j m h g = lowest-falls noPoints all-noted-now noPoints j m h (omega (arith, noted-long))
+      long-first : length first ≡ 2880
+      long-first = length-taken p minutes points l best long
 
-      over : (r : Ride) → r ∈ l → (m : ℕ) → r .arrive + minutes ≤ m → m < 2880
-          → getD (lowest noPoints all-noted-now) m noPoints ≤ paid r
-      over r i m h g =
-          let k = r .arrive + minutes in
-          let low = n .low r i (omega arith) in
-          omega (arith, lowest-below noPoints all-noted-now noPoints k m h (omega (arith, noted-long)), low)
+      n : Noting p minutes points l best long
+      n = noting p minutes points l best long
 
-      attained : (m : ℕ) → getD (lowest noPoints all-noted-now) m noPoints < noPoints
-          → ReadyUntil m (getD (lowest noPoints all-noted-now) m noPoints)
-      attained m h =
-          elim (decLt m 2880) [
-            | yes g ↦ stems (lowest-stems noPoints all-noted-now noPoints m (omega (arith, noted-long)))
-            | no g ↦ absurd (omega (
-              arith,
-              List·getD-eq-default (lowest noPoints all-noted-now) noPoints {n = m} (omega (arith, long)),
-            ))
-          ]
+      after : List ℕ
+      after = takenWays p costs first l
+
+      go : WaysNoting costs first after → WaysNoting (c ∷ costs) best after
+      go k =
+          record {
+            long = k .long;
+            low = low;
+            kept = λ m. omega (arith, k .kept m, n .kept m);
+            stems = λ m. elim (k .stems m) [ inl e ↦ before m e (n .stems m) | inr a ↦ inr (behind m a) ];
+          }
         where
-          c : ℕ
-          c = getD (lowest noPoints all-noted-now) m noPoints
+          low : (d : Cost) → d ∈ c ∷ costs → (r : Ride) → r ∈ l → r .arrive + d .minutes .0 < 2880
+              → getD after (r .arrive + d .minutes .0) noPoints ≤ paid p (d .minutes .0) (d .points .0) l r
+          low d i r j h =
+              cons-cases i
+              (λ e.
+              subst
+              (λ d. getD after (r .arrive + d .minutes .0) noPoints ≤ paid p (d .minutes .0) (d .points .0) l r)
+              (sym e)
+              (omega (
+                arith,
+                k .kept (r .arrive + minutes),
+                n .low r j (subst (λ d. r .arrive + d .minutes .0 < 2880) e h),
+              )))
+              (λ i. k .low d i r j h)
 
-          stems : (c ≡ noPoints) ⊎ Before noPoints all-noted-now m c → ReadyUntil m c
-          stems (inl e) = absurd (omega arith)
-          stems (inr b) = by-ride (n .stems (b .place))
-            where
-              by-ride : (getD all-noted-now (b .place) noPoints ≡ getD blank (b .place) noPoints)
-                  ⊎ ReadyBy (b .place) (getD all-noted-now (b .place) noPoints)
-                  → ReadyUntil m c
-              by-ride (inl e) = absurd (omega (arith, e, b .is, getD-blank 2880 noPoints (b .place)))
-              by-ride (inr k) =
-                  record {
-                    ride = k .ride;
-                    listed = k .listed;
-                    until = omega (arith, k .at, b .before);
-                    pays = k .pays ∙ b .is;
-                  }
+          behind : (m : ℕ) → ReadyWith costs m (getD after m noPoints)
+              → ReadyWith (c ∷ costs) m (getD after m noPoints)
+          behind m a = record { way = a .way; among = there (a .among); ready = a .ready }
+
+          before : (m : ℕ) → getD after m noPoints ≡ getD first m noPoints
+              → (getD first m noPoints ≡ getD best m noPoints)
+              ⊎ ReadyBy p minutes points l m (getD first m noPoints)
+              → (getD after m noPoints ≡ getD best m noPoints) ⊎ ReadyWith (c ∷ costs) m (getD after m noPoints)
+          before m e (inl f) = inl (e ∙ f)
+          before m e (inr f) =
+              inr (record { way = c; among = here refl; ready = subst (ReadyBy p minutes points l m) (sym e) f })
+
+  -- ---- from blank words, and the least so far
+  module _ (costs : List Cost) where
+    abbrev next : List ℕ
+    next = stepOf p costs l
+
+    -- by a ride of the list and one of the ways one who paid c is ready by minute m
+    pub record ReadyUntil (m c : ℕ) : Type 0 where
+      pub way : Cost
+      pub among : way ∈ costs
+      pub ride : Ride
+      pub listed : ride ∈ l
+      pub until : ride .arrive + way .minutes .0 ≤ m
+      pub pays : paid p (way .minutes .0) (way .points .0) l ride ≡ c
+
+    pub record Stepped : Type 0 where
+      pub long : length next ≡ 2880
+      pub most : (m : ℕ) → getD next m noPoints ≤ noPoints
+      pub falls : (j m : ℕ) → j ≤ m → m < 2880 → getD next m noPoints ≤ getD next j noPoints
+      pub over : (c : Cost) → c ∈ costs → (r : Ride) → r ∈ l → (m : ℕ) → r .arrive + c .minutes .0 ≤ m → m < 2880
+          → getD next m noPoints ≤ paid p (c .minutes .0) (c .points .0) l r
+      pub attained : (m : ℕ) → getD next m noPoints < noPoints → ReadyUntil m (getD next m noPoints)
+
+    blank-long : length blank ≡ 2880
+    blank-long = length-replicate 2880 noPoints
+
+    abbrev all-noted-now : List ℕ
+    all-noted-now = takenWays p costs blank l
+
+    n : WaysNoting costs blank all-noted-now
+    n = ways-noting costs blank blank-long
+
+    pub stepped : Stepped
+    unfolding stepOf
+    stepped = record { long = long; most = most; falls = falls; over = over; attained = attained }
+      where
+        noted-long : length all-noted-now ≡ 2880
+        noted-long = n .long
+
+        long : length (lowest noPoints all-noted-now) ≡ 2880
+        long = length-lowest noPoints all-noted-now ∙ noted-long
+
+        most : (m : ℕ) → getD (lowest noPoints all-noted-now) m noPoints ≤ noPoints
+        most m =
+            elim (decLt m 2880) [
+              | yes h ↦ lowest-least noPoints all-noted-now noPoints m (omega (arith, noted-long))
+              | no h ↦ omega (
+                arith,
+                List·getD-eq-default (lowest noPoints all-noted-now) noPoints {n = m} (omega (arith, long)),
+              )
+            ]
+
+        falls : (j m : ℕ) → j ≤ m → m < 2880
+            → getD (lowest noPoints all-noted-now) m noPoints ≤ getD (lowest noPoints all-noted-now) j noPoints
+        falls j m h g = lowest-falls noPoints all-noted-now noPoints j m h (omega (arith, noted-long))
+
+        over : (c : Cost) → c ∈ costs → (r : Ride) → r ∈ l → (m : ℕ) → r .arrive + c .minutes .0 ≤ m → m < 2880
+            → getD (lowest noPoints all-noted-now) m noPoints ≤ paid p (c .minutes .0) (c .points .0) l r
+        over c j r i m h g =
+            let k = r .arrive + c .minutes .0 in
+            let low = n .low c j r i (omega arith) in
+            omega (arith, lowest-below noPoints all-noted-now noPoints k m h (omega (arith, noted-long)), low)
+
+        attained : (m : ℕ) → getD (lowest noPoints all-noted-now) m noPoints < noPoints
+            → ReadyUntil m (getD (lowest noPoints all-noted-now) m noPoints)
+        attained m h =
+            elim (decLt m 2880) [
+              | yes g ↦ stems (lowest-stems noPoints all-noted-now noPoints m (omega (arith, noted-long)))
+              | no g ↦ absurd (omega (
+                arith,
+                List·getD-eq-default (lowest noPoints all-noted-now) noPoints {n = m} (omega (arith, long)),
+              ))
+            ]
+          where
+            c : ℕ
+            c = getD (lowest noPoints all-noted-now) m noPoints
+
+            stems : (c ≡ noPoints) ⊎ Before noPoints all-noted-now m c → ReadyUntil m c
+            stems (inl e) = absurd (omega arith)
+            stems (inr b) = by-ride (n .stems (b .place))
+              where
+                by-ride : (getD all-noted-now (b .place) noPoints ≡ getD blank (b .place) noPoints)
+                    ⊎ ReadyWith costs (b .place) (getD all-noted-now (b .place) noPoints)
+                    → ReadyUntil m c
+                by-ride (inl e) = absurd (omega (arith, e, b .is, getD-blank 2880 noPoints (b .place)))
+                by-ride (inr k) =
+                    record {
+                      way = k .way;
+                      among = k .among;
+                      ride = k .ready .ride;
+                      listed = k .ready .listed;
+                      until = omega (arith, k .ready .at, b .before);
+                      pays = k .ready .pays ∙ b .is;
+                    }

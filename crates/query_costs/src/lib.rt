@@ -2,25 +2,30 @@
 // board at the present station by then.
 ghost use mathlib.Core.Path.{_≡_};
 ghost use mathlib.Core.Bool.{true, not};
-ghost use Prim.Native.Nat.{_+_, _-_, _≤_, _<_, min, max};
+ghost use mathlib.Core.List.{[]};
+ghost use Prim.Native.Nat.{_+_, _-_, _*_, _≤_, _<_, min, max};
 ghost use lib.ListN.{length, getD};
 ghost use Rattle.timetable.specs.Words.{timetableOf, isTimetable};
+ghost use Rattle.lists.specs.Lists.{keep};
 ghost use Rattle.connections.specs.Connections.{net};
 ghost use Rattle.lines_check.specs.Question10.{areTables};
 ghost use Rattle.query_direct.specs.Candidates.{allRead};
 ghost use Rattle.query_minutes.specs.Minutes.{noPoints, blank, lowered};
+ghost use Rattle.query_rides.specs.Ways.{costsIn};
 ghost use Rattle.query_costs.specs.Lowest.{lowest};
-ghost use Rattle.query_costs.specs.Spans.{Within, widened};
+ghost use Rattle.query_costs.specs.Spans.{Within, widened, spanned};
 ghost use Rattle.query_costs.specs.Filling.{filled};
-ghost use Rattle.query_costs.specs.Layering.{takenAll, startOf, firstValue, NoneBefore};
-ghost use Rattle.query_costs.specs.Fitting.{Fits, Fitting};
+ghost use Rattle.query_costs.specs.Layering.{takenAll, takenWays, startOf, firstValue, NoneBefore};
+ghost use Rattle.query_costs.specs.Fitting.{Fits, Fitting, Priced};
 ghost use Rattle.query_costs.specs.Turning.{held};
 ghost use Rattle.query_costs.specs.Onward.{Listed, Stations, changeWords};
 ghost use Rattle.query_costs.specs.Patterns.{changesTo};
 ghost use Rattle.query_costs.specs.Lowered.{Lowered};
 use query_minutes::MINUTES;
 use query_minutes::NO_POINTS;
+use query_rides::Change;
 use query_rides::Ride;
+use query_rides::Ways;
 use results::Cost;
 use results::Minutes;
 use results::Points;
@@ -71,6 +76,16 @@ fn widen(s: Span, m: usize) -> Span
     Span {
         from: earlier(s.from, m),
         to: later(s.to, m + 1),
+    }
+}
+
+// The minutes from the first of two spans to the last of them.
+fn join(a: Span, b: Span) -> Span
+    ensures { λ r. ⌜ r ≡ spanned a b ⌝ }
+{
+    Span {
+        from: earlier(a.from, b.from),
+        to: later(a.to, b.to),
     }
 }
 
@@ -191,29 +206,99 @@ fn note_rides(
     noted
 }
 
-// One ride and the change at its end: from the least penalties at station from to those at station to. Returns the
-// first minute by which one is ready there.
-fn step(
-    words: &[u16],
+// Notes those rides, if the way of changing after them that takes and costs so much is open. Returns the span of the
+// minutes noted.
+fn note_way(
+    offered: bool,
     lines: &[u16],
     from: usize,
     to: usize,
     earliest: usize,
     p: &[u32],
+    change: Cost,
+    best: &mut [u32],
+) -> Span
+    requires { ⌜ (length (now p) ≡ 2880)
+        × (length (now best) ≡ 2880)
+        × Fitting (now p) (allRead (now lines) from earliest to)
+        × (change .minutes .0 ≤ 240)
+        × (change .points .0 ≤ 1000) ⌝ }
+    ensures { λ _. ⌜ now (best .exit)
+        ≡ takenWays
+        (now (p .entry))
+        (keep offered change [])
+        (now (best .entry))
+        (allRead (now (lines .entry)) from earliest to) ⌝ }
+    ensures { λ _. ⌜ length (now (best .exit)) ≡ length (now (best .entry)) ⌝ }
+    ensures { λ r. ⌜ Within r (now (best .entry)) (now (best .exit)) × (r .from ≤ 2880) ⌝ }
+{
+    if !offered {
+        return nothing();
+    }
+    note_rides(lines, from, to, earliest, p, change, best)
+}
+
+// Notes those rides once for each way of changing after them. Returns a span that holds the minutes noted.
+fn note_ways(
+    lines: &[u16],
+    from: usize,
+    to: usize,
+    earliest: usize,
+    p: &[u32],
+    ways: Ways,
+    best: &mut [u32],
+) -> Span
+    requires { ⌜ (length (now p) ≡ 2880)
+        × (length (now best) ≡ 2880)
+        × Fitting (now p) (allRead (now lines) from earliest to)
+        × Priced ways ⌝ }
+    ensures { λ _. ⌜ now (best .exit)
+        ≡ takenWays
+        (now (p .entry))
+        (costsIn ways)
+        (now (best .entry))
+        (allRead (now (lines .entry)) from earliest to) ⌝ }
+    ensures { λ _. ⌜ length (now (best .exit)) ≡ length (now (best .entry)) ⌝ }
+    ensures { λ r. ⌜ Within r (now (best .entry)) (now (best .exit)) × (r .from ≤ 2880) ⌝ }
+{
+    let here = ways.here;
+    let afoot = ways.walk;
+    let stay = query_rides::cost_of(here, Change::Here);
+    let walk = query_rides::cost_of(here, Change::Walk(afoot));
+    let stays = note_way(ways.stays, lines, from, to, earliest, p, stay, best);
+    let walks = note_way(ways.walks, lines, from, to, earliest, p, walk, best);
+    join(stays, walks)
+}
+
+// One ride and the change after it: from the least penalties at station from, by a ride to the station alighted at, to
+// those at the station boarded at. Returns the first minute by which one is ready there.
+fn step(
+    words: &[u16],
+    lines: &[u16],
+    from: usize,
+    alighted: usize,
+    boarded: usize,
+    earliest: usize,
+    p: &[u32],
     q: &mut [u32],
 ) -> usize
-    requires { ⌜ (16384 ≤ length (now words)) × (isTimetable (now words) ≡ true) × Listed (now words) to ⌝ }
+    requires { ⌜ (16384 ≤ length (now words)) × (isTimetable (now words) ≡ true) × Listed (now words) alighted ⌝ }
     requires { ⌜ (length (now p) ≡ 2880)
         × (length (now q) ≡ 2880)
-        × Fitting (now p) (allRead (now lines) from earliest to) ⌝ }
+        × Fitting (now p) (allRead (now lines) from earliest alighted) ⌝ }
     ensures { λ _. ⌜ now (q .exit)
-        ≡ changeWords (now (words .entry)) (now (p .entry)) to (allRead (now (lines .entry)) from earliest to) ⌝ }
+        ≡ changeWords
+        (now (words .entry))
+        (now (p .entry))
+        alighted
+        boarded
+        (allRead (now (lines .entry)) from earliest alighted) ⌝ }
     ensures { λ _. ⌜ length (now (q .exit)) ≡ length (now (q .entry)) ⌝ }
     ensures { λ r. ⌜ (r ≡ firstValue (now (q .exit))) × (r ≤ 2880) ⌝ }
 {
-    let change = query_rides::change_at(words, to);
+    let ways = query_rides::ways_between(words, alighted, boarded);
     query_minutes::fill_blank(q);
-    let noted = note_rides(lines, from, to, earliest, p, change, q);
+    let noted = note_ways(lines, from, alighted, earliest, p, ways, q);
     lowest_so_far(q, noted);
     first_value(q, noted.from)
 }
@@ -247,29 +332,31 @@ fn step_turned(
     words: &[u16],
     lines: &[u16],
     from: usize,
-    to: usize,
+    alighted: usize,
+    boarded: usize,
     earliest: usize,
     turned: bool,
     p: &mut [u32],
     q: &mut [u32],
 ) -> usize
-    requires { ⌜ (16384 ≤ length (now words)) × (isTimetable (now words) ≡ true) × Listed (now words) to ⌝ }
+    requires { ⌜ (16384 ≤ length (now words)) × (isTimetable (now words) ≡ true) × Listed (now words) alighted ⌝ }
     requires { ⌜ (length (now p) ≡ 2880)
         × (length (now q) ≡ 2880)
-        × Fitting (held turned (now p) (now q)) (allRead (now lines) from earliest to) ⌝ }
+        × Fitting (held turned (now p) (now q)) (allRead (now lines) from earliest alighted) ⌝ }
     ensures { λ _. ⌜ held (not turned) (now (p .exit)) (now (q .exit))
         ≡ changeWords
         (now (words .entry))
         (held turned (now (p .entry)) (now (q .entry)))
-        to
-        (allRead (now (lines .entry)) from earliest to) ⌝ }
+        alighted
+        boarded
+        (allRead (now (lines .entry)) from earliest alighted) ⌝ }
     ensures { λ _. ⌜ (length (now (p .exit)) ≡ 2880) × (length (now (q .exit)) ≡ 2880) ⌝ }
     ensures { λ r. ⌜ (r ≡ firstValue (held (not turned) (now (p .exit)) (now (q .exit)))) × (r ≤ 2880) ⌝ }
 {
     if turned {
-        return step(words, lines, from, to, earliest, q, p);
+        return step(words, lines, from, alighted, boarded, earliest, q, p);
     }
-    step(words, lines, from, to, earliest, p, q)
+    step(words, lines, from, alighted, boarded, earliest, p, q)
 }
 
 // The last ride, likewise.
@@ -303,9 +390,9 @@ fn finish_turned(
     finish(lines, from, to, earliest, p, best)
 }
 
-// Lowers the penalties of the arrival minutes to those of the connections of one pattern: from the source at the minute
-// or later, with changes at the first r - 1 stations of the path, to the station after them. Returns the span of the
-// minutes noted: outside it no penalty changes.
+// Lowers the penalties of the arrival minutes to those of the connections of one pattern of r rides: from the source at
+// the minute or later, with the r - 1 changes that the path names first, each by the stations alighted and boarded at,
+// to the station after them. Returns the span of the minutes noted: outside it no penalty changes.
 pub fn note_pattern(
     words: &[u16],
     lines: &[u16],
@@ -319,14 +406,14 @@ pub fn note_pattern(
         × (isTimetable (now words) ≡ true)
         × (areTables (now words) (now lines) ≡ true) ⌝ }
     requires { ⌜ Listed (now words) source × (minute < 2880) ⌝ }
-    requires { ⌜ (1 ≤ r) × (r ≤ length (now path)) × Stations (now words) (now path) r ⌝ }
+    requires { ⌜ (1 ≤ r) × (r ≤ 64) × (2 * r - 1 ≤ length (now path)) × Stations (now words) (now path) (2 * r - 1) ⌝ }
     requires { ⌜ length (now best) ≡ 2880 ⌝ }
     ensures { λ _. ⌜ Lowered
         (net (timetableOf (now (words .entry))))
         source
         minute
         (changesTo (now (path .entry)) (r - 1))
-        (getD (now (path .entry)) (r - 1) 0)
+        (getD (now (path .entry)) (2 * r - 2) 0)
         (now (best .entry))
         (now (best .exit)) ⌝ }
     ensures { λ _. ⌜ length (now (best .exit)) ≡ length (now (best .entry)) ⌝ }
@@ -340,16 +427,27 @@ pub fn note_pattern(
     let mut earliest = minute;
     let mut j = 0;
     let noted = loop {
-        let to = words::word(path, j) as usize;
+        let alighted = words::word(path, 2 * j) as usize;
         if j + 1 == r {
-            break finish_turned(lines, from, to, earliest, turned, &p, &q, best);
+            break finish_turned(lines, from, alighted, earliest, turned, &p, &q, best);
         }
-        earliest = step_turned(words, lines, from, to, earliest, turned, &mut p, &mut q);
+        let boarded = words::word(path, 2 * j + 1) as usize;
+        earliest = step_turned(
+            words,
+            lines,
+            from,
+            alighted,
+            boarded,
+            earliest,
+            turned,
+            &mut p,
+            &mut q,
+        );
         if MINUTES <= earliest {
             break nothing();
         }
         turned = !turned;
-        from = to;
+        from = boarded;
         j += 1;
     };
     noted

@@ -1,2 +1,3 @@
 pub mod Riding
 pub mod Ridden
+pub mod Ways

@@ -1,15 +1,16 @@
 // The rides from one station to another that leave at a minute or later, one after the other, from line tables, all of
-// them or those to the nearest places; and what a change between two rides takes and costs.
+// them or those to the nearest places; and the ways of changing between two rides, with what each takes and costs.
 ghost use mathlib.Core.Path.{_≡_};
 ghost use mathlib.Core.Bool.{true};
 ghost use mathlib.Core.List.{_∷_};
 ghost use Prim.Native.Nat.{_-_, _≤_, _<_};
 ghost use lib.ListN.{length};
-ghost use Rattle.timetable.specs.Words.{stationAt};
+ghost use Rattle.timetable.specs.Words.{stationCount, stationAt, isTimetable};
 ghost use Rattle.lines_lookup.specs.Calls.{Inside};
 ghost use Rattle.query_direct.specs.Candidates.{nearRead, allRead};
 ghost use Rattle.query_rides.specs.Riding.{Good, Tells, left, nearLeft, rideOf, callsFrom};
 ghost use Rattle.query_rides.specs.Riding.{nearFrom};
+ghost use Rattle.query_rides.specs.Ways.{costOf, walkTo, waysBetween};
 use lines_lookup::Boarding;
 use lines_lookup::Call;
 use lines_lookup::Line;
@@ -18,6 +19,7 @@ use query_direct::Place;
 use results::Cost;
 use results::Minutes;
 use results::Points;
+use timetable::Walk;
 
 // A ride, by the numbers by which it is shown, its minutes and its penalty.
 pub struct Ride {
@@ -185,8 +187,36 @@ pub fn tell(v: &[u16], c: Cursor) -> Ride
     }
 }
 
-// What a change at a station takes and costs.
-pub fn change_at(words: &[u16], station: usize) -> Cost
+// A way of changing: at the station itself, or by a walk.
+pub enum Change {
+    Here,
+    Walk(Walk),
+}
+
+// The ways of changing from one station to another: one stays if the two are the same, and walks if there is a walk.
+// What a change at the station itself takes and costs, and the walk.
+pub struct Ways {
+    pub stays: bool,
+    pub here: Cost,
+    pub walks: bool,
+    pub walk: Walk,
+}
+
+// What a change takes and costs, where one at the station itself takes and costs so much.
+pub fn cost_of(here: Cost, change: Change) -> Cost
+    ensures { λ r. ⌜ r ≡ costOf here change ⌝ }
+{
+    match change {
+        Change::Here => here,
+        Change::Walk(walk) => Cost {
+            minutes: Minutes(walk.minutes),
+            points: Points(walk.points),
+        },
+    }
+}
+
+// What a change at a station itself takes and costs.
+fn change_at(words: &[u16], station: usize) -> Cost
     requires { ⌜ (16384 ≤ length (now words)) × (1 ≤ station) × (station ≤ 64) ⌝ }
     ensures { λ r. ⌜ (r .minutes .0 ≡ stationAt (now (words .entry)) (station - 1) .minutes)
         × (r .points .0 ≡ stationAt (now (words .entry)) (station - 1) .points) ⌝ }
@@ -195,5 +225,60 @@ pub fn change_at(words: &[u16], station: usize) -> Cost
     Cost {
         minutes: Minutes(change.minutes),
         points: Points(change.points),
+    }
+}
+
+// The place of the walk from one station to another, among all walks; the one past the station's walks if there is
+// none.
+fn seek_walk(words: &[u16], from: usize, to: usize) -> usize
+    requires { ⌜ (16384 ≤ length (now words))
+        × (isTimetable (now words) ≡ true)
+        × (1 ≤ from)
+        × (from ≤ stationCount (now words)) ⌝ }
+    ensures { λ r. ⌜ r ≡ walkTo (now (words .entry)) from to ⌝ }
+{
+    let end = timetable::walks_to(words, from);
+    let mut k = timetable::walks_to(words, from - 1);
+    let place = loop {
+        if end <= k {
+            break k;
+        }
+        if timetable::walk_at(words, k).to as usize == to {
+            break k;
+        }
+        k += 1;
+    };
+    place
+}
+
+// The ways of changing from one station to another.
+pub fn ways_between(words: &[u16], from: usize, to: usize) -> Ways
+    requires { ⌜ (16384 ≤ length (now words))
+        × (isTimetable (now words) ≡ true)
+        × (1 ≤ from)
+        × (from ≤ stationCount (now words)) ⌝ }
+    ensures { λ r. ⌜ r ≡ waysBetween (now (words .entry)) from to ⌝ }
+{
+    let stays = from == to;
+    let here = change_at(words, from);
+    let k = seek_walk(words, from, to);
+    if timetable::walks_to(words, from) <= k {
+        return Ways {
+            stays,
+            here,
+            walks: false,
+            walk: Walk {
+                from: 0,
+                to: 0,
+                minutes: 0,
+                points: 0,
+            },
+        };
+    }
+    Ways {
+        stays,
+        here,
+        walks: true,
+        walk: timetable::walk_at(words, k),
     }
 }

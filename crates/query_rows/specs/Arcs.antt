@@ -1,25 +1,28 @@
--- The sequence of one arc, as the code has it: its stations are the first words of an array, the target the last of
--- them. And the least penalties, arc by arc, for the words of a timetable.
+-- The sequence of one arc, as the code has it: its stations are the first words of an array, two for each change, the
+-- target the last of them. And the least penalties, arc by arc, for the words of a timetable.
 use mathlib.Core.Path.{_≡_, refl, sym, ap, subst, _∙_}
-use mathlib.Core.List.{List, [], _∷_, _++_, reverseAux}
-use Prim.Native.Nat.{ℕ, suc, _+_, _-_, _*_, _≤_, _<_}
+use mathlib.Core.List.{List, [], _∷_, _++_}
+use Prim.Native.Nat.{ℕ, suc, _+_, _-_, _*_, _/_, _≤_, _<_}
 use native.Mathlib.Numerals.{add-one}
 use native.Mathlib.Omega.{arith}
 use lib.ListN.{length, getD, take, length-append, length-take}
 use lib.Seq.{take-suc, getD-take, getD-append-seam}
 use Rattle.timetable.specs.Words.{timetableOf}
 use Rattle.timetable.specs.Check.{length-stations}
-use Rattle.connections.specs.Connections.{net}
+use Rattle.connections.specs.Connections.{Transfer, net, Connection, direct, onward, stations}
+use Rattle.connections.specs.Planner.{rideCount}
 use Rattle.connections.specs.Sound.{Sound}
 use Rattle.stores.specs.Words.{readable}
+use Rattle.stores.specs.Sequences.{Odd, odd-length}
 use Rattle.lines_tables.specs.Spelled.{within}
 use Rattle.query_store.specs.Entries.{nodeCount, arcCount, arcTarget, arcBefore}
 use Rattle.query_store.specs.Paths.{nodePath, arcPath, arc-path, length-readable}
-use Rattle.query_store.specs.Made.{Made}
+use Rattle.query_store.specs.Made.{Made, arc-odd}
 use Rattle.query_store.specs.Granted.{arc-within, few-arcs, made}
+use Rattle.optimality.specs.Along.{readBack}
 use Rattle.query_minutes.specs.Minutes.{blank}
 use Rattle.query_costs.specs.Lowered.{Lowered}
-use Rattle.query_costs.specs.Patterns.{changesTo}
+use Rattle.query_costs.specs.Patterns.{changesTo, changes-read}
 use Rattle.query_costs.specs.Onward.{Listed, Stations}
 use Rattle.promises.specs.Query.{kept}
 use Rattle.query_rows.specs.Rowed.{LeastKept}
@@ -28,54 +31,79 @@ use Rattle.query_rows.specs.Merged.{unnamed, Bound, Merged, lowered-merg
 use Rattle.query_rows.specs.Sole.{Sole, sole-first, sole-skip, sole-more}
 use Rattle.query_rows.specs.Granted.{Granted, is-sound}
 
-turned : (l m n : List ℕ) → reverseAux (reverseAux l m) n ≡ reverseAux m (l ++ n)
-turned [] m n = refl
-turned (x ∷ l) m n = turned l (x ∷ m) n
+-- ---- the number of rides of a sequence: one to each station alighted at, and one to the target
+unfoldable pub ridesAlong : List ℕ → ℕ
+ridesAlong [] = 0
+ridesAlong (x ∷ []) = 1
+ridesAlong (x ∷ y ∷ q) = suc (ridesAlong q)
 
--- any arc
-pub arc-turned : (s : List ℕ) (k : ℕ) → k < arcCount s
-    → arcPath s k ≡ reverseAux (reverseAux (nodePath s (arcBefore s k)) []) (arcTarget s k ∷ [])
-arc-turned s k h = arc-path s k h ∙ sym (turned (nodePath s (arcBefore s k)) [] (arcTarget s k ∷ []))
+-- so many has each connection that goes by it
+pub rides-along : (c : Connection) → ridesAlong (stations c) ≡ rideCount c
+unfolding ridesAlong
+rides-along (direct r) = refl
+rides-along (onward r w c) = ap suc (rides-along c)
 
--- ---- the first r words of an array are the stations of arc k
+rides-count : (q : List ℕ) → Odd q → 2 * ridesAlong q ≡ suc (length q)
+unfolding ridesAlong
+rides-count [] o = absurd o
+rides-count (x ∷ []) o = refl
+rides-count (x ∷ y ∷ q) o = omega (arith, rides-count q o)
+
+-- ---- as many numbers as arc k names are read
+module _ (s : List ℕ) (k n : ℕ) (m : Made s) (inside : k < arcCount s) (count : n ≡ length (arcPath s k)) where
+  changes : n ≡ 2 * (n / 2) + 1
+  changes = let o = odd-length (arcPath s k) (arc-odd s m k inside) in omega (arith, o .1)
+
+  pub read-long : 2 * (n / 2 + 1) - 1 ≡ length (arcPath s k)
+  read-long = omega (arith, changes)
+
+  pub read-rides : n / 2 + 1 ≡ ridesAlong (arcPath s k)
+  read-rides = omega (arith, changes, rides-count (arcPath s k) (arc-odd s m k inside))
+
+  pub read-path : (path : List ℕ) → take n path ≡ arcPath s k → take (2 * (n / 2 + 1) - 1) path ≡ arcPath s k
+  read-path path is =
+      let all : 2 * (n / 2 + 1) - 1 ≡ n = omega (arith, changes) in
+      ap (λ i. take i path) all ∙ is
+
+-- ---- the stations of arc k, of r rides, are the first words of an array
 module _
     (s path : List ℕ)
     (k r : ℕ)
     (inside : k < arcCount s)
-    (is : take r path ≡ arcPath s k)
-    (count : r ≡ length (arcPath s k))
+    (is : take (2 * r - 1) path ≡ arcPath s k)
+    (count : 2 * r - 1 ≡ length (arcPath s k))
     (some : 1 ≤ r)
   where
-    pub path-long : r ≤ length path
-    path-long = omega (arith, length-take r path, ap length is, count)
+    pub path-long : 2 * r - 1 ≤ length path
+    path-long = omega (arith, length-take (2 * r - 1) path, ap length is, count)
 
-    place-is : (i : ℕ) → i < r → getD path i 0 ≡ getD (arcPath s k) i 0
-    place-is i h = sym (getD-take r path i 0 h) ∙ ap (λ l. getD l i 0) is
+    place-is : (i : ℕ) → i < 2 * r - 1 → getD path i 0 ≡ getD (arcPath s k) i 0
+    place-is i h = sym (getD-take (2 * r - 1) path i 0 h) ∙ ap (λ l. getD l i 0) is
 
-    pub target-is : getD path (r - 1) 0 ≡ arcTarget s k
+    pub target-is : getD path (2 * r - 2) 0 ≡ arcTarget s k
     target-is =
         let q = nodePath s (arcBefore s k) in
         let e = arc-path s k inside in
-        let at : r - 1 ≡ length q = omega (arith, count, ap length e, length-append q (arcTarget s k ∷ [])) in
-        place-is (r - 1) (omega arith)
+        let at : 2 * r - 2 ≡ length q = omega (arith, count, ap length e, length-append q (arcTarget s k ∷ [])) in
+        place-is (2 * r - 2) (omega arith)
         ∙ (λ i. getD (e i) (at i) 0)
         ∙ getD-append-seam q (arcTarget s k) [] 0
 
-    pub changes-are : arcPath s k ≡ reverseAux (changesTo path (r - 1)) (arcTarget s k ∷ [])
-    unfolding changesTo
+    pub changes-are : arcPath s k ≡ readBack (changesTo path (r - 1)) (arcTarget s k ∷ [])
     changes-are =
-        let next : suc (r - 1) ≡ r = omega arith in
+        let next : 2 * r - 1 ≡ suc (2 * (r - 1)) = omega arith in
+        let last : 2 * (r - 1) ≡ 2 * r - 2 = omega arith in
         sym is
-        ∙ ap (λ n. take n path) (sym next)
-        ∙ take-suc path (r - 1) 0 (omega (arith, path-long))
-        ∙ ap (λ x. take (r - 1) path ++ (x ∷ [])) target-is
-        ∙ sym (turned (take (r - 1) path) [] (arcTarget s k ∷ []))
+        ∙ ap (λ n. take n path) next
+        ∙ take-suc path (2 * (r - 1)) 0 (omega (arith, path-long))
+        ∙ ap (λ x. take (2 * (r - 1)) path ++ (x ∷ [])) (ap (λ i. getD path i 0) last ∙ target-is)
+        ∙ sym (changes-read path (r - 1) (arcTarget s k ∷ []) (omega (arith, path-long)))
 
     -- they are listed
-    pub stations-are : (w v : List ℕ) (a b u : ℕ) → Granted w v s a b u → Stations w path r
+    pub stations-are : (w v : List ℕ) (a b u : ℕ) → Granted w v s a b u → Stations w path (2 * r - 1)
     stations-are w v a b u g = record { listed = one }
       where
-        one : (i : ℕ) → i < r → Listed w (getD path i 0)
+        one : (i : ℕ) → i < 2 * r - 1 → Listed w (getD path i 0)
         one i h =
             let m = within (arcPath s k) i 0 (omega (arith, count)) in
             let z = arc-within (length ((timetableOf w) .stations)) s (g .made) k inside (getD (arcPath s k) i 0) m in
@@ -90,7 +118,7 @@ module _ (w v s : List ℕ) (a b u : ℕ) (g : Granted w v s a b u) where
   pub store-words : 2 ≤ length s
   store-words = omega (arith, store-made .present)
 
-  pub store-present : 2 + 2 * nodeCount s + 2 * arcCount s ≤ length s
+  pub store-present : 2 + 3 * nodeCount s + 2 * arcCount s ≤ length s
   store-present = store-made .present
 
   -- the number of an arc and one more is a word
@@ -135,20 +163,21 @@ module _ (w s best who : List ℕ) (a b u k arcs : ℕ) (all : arcs ≡ arcCount
     pub noted-skip : (t ≡ b → ⊥) → NotedAll w s a b u (k + 1) best who
     unfolding arcPath
     noted-skip other =
-        let rev = reverseAux (nodePath s (arcBefore s k)) [] in
         subst (λ j. NotedAll w s a b u j best who) (sym (add-one k))
         (record {
           collected =
               λ ok.
-              collected-skip (net (timetableOf w)) ok s a u b k best inside (so-far .collected ok) rev
+              collected-skip (net (timetableOf w)) ok s a u b k best inside (so-far .collected ok)
+              (nodePath s (arcBefore s k))
               (arcTarget s k)
-              (arc-turned s k in-arcs)
+              (arc-path s k in-arcs)
               (λ e. other (target ∙ e));
           sole =
               λ ok.
-              sole-skip (net (timetableOf w)) ok s a u b k best who inside (so-far .sole ok) rev
+              sole-skip (net (timetableOf w)) ok s a u b k best who inside (so-far .sole ok)
+              (nodePath s (arcBefore s k))
               (arcTarget s k)
-              (arc-turned s k in-arcs)
+              (arc-path s k in-arcs)
               (λ e. other (target ∙ e));
         })
 
@@ -162,16 +191,16 @@ module _ (w s path : List ℕ) (a b u k r : ℕ) (old mine best who best′ who�
     (merged : Merged k mine best who best′ who′)
     (bound : Bound best who)
     (so-far : NotedAll w s a b u k best who)
-    (lowered : Lowered (net (timetableOf w)) a u (changesTo path (r - 1)) (getD path (r - 1) 0) old mine)
+    (lowered : Lowered (net (timetableOf w)) a u (changesTo path (r - 1)) (getD path (2 * r - 2) 0) old mine)
     (fresh : old ≡ blank)
     (inside : k < arcCount s)
     (target : arcTarget s k ≡ b)
-    (is : take r path ≡ arcPath s k)
-    (count : r ≡ length (arcPath s k))
+    (is : take (2 * r - 1) path ≡ arcPath s k)
+    (count : 2 * r - 1 ≡ length (arcPath s k))
     (some : 1 ≤ r)
     (long : length best′ ≡ length best)
   where
-    abbrev rev : List ℕ
+    abbrev rev : List Transfer
     rev = changesTo path (r - 1)
 
     own : Lowered (net (timetableOf w)) a u (changesTo path (r - 1)) b blank mine
@@ -179,14 +208,14 @@ module _ (w s path : List ℕ) (a b u k r : ℕ) (old mine best who best′ who�
         subst (λ y. Lowered (net (timetableOf w)) a u (changesTo path (r - 1)) y blank mine)
         (target-is s path k r inside is count some ∙ target)
         (subst
-        (λ o. Lowered (net (timetableOf w)) a u (changesTo path (r - 1)) (getD path (r - 1) 0) o mine)
+        (λ o. Lowered (net (timetableOf w)) a u (changesTo path (r - 1)) (getD path (2 * r - 2) 0) o mine)
         fresh
         lowered)
 
-    ends : arcPath s k ≡ reverseAux (changesTo path (r - 1)) (b ∷ [])
+    ends : arcPath s k ≡ readBack (changesTo path (r - 1)) (b ∷ [])
     ends =
         changes-are s path k r inside is count some
-        ∙ ap (λ y. reverseAux (changesTo path (r - 1)) (y ∷ [])) target
+        ∙ ap (λ y. readBack (changesTo path (r - 1)) (y ∷ [])) target
 
     in-readable : k < length (readable s)
     in-readable = omega (arith, length-readable s)

@@ -1,19 +1,22 @@
 -- The least penalties of a store's sequences, collected arc by arc: after k arcs the array has, for each minute, the
 -- least penalty of those who arrive then by one of the first k sequences; after all arcs it has that of the list kept.
-use mathlib.Core.Path.{_≡_, refl, sym, subst, _∙_}
+use mathlib.Core.Path.{_≡_, refl, sym, ap, subst, _∙_}
 use mathlib.Core.Logic.{_≢_, inl, inr}
-use mathlib.Core.List.{List, [], _∷_, _++_, reverseAux, List·Memᴰ·head as here, Memᴰ·append-left, Memᴰ·append-right}
+use mathlib.Core.List.{List, [], _∷_, _++_, List·Memᴰ·head as here, Memᴰ·append-left, Memᴰ·append-right}
 use Prim.Native.Nat.{ℕ, zero, suc, _≤_, _<_}
 use native.Mathlib.Omega.{arith, by-contra}
-use lib.ListN.{length, getD, take, replicate, length-replicate, List·getD-eq-default}
+use lib.ListN.{length, getD, take, replicate, length-append, length-replicate, List·getD-eq-default}
 use lib.Seq.{take-suc, take-all}
-use Rattle.lists.specs.Lists.{_∈_}
+use Rattle.lists.specs.Lists.{_∈_, tail}
+use Rattle.lists.specs.Places.{no-length}
 use Rattle.lists.specs.Members.{none, append-cases, cons-cases}
-use Rattle.connections.specs.Connections.{Net, Connection, direct, onward, Feasible, ready, arrival, penalty, stations}
+use Rattle.results.specs.Picks.{lead}
+use Rattle.connections.specs.Connections.{Transfer, Net, Connection, direct, onward, Feasible, ready, arrival}
+use Rattle.connections.specs.Connections.{penalty, stations}
 use Rattle.connections.specs.Sound.{Sound}
-use Rattle.connections.specs.Feasibility.{takes-time}
-use Rattle.optimality.specs.Along.{Ends}
-use Rattle.optimality.specs.AlongLaws.{Sequenced, sequence-ends, sequence-end}
+use Rattle.connections.specs.Feasibility.{takes-time, has-stations}
+use Rattle.optimality.specs.Along.{readBack, Ends}
+use Rattle.optimality.specs.AlongLaws.{Sequenced, sequence-ends}
 use Rattle.stores.specs.Words.{readable, keptList}
 use Rattle.stores.specs.KeptLaws.{kept-exactly}
 use Rattle.query_minutes.specs.Minutes.{noPoints, blank}
@@ -24,6 +27,17 @@ use Rattle.query_rows.specs.Rowed.{At, LeastKept, Bounds}
 pub arrives-in-time : (n : Net) → Sound n → (x u b : ℕ) (c : Connection) → Feasible n x u b c → arrival c < 2880
 arrives-in-time n ok x u b (direct r) f = omega (arith, ok .bounded r (f .0 .listed))
 arrives-in-time n ok x u b (onward r z c) f = arrives-in-time n ok (z .to) (ready r z) b c (f .2)
+
+-- it ends at the last of its stations
+pub ends-at : (n : Net) (x u b : ℕ) (c : Connection) (q : List ℕ) (y : ℕ) → Feasible n x u b c
+    → stations c ≡ q ++ (y ∷ []) → y ≡ b
+ends-at n x u b (direct r) [] y f e = sym (ap lead e) ∙ f .1
+ends-at n x u b (direct r) (z ∷ q) y f e = absurd (omega (arith, ap length e, length-append q (y ∷ [])))
+ends-at n x u b (onward r w c) [] y f e = absurd (omega (arith, ap length e))
+ends-at n x u b (onward r w c) (z ∷ []) y f e =
+    absurd (has-stations c (no-length (stations c) (omega (arith, ap length e))))
+ends-at n x u b (onward r w c) (z ∷ v ∷ q) y f e =
+    ends-at n (w .to) (ready r w) b c q y (f .2) (ap (λ l. tail (tail l)) e)
 
 -- the first k + 1 sequences are the first k and the one at place k
 module _ (s : List ℕ) (k : ℕ) (inside : k < length (readable s)) where
@@ -86,70 +100,71 @@ module _ (n : Net) (ok : Sound n) (s : List ℕ) (a u b : ℕ) where
         }
 
     -- a sequence that ends elsewhere has no connection to b
-    pub collected-skip : (rev : List ℕ) (y : ℕ) → this ≡ reverseAux rev (y ∷ []) → y ≢ b → Collected (suc k) w
-    collected-skip rev y e other =
+    pub collected-skip : (q : List ℕ) (y : ℕ) → this ≡ q ++ (y ∷ []) → y ≢ b → Collected (suc k) w
+    collected-skip q y e other =
         record {
           long = so-far .long;
           attained = λ m h g. keep m (getD w m 0) (so-far .attained m h g);
           low =
               λ c f i.
               sequence-cases s k inside (stations c) i (so-far .low c f)
-              (λ z. absurd (other (sym (sequence-end n a u b c rev y f (z ∙ e)))));
+              (λ z. absurd (other (ends-at n a u b c q y f (z ∙ e))));
         }
 
-    module _ (rev : List ℕ) (e : this ≡ reverseAux rev (b ∷ [])) (new : List ℕ) (l : Lowered n a u rev b w new) where
-      -- within the array what is read past its end does not matter
-      before-is : (m : ℕ) → m < 2880 → getD w m noPoints ≡ getD w m 0
-      before-is m h = getD-any w m noPoints 0 (omega (arith, so-far .long))
+    module _ (rev : List Transfer) (e : this ≡ readBack rev (b ∷ [])) (new : List ℕ) (l : Lowered n a u rev b w new)
+      where
+        -- within the array what is read past its end does not matter
+        before-is : (m : ℕ) → m < 2880 → getD w m noPoints ≡ getD w m 0
+        before-is m h = getD-any w m noPoints 0 (omega (arith, so-far .long))
 
-      after-is : (m : ℕ) → m < 2880 → getD new m noPoints ≡ getD new m 0
-      after-is m h = getD-any new m noPoints 0 (omega (arith, l .long, so-far .long))
+        after-is : (m : ℕ) → m < 2880 → getD new m noPoints ≡ getD new m 0
+        after-is m h = getD-any new m noPoints 0 (omega (arith, l .long, so-far .long))
 
-      attained : (m : ℕ) → m < 2880 → getD new m 0 < noPoints → Held (suc k) m (getD new m 0)
-      attained m h g = elim (l .stems m) [
-        | inl z ↦ old (sym (after-is m h) ∙ z ∙ before-is m h)
-        | inr z ↦
-            fresh (sequence-ends n a u rev b m (getD new m 0) .0 (subst (Ends n a u rev b m) (after-is m h) z))
-      ]
-        where
-          old : getD new m 0 ≡ getD w m 0 → Held (suc k) m (getD new m 0)
-          old z =
-              subst (Held (suc k) m) (sym z)
-              (keep m (getD w m 0) (so-far .attained m h (omega (arith, g, z))))
+        attained : (m : ℕ) → m < 2880 → getD new m 0 < noPoints → Held (suc k) m (getD new m 0)
+        attained m h g = elim (l .stems m) [
+          | inl z ↦ old (sym (after-is m h) ∙ z ∙ before-is m h)
+          | inr z ↦
+              fresh (sequence-ends n a u rev b m (getD new m 0) .0 (subst (Ends n a u rev b m) (after-is m h) z))
+        ]
+          where
+            old : getD new m 0 ≡ getD w m 0 → Held (suc k) m (getD new m 0)
+            old z =
+                subst (Held (suc k) m) (sym z)
+                (keep m (getD w m 0) (so-far .attained m h (omega (arith, g, z))))
 
-          fresh : Sequenced n a u rev b m (getD new m 0) → Held (suc k) m (getD new m 0)
-          fresh z =
-              record {
-                one = z .connection;
-                feasible = z .feasible;
-                held =
-                    subst (λ r. stations (z .connection) ∈ r) (sym next)
-                    (Memᴰ·append-right (take k (readable s)) (here (z .sequence ∙ sym e)));
-                arrives = z .arrives;
-                pays = z .pays;
-              }
+            fresh : Sequenced n a u rev b m (getD new m 0) → Held (suc k) m (getD new m 0)
+            fresh z =
+                record {
+                  one = z .connection;
+                  feasible = z .feasible;
+                  held =
+                      subst (λ r. stations (z .connection) ∈ r) (sym next)
+                      (Memᴰ·append-right (take k (readable s)) (here (z .sequence ∙ sym e)));
+                  arrives = z .arrives;
+                  pays = z .pays;
+                }
 
-      pub collected-more : Collected (suc k) new
-      collected-more = record { long = l .long ∙ so-far .long; attained = attained; low = low }
-        where
-          low : (c : Connection) → Feasible n a u b c → stations c ∈ take (suc k) (readable s)
-              → getD new (arrival c) 0 ≤ penalty c
-          low c f i =
-              let h = arrives-in-time n ok a u b c f in
-              sequence-cases s k inside (stations c) i
-              (λ z.
-              omega (
-                arith,
-                l .lower (arrival c),
-                before-is (arrival c) h,
-                after-is (arrival c) h,
-                so-far .low c f z,
-              ))
-              (λ z.
-              let ends =
-              sequence-ends n a u rev b (arrival c) (penalty c) .1
-              (record { connection = c; feasible = f; sequence = z ∙ e; arrives = refl; pays = refl }) in
-              omega (arith, l .below (arrival c) (penalty c) ends, after-is (arrival c) h))
+        pub collected-more : Collected (suc k) new
+        collected-more = record { long = l .long ∙ so-far .long; attained = attained; low = low }
+          where
+            low : (c : Connection) → Feasible n a u b c → stations c ∈ take (suc k) (readable s)
+                → getD new (arrival c) 0 ≤ penalty c
+            low c f i =
+                let h = arrives-in-time n ok a u b c f in
+                sequence-cases s k inside (stations c) i
+                (λ z.
+                omega (
+                  arith,
+                  l .lower (arrival c),
+                  before-is (arrival c) h,
+                  after-is (arrival c) h,
+                  so-far .low c f z,
+                ))
+                (λ z.
+                let ends =
+                sequence-ends n a u rev b (arrival c) (penalty c) .1
+                (record { connection = c; feasible = f; sequence = z ∙ e; arrives = refl; pays = refl }) in
+                omega (arith, l .below (arrival c) (penalty c) ends, after-is (arrival c) h))
 
   -- all sequences: the list kept
   pub collected-all : (k : ℕ) (w : List ℕ) → length (readable s) ≤ k → Collected k w

@@ -2,7 +2,7 @@
 use mathlib.Core.Path.{_≡_, refl, ap, subst, _∙_}
 use mathlib.Core.Bool.{Bool, true, false}
 use mathlib.Core.List.{List}
-use Prim.Native.Nat.{ℕ, _*_, _≤_, _<_}
+use Prim.Native.Nat.{ℕ, _-_, _*_, _≤_, _<_}
 use native.Mathlib.Omega.{arith}
 use lib.ListN.{length, take}
 use lib.Seq.{length-take-le}
@@ -30,16 +30,16 @@ module _
     (a b u k r : ℕ)
     (g : Granted w v s a b u)
     (inside : k < arcCount s)
-    (is : take r path ≡ arcPath s k)
-    (count : r ≡ length (arcPath s k))
+    (is : take (2 * r - 1) path ≡ arcPath s k)
+    (count : 2 * r - 1 ≡ length (arcPath s k))
     (some : 1 ≤ r)
   where
-    path-listed : Listed (stationCount w) path r
+    path-listed : Listed (stationCount w) path (2 * r - 1)
     path-listed =
         let z = stations-are s path k r inside is count some w v a b u g in
         record { at = λ i h. (z .listed i h .some, z .listed i h .inside) }
 
-    pub path-given : (m : ℕ) → r ≤ 63 → m < 2880 → Given w v path r m
+    pub path-given : (m : ℕ) → r ≤ 64 → m < 2880 → Given w v path r m
     path-given m few timely =
         record {
           enough = g .long;
@@ -54,7 +54,7 @@ module _
     module _
         (m p : ℕ)
         (target : arcTarget s k ≡ b)
-        (few : r ≤ 63)
+        (few : r ≤ 64)
         (f : First)
         (was tried : List ℕ)
         (long : length was ≡ 192)
@@ -71,7 +71,7 @@ module _
             (λ l. Found (timetableOf w) b m (f .found) l a u p (take (3 * r) tried) (f .depart))
             is
             (subst
-            (λ y. Found (timetableOf w) y m (f .found) (take r path) a u p (take (3 * r) tried) (f .depart))
+            (λ y. Found (timetableOf w) y m (f .found) (take (2 * r - 1) path) a u p (take (3 * r) tried) (f .depart))
             (target-is s path k r inside is count some ∙ target)
             z)
 

@@ -68,7 +68,7 @@ pub record Winning (w s : List ℕ) (a b u m p : ℕ) (x : Winner) (shown : List
   pub one : Connection
   pub shows : Shows u (kept w s a b u) (costOf m p) one
   pub holds : Holds x shown one
-  pub few : x .rides ≤ 63
+  pub few : x .rides ≤ 64
   pub long : length shown ≡ 192
 
 -- the words of the row for minute m and penalty p are counted, or written from index at on

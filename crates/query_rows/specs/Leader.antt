@@ -1,5 +1,5 @@
 -- The arc that has the connection shown for an arrival minute and a penalty: what is found first along this arc alone
--- is that connection, and its row has three words for each station of the arc's sequence.
+-- is that connection, and its row has three words for each ride of the arc's sequence.
 use mathlib.Core.Path.{_≡_, refl, sym, ap, subst, _∙_}
 use mathlib.Core.Bool.{Bool, true, false}
 use mathlib.Core.List.{List}
@@ -22,14 +22,13 @@ use Rattle.query_store.specs.Paths.{arcPath, length-readable}
 use Rattle.query_store.specs.Granted.{readable-in}
 use Rattle.query_minutes.specs.Minutes.{noPoints, leads}
 use Rattle.query_minutes.specs.Noted.{getD-any, led-exactly}
-use Rattle.optimality.specs.Greedy.{count-stations}
 use Rattle.promises.specs.Query.{kept}
 use Rattle.query_rows.specs.Rowed.{Shows}
 use Rattle.query_rows.specs.Won.{By, won-all, none-never}
 use Rattle.query_rows.specs.Leading.{row-of, numbers-long}
 use Rattle.query_rows.specs.Granted.{Granted, is-sound, all-bounds, costOf, Leading, Winning, Counted}
 use Rattle.query_rows.specs.Sole.{sole-all}
-use Rattle.query_rows.specs.Arcs.{arc-few, NotedAll, noted-all}
+use Rattle.query_rows.specs.Arcs.{ridesAlong, rides-along, arc-few, NotedAll, noted-all}
 use Rattle.query_rows.specs.Trying.{Sized, ArcWon, ArcTried, Tried}
 use Rattle.query_rows.specs.declared.Winner.{Winner}
 
@@ -74,7 +73,7 @@ module _ (w v s : List ℕ) (a b u m p k : ℕ) (g : Granted w v s a b u) (l : L
   pub leader-few : k + 1 < 65536
   leader-few = arc-few w v s a b u g k (l .inside)
 
-  pub leader-counted : (n : ℕ) → n ≡ 3 + 3 * length (arcPath s k) → Counted w s a b u m p n
+  pub leader-counted : (n : ℕ) → n ≡ 3 + 3 * ridesAlong (arcPath s k) → Counted w s a b u m p n
   leader-counted n e =
       record {
         row = row (measure u) (l .one);
@@ -85,8 +84,8 @@ module _ (w v s : List ℕ) (a b u m p k : ℕ) (g : Granted w v s a b u) (l : L
               e,
               ap length (row-says u (l .one)),
               numbers-long (l .one),
-              count-stations (l .one),
-              ap length (l .by),
+              rides-along (l .one),
+              ap ridesAlong (l .by),
             );
       }
 
@@ -132,7 +131,7 @@ module _ (w v s : List ℕ) (a b u m p k : ℕ) (g : Granted w v s a b u) (l : L
           record { one = y .one; shows = shown y; holds = y .holds; few = sized .few; long = same ∙ long }
 
   -- its row, and its word among those of the minutes
-  pub leader-named : (n : ℕ) (who : List ℕ) → n ≡ 3 + 3 * length (arcPath s k)
+  pub leader-named : (n : ℕ) (who : List ℕ) → n ≡ 3 + 3 * ridesAlong (arcPath s k)
       → NamedRow w s a b u m p n who (set who m (k + 1))
   leader-named n who e = record { arc = k; leader = l; counted = leader-counted n e; named = refl }
 

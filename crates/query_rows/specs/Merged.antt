@@ -11,7 +11,7 @@ use lib.Dec.{ltb, eqb, ltb→lt, nltb→le}
 use lib.ListN.{length, getD, set, replicate, length-replicate}
 use lib.Seq.{getD-set-same, getD-set-other, ext-getD}
 use Rattle.lists.specs.Tests.{either}
-use Rattle.connections.specs.Connections.{Net}
+use Rattle.connections.specs.Connections.{Transfer, Net}
 use Rattle.optimality.specs.Along.{Ends}
 use Rattle.query_minutes.specs.Minutes.{noPoints, blank}
 use Rattle.query_minutes.specs.Noted.{getD-any, getD-blank}
@@ -124,7 +124,7 @@ module _ (k : ℕ) (mine best who best′ who′ : List ℕ) (bound : Bound best
       }
 
   -- the penalties are lowered to those of the arc
-  pub lowered-merged : (n : Net) (a t : ℕ) (rev : List ℕ) (b : ℕ) → length best′ ≡ length best
+  pub lowered-merged : (n : Net) (a t : ℕ) (rev : List Transfer) (b : ℕ) → length best′ ≡ length best
       → Lowered n a t rev b blank mine → Lowered n a t rev b best best′
   lowered-merged n a t rev b long l =
       record {

@@ -2,15 +2,16 @@
 -- every one who does not go by that arc's own sequence pays more than the least penalty.
 use mathlib.Core.Path.{_≡_, refl, sym, ap, subst, _∙_}
 use mathlib.Core.Logic.{_≢_, _⊎_, inl, inr}
-use mathlib.Core.List.{List, [], _∷_, reverseAux}
+use mathlib.Core.List.{List, [], _∷_, _++_}
 use Prim.Native.Nat.{ℕ, suc, _≤_, _<_, min}
 use native.Mathlib.Omega.{arith}
 use lib.ListN.{length, getD, take}
 use lib.Seq.{take-all}
 use Rattle.lists.specs.Lists.{_∈_}
-use Rattle.connections.specs.Connections.{Net, Connection, Feasible, arrival, penalty, stations}
+use Rattle.connections.specs.Connections.{Transfer, Net, Connection, Feasible, arrival, penalty, stations}
 use Rattle.connections.specs.Sound.{Sound}
-use Rattle.optimality.specs.AlongLaws.{sequence-ends, sequence-end}
+use Rattle.optimality.specs.Along.{readBack}
+use Rattle.optimality.specs.AlongLaws.{sequence-ends}
 use Rattle.stores.specs.Words.{readable, keptList}
 use Rattle.stores.specs.KeptLaws.{kept-exactly}
 use Rattle.query_store.specs.Entries.{arcTarget}
@@ -18,7 +19,7 @@ use Rattle.query_store.specs.Paths.{arcPath}
 use Rattle.query_minutes.specs.Minutes.{noPoints, blank}
 use Rattle.query_minutes.specs.Noted.{getD-any, getD-blank}
 use Rattle.query_costs.specs.Lowered.{Lowered}
-use Rattle.query_rows.specs.Collected.{Collected, sequence-cases, arrives-in-time}
+use Rattle.query_rows.specs.Collected.{Collected, sequence-cases, arrives-in-time, ends-at}
 use Rattle.query_rows.specs.Merged.{unnamed, Merged}
 
 -- for a query from a at minute u to b
@@ -49,20 +50,20 @@ module _ (n : Net) (ok : Sound n) (s : List ℕ) (a u b : ℕ) where
     this = getD (readable s) k []
 
     -- a sequence that ends elsewhere has no connection to b
-    pub sole-skip : (rev : List ℕ) (y : ℕ) → this ≡ reverseAux rev (y ∷ []) → y ≢ b → Sole (suc k) best who
-    sole-skip rev y e other =
+    pub sole-skip : (q : List ℕ) (y : ℕ) → this ≡ q ++ (y ∷ []) → y ≢ b → Sole (suc k) best who
+    sole-skip q y e other =
         record {
           inside = λ m j f. omega (arith, so-far .inside m j f);
           ends = so-far .ends;
           alone =
               λ m j f c g i h.
               sequence-cases s k inside (stations c) i (λ z. so-far .alone m j f c g z h)
-              (λ z. absurd (other (sym (sequence-end n a u b c rev y g (z ∙ e)))));
+              (λ z. absurd (other (ends-at n a u b c q y g (z ∙ e))));
         }
 
     -- arc k merged
-    module _ (mine best′ who′ rev : List ℕ) (e : this ≡ reverseAux rev (b ∷ [])) (ends-here : arcTarget s k ≡ b)
-        (low : Collected n ok s a u b k best) (l : Lowered n a u rev b blank mine)
+    module _ (mine best′ who′ : List ℕ) (rev : List Transfer) (e : this ≡ readBack rev (b ∷ []))
+        (ends-here : arcTarget s k ≡ b) (low : Collected n ok s a u b k best) (l : Lowered n a u rev b blank mine)
         (merged : Merged k mine best who best′ who′)
       where
         -- the arcs before pay no less than what was kept, and arc k no less than what it has

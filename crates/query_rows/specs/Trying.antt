@@ -2,7 +2,7 @@
 -- along the next arc in another.
 use mathlib.Core.Path.{_≡_, refl, sym, ap, subst, _∙_}
 use mathlib.Core.Bool.{Bool, true, false, not, cond}
-use mathlib.Core.List.{List, [], reverseAux}
+use mathlib.Core.List.{List}
 use Prim.Native.Nat.{ℕ, suc, _+_, _*_, _≤_, _<_}
 use native.Mathlib.Numerals.{add-one}
 use native.Mathlib.Omega.{arith}
@@ -19,18 +19,17 @@ use Rattle.connections.specs.Planner.{tieKey}
 use Rattle.connections.specs.Sound.{Sound}
 use Rattle.stores.specs.Words.{readable}
 use Rattle.query_store.specs.Entries.{arcCount, arcTarget, arcBefore}
-use Rattle.query_store.specs.Paths.{nodePath, arcPath, length-readable}
+use Rattle.query_store.specs.Paths.{nodePath, arcPath, arc-path, length-readable}
 use Rattle.query_rows.specs.Keys.{keyWords, key-is}
 use Rattle.query_rows.specs.Won.{By, Own, Won, None, none-first}
 use Rattle.query_rows.specs.Won.{none-more, won-skip, won-new, won-better, won-keep}
 use Rattle.query_rows.specs.Won.{none-elsewhere}
-use Rattle.query_rows.specs.Arcs.{arc-turned}
 use Rattle.query_rows.specs.Granted.{costOf, Holds}
 use Rattle.query_rows.specs.declared.Winner.{Winner}
 
 -- its numbers fit the arrays, and its departure is a minute
 pub record Sized (x : Winner) : Type 0 where
-  pub few : x .rides ≤ 63
+  pub few : x .rides ≤ 64
   pub timely : x .found ≡ true → x .depart ≤ 2879
 
 pub in-time : (x : Winner) → Sized x → not (x .found) ≡ false → x .depart ≤ 2879
@@ -152,9 +151,9 @@ module _ (w s : List ℕ) (a b u m p : ℕ) where
           empty
           (λ ok e.
           none-elsewhere n ok s a u b c k inside
-          (reverseAux (nodePath s (arcBefore s k)) [])
+          (nodePath s (arcBefore s k))
           (arcTarget s k)
-          (arc-turned s k more)
+          (arc-path s k more)
           other
           e)
 

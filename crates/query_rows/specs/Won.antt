@@ -2,7 +2,7 @@
 -- that the rule for equal cost picks, or none; after all arcs it is the one picked from the list kept.
 use mathlib.Core.Path.{_≡_, sym, ap, subst, _∙_}
 use mathlib.Core.Logic.{_≢_}
-use mathlib.Core.List.{List, [], _∷_, _++_, reverseAux, List·Memᴰ·head as here, Memᴰ·append-left, Memᴰ·append-right}
+use mathlib.Core.List.{List, [], _∷_, _++_, List·Memᴰ·head as here, Memᴰ·append-left, Memᴰ·append-right}
 use Prim.Native.Nat.{ℕ, suc, _≤_, _<_}
 use native.Mathlib.Omega.{arith, by-contra}
 use lib.Dec.{T}
@@ -20,8 +20,8 @@ use Rattle.stores.specs.Words.{readable, keptList}
 use Rattle.stores.specs.KeptLaws.{kept-exactly}
 use Rattle.query_minutes.specs.Minutes.{noPoints, leads}
 use Rattle.query_minutes.specs.Noted.{Led, led-exactly}
-use Rattle.optimality.specs.AlongLaws.{sequence-end}
 use Rattle.query_rows.specs.Rowed.{LeastKept, Shows}
+use Rattle.query_rows.specs.Collected.{ends-at}
 
 -- for a query from a at minute u to b, and an arrival minute and penalty
 module _ (n : Net) (ok : Sound n) (s : List ℕ) (a u b : ℕ) (c : Cost) where
@@ -125,9 +125,8 @@ module _ (n : Net) (ok : Sound n) (s : List ℕ) (a u b : ℕ) (c : Cost) where
         }
 
     -- a sequence that ends elsewhere has no connection to b
-    pub none-elsewhere : (rev : List ℕ) (y : ℕ) → this ≡ reverseAux rev (y ∷ []) → y ≢ b → (e : Connection)
-        → By this e → ⊥
-    none-elsewhere rev y e other x o = other (sym (sequence-end n a u b x rev y (o .feasible) (o .is ∙ e)))
+    pub none-elsewhere : (q : List ℕ) (y : ℕ) → this ≡ q ++ (y ∷ []) → y ≢ b → (e : Connection) → By this e → ⊥
+    none-elsewhere q y e other x o = other (ends-at n a u b x q y (o .feasible) (o .is ∙ e))
 
   -- ---- all arcs
   module _ (k : ℕ) (all : length (readable s) ≤ k) where

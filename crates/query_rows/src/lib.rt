@@ -1,7 +1,7 @@
 // The rows of a query from a store. All arcs of the target are gone through first: for each minute of arrival the
 // least penalty of their connections, and the arc that alone has it (`note_arcs`). The minutes whose penalty is
-// below those of all earlier ones are the rows. Each row's arc is named and the row is measured by the arc's
-// length (`measure`), and only then are its rides looked for and written (`write_rows`): an answer that does not
+// below those of all earlier ones are the rows. Each row's arc is named and the row is measured by the arc's number
+// of rides (`measure`), and only then are its rides looked for and written (`write_rows`): an answer that does not
 // fit is refused before a word of it is written, and there is no room to keep the rides of all rows until it is
 // known to fit. Where several arcs tie, naming the arc means trying them all, so that the connection of such a row
 // is found twice.
@@ -19,7 +19,7 @@ ghost use Rattle.query_rows.specs.Keys.{keyWords};
 ghost use Rattle.query_rows.specs.Rowed.{LeastKept};
 ghost use Rattle.query_minutes.specs.Minutes.{noPoints, blank};
 ghost use Rattle.query_rows.specs.Merged.{unnamed, soleOf, Bound, Outside, Merged};
-ghost use Rattle.query_rows.specs.Arcs.{NotedAll};
+ghost use Rattle.query_rows.specs.Arcs.{ridesAlong, NotedAll};
 ghost use Rattle.query_rows.specs.Leader.{Leader, Named, NamedRow, AllNamed, AllLed};
 ghost use Rattle.query_rows.specs.Granted.{Granted, Leading, Winning, Written, Room};
 ghost use Rattle.query_rows.specs.Trying.{Sized, winsTest, ArcTried, Tried};
@@ -31,10 +31,10 @@ use results::Points;
 // The words of a row before the numbers of its rides.
 const ROW_WORDS: usize = 3;
 
-// Room for the stations of a pattern.
-const STATIONS_MOST: usize = 64;
+// Room for the stations of a pattern: for each change where one alights and where one boards, and the target.
+const STATIONS_MOST: usize = 128;
 
-// Room for the numbers of all rides of a connection: a pattern has at most 63 stations behind its source.
+// Room for the numbers of all rides of a connection: a pattern has at most 64 rides.
 const NUMBERS_MOST: usize = 192;
 
 // The connection that goes before all others tried so far: whether there is one, its arc, when it departs, and how many
@@ -164,6 +164,21 @@ fn merge(k: usize, from: usize, to: usize, mine: &mut [u32], best: &mut [u32], w
     }
 }
 
+// Writes the stations of the pattern of arc k, without the source, and returns how many rides it has: one more than
+// changes.
+fn read_arc(store: &[u16], k: usize, path: &mut [u16]) -> usize
+    requires { ⌜ Made (now store) × (k < arcCount (now store)) × (length (now path) ≡ 128) ⌝ }
+    ensures { λ r. ⌜ (take (2 * r - 1) (now (path .exit)) ≡ arcPath (now (store .entry)) k)
+        × (2 * r - 1 ≡ length (arcPath (now (store .entry)) k))
+        × (r ≡ ridesAlong (arcPath (now (store .entry)) k))
+        × (1 ≤ r)
+        × (r ≤ 64) ⌝ }
+    ensures { λ _. ⌜ length (now (path .exit)) ≡ length (now (path .entry)) ⌝ }
+{
+    let stations = query_store::arc_pattern(store, k, path);
+    stations / 2 + 1
+}
+
 // Lowers the least penalties to those of the connections of arc k, and notes the minutes that it alone reaches for the
 // least penalty. The array for its own penalties is blank before and after.
 fn note_arc(
@@ -203,7 +218,7 @@ fn note_arc(
         × (length (now (who .exit)) ≡ length (now (who .entry))) ⌝ }
 {
     let mut path = [0u16; STATIONS_MOST];
-    let r = query_store::arc_pattern(store, k, &mut path);
+    let r = read_arc(store, k, &mut path);
     let reached = query_costs::note_pattern(words, lines, from, minute, &path, r, mine);
     merge(k, reached.from, reached.to, mine, best, who);
 }
@@ -289,7 +304,7 @@ fn find_arc(
     ensures { λ _. ⌜ length (now (tried .exit)) ≡ length (now (tried .entry)) ⌝ }
 {
     let mut path = [0u16; STATIONS_MOST];
-    let r = query_store::arc_pattern(store, k, &mut path);
+    let r = read_arc(store, k, &mut path);
     let f = query_shown::first_of_pattern(
         words,
         lines,
@@ -461,10 +476,10 @@ fn leading_arc(
 // How many words the row of a connection that goes by arc k has.
 fn row_length(store: &[u16], k: usize) -> usize
     requires { ⌜ Made (now store) × (k < arcCount (now store)) ⌝ }
-    ensures { λ r. ⌜ (r ≡ 3 + 3 * length (arcPath (now (store .entry)) k)) × (r ≤ 192) ⌝ }
+    ensures { λ r. ⌜ (r ≡ 3 + 3 * ridesAlong (arcPath (now (store .entry)) k)) × (r ≤ 195) ⌝ }
 {
     let mut path = [0u16; STATIONS_MOST];
-    let r = query_store::arc_pattern(store, k, &mut path);
+    let r = read_arc(store, k, &mut path);
     ROW_WORDS + 3 * r
 }
 
@@ -497,7 +512,7 @@ fn name_arc(
         r
         (now (who .entry))
         (now (who .exit))
-        × (r ≤ 192) ⌝ }
+        × (r ≤ 195) ⌝ }
     ensures { λ _. ⌜ length (now (who .exit)) ≡ length (now (who .entry)) ⌝ }
 {
     let named = words::word(who, arrive) as usize;
@@ -545,7 +560,7 @@ pub fn measure(
 
 // Writes a row from index at on: its cost, the number of rides and their numbers. Returns the index after it.
 fn put_row(answer: &mut [u32], at: usize, cost: Cost, rides: usize, shown: &[u32]) -> usize
-    requires { ⌜ (rides ≤ 63) × (length (now shown) ≡ 192) × (at + (3 + 3 * rides) ≤ length (now answer)) ⌝ }
+    requires { ⌜ (rides ≤ 64) × (length (now shown) ≡ 192) × (at + (3 + 3 * rides) ≤ length (now answer)) ⌝ }
     ensures { λ _. ⌜ now (answer .exit)
         ≡ put at
         (cost .minutes .0 ∷ cost .points .0 ∷ rides ∷ take (3 * rides) (now (shown .entry)))

@@ -11,9 +11,11 @@ use Rattle.query_direct.specs.Candidates.{nearRead}
 use Rattle.query_minutes.specs.Minutes.{noPoints}
 use Rattle.query_rides.specs.declared.Ride.{Ride as RideStruct}
 use Rattle.query_rides.specs.declared.Cursor.{Cursor}
+use Rattle.query_rides.specs.declared.Ways.{Ways}
 use Rattle.query_rides.specs.Riding.{Tells, nearLeft, rideOf, near-none}
+use Rattle.query_shown.specs.Prices.{frontPrice}
 use Rattle.query_shown.specs.Heads.{noRide, headOf}
-use Rattle.query_shown.specs.Turns.{tellsOf, tells-is, comesBefore, tried, triedAll, tried-all, Sized}
+use Rattle.query_shown.specs.Turns.{tellsOf, tells-is, comesBefore, tried, triedOnto, triedAll, tried-all, Sized}
 
 pub sized-told : (s : RideStruct) (lines : List ℕ) (c : Cursor) → Tells s (rideOf lines c) → Sized s
 sized-told s lines c t =
@@ -24,6 +26,35 @@ sized-told s lines c t =
       arrive = omega (arith, t .arrive-few);
     }
 
+-- ---- what stands in front of it
+module _
+    (first : Bool)
+    (z : List ℕ)
+    (p k : ℕ)
+    (best s : RideStruct)
+    (priced : Bool)
+    (is-priced : priced ≡ ltb k noPoints)
+  where
+    pub onto-shut : not priced ≡ true → best ≡ triedOnto first z p k best s
+    unfolding triedOnto
+    onto-shut h = simp (sym is-priced, not-true priced h)
+
+    module _ (g : not priced ≡ false) (poor : Bool) (is-poor : poor ≡ ltb p k) where
+      some-way : ltb k noPoints ≡ true
+      some-way = sym is-priced ∙ not-false priced g
+
+      pub onto-poor : poor ≡ true → best ≡ triedOnto first z p k best s
+      unfolding triedOnto
+      onto-poor e = simp (some-way, lt-leb k p (ltb-true p k (sym is-poor ∙ e)))
+
+      pub onto-paid : poor ≡ false → (over : ℕ) → over ≡ p - k → (r : RideStruct) → r ≡ tried first z over best s
+          → r ≡ triedOnto first z p k best s
+      unfolding triedOnto
+      onto-paid e over is r f =
+          rw (some-way, le-leb k p (ltb-false p k (sym is-poor ∙ e)))
+          (f ∙ ap (λ p. tried first z p best s) is)
+
+-- ---- the ride, and what is left behind it
 module _
     (first : Bool)
     (z : List ℕ)
@@ -77,34 +108,42 @@ module _
             pub try-keeps : r ≡ false → best ≡ tried first z p best s
             try-keeps t = sym (tried-is ∙ ap (λ b. cond b s best) t)
 
-module _ (lines : List ℕ) (from to ready : ℕ) (first : Bool) (z : List ℕ) (p : ℕ) where
+module _ (lines : List ℕ) (from to arrive : ℕ) (first : Bool) (g : Ways) (z : List ℕ) (p : ℕ) where
   abbrev whole : RideStruct
-  whole = triedAll first z p (tellsOf noRide) (nearRead lines from ready to)
-
-  pub choose-begins : (c : Cursor) → nearLeft lines ready c ≡ nearRead lines from ready to
-      → whole ≡ triedAll first z p (tellsOf noRide) (nearLeft lines ready c)
-  choose-begins c e = ap (triedAll first z p (tellsOf noRide)) (sym e)
+  whole = triedAll first (frontPrice first g arrive) z p (tellsOf noRide) (nearRead lines from arrive to)
 
   -- the choice, once the rides left are tried too
   abbrev with : RideStruct → Cursor → RideStruct
-  with best c = triedAll first z p best (nearLeft lines ready c)
+  with best c = triedAll first (frontPrice first g arrive) z p best (nearLeft lines arrive c)
+
+  pub choose-begins : (c : Cursor) → nearLeft lines arrive c ≡ nearRead lines from arrive to
+      → whole ≡ triedAll first (frontPrice first g arrive) z p (tellsOf noRide) (nearLeft lines arrive c)
+  choose-begins c e = ap (triedAll first (frontPrice first g arrive) z p (tellsOf noRide)) (sym e)
 
   module _ (best : RideStruct) (c : Cursor) (so-far : whole ≡ with best c) where
-    pub choose-more : (d : Cursor) (s new : RideStruct) → Tells s (rideOf lines c) → new ≡ tried first z p best s
-        → nearLeft lines ready c ≡ rideOf lines c ∷ nearLeft lines ready d
-        → whole ≡ triedAll first z p new (nearLeft lines ready d)
+    pub choose-more : (d : Cursor) (s new : RideStruct) (k : ℕ) → Tells s (rideOf lines c)
+        → k ≡ frontPrice first g arrive (s .depart)
+        → new ≡ triedOnto first z p k best s
+        → nearLeft lines arrive c ≡ rideOf lines c ∷ nearLeft lines arrive d
+        → whole ≡ triedAll first (frontPrice first g arrive) z p new (nearLeft lines arrive d)
     unfolding triedAll
-    choose-more d s new t n e =
-        let rest = nearLeft lines ready d in
+    choose-more d s new k t is n e =
+        let rest = nearLeft lines arrive d in
+        let price = frontPrice first g arrive in
         let told = tells-is s (rideOf lines c) t in
         so-far
-        ∙ ap (triedAll first z p best) e
-        ∙ ap (λ b. triedAll first z p b rest) (ap (tried first z p best) (sym told) ∙ sym n)
+        ∙ ap (triedAll first price z p best) e
+        ∙ ap (λ b. triedAll first price z p b rest)
+        (sym
+        (n
+        ∙ ap (λ k. triedOnto first z p k best s) is
+        ∙ ap (λ s. triedOnto first z p (price (s .depart)) best s) told))
 
-    pub choose-done : c .more ≡ false → best ≡ tellsOf (headOf first z p (nearRead lines from ready to))
+    pub choose-done : c .more ≡ false
+        → best ≡ tellsOf (headOf first (frontPrice first g arrive) z p (nearRead lines from arrive to))
     unfolding triedAll
     choose-done e =
         sym
-        (sym (tried-all first z p (nearRead lines from ready to))
+        (sym (tried-all first (frontPrice first g arrive) z p (nearRead lines from arrive to))
         ∙ so-far
-        ∙ ap (triedAll first z p best) (near-none lines ready c e))
+        ∙ ap (triedAll first (frontPrice first g arrive) z p best) (near-none lines arrive c e))

@@ -2,5 +2,6 @@ pub mod RestLaws
 pub mod GatherLaws
 pub mod PatternLaws
 pub mod KeyLaws
+pub mod PriceLaws
 pub mod ChooseLaws
 pub mod WayLaws

@@ -3,6 +3,7 @@ pub mod Rests
 pub mod Settling
 pub mod Spans
 pub mod Stepping
+pub mod Prices
 pub mod Foremost
 pub mod Heads
 pub mod Going

@@ -20,14 +20,15 @@ use Rattle.query_shown.specs.declared.First.{First}
 pub record Listed (n : ℕ) (path : List ℕ) (r : ℕ) : Type 0 where
   pub at : (i : ℕ) → i < r → (1 ≤ getD path i 0) × (getD path i 0 ≤ n)
 
--- what is known of the words lent, and of a path of r stations to the last of which one is to come by minute v
+-- what is known of the words lent, and of a path of r rides to the end of which one is to come by minute v: it names
+-- the stations alighted and boarded at of each change, and then the end
 pub record Given (w lines path : List ℕ) (r v : ℕ) : Type 0 where
   pub enough : 16384 ≤ length w
   pub accepted : isTimetable w ≡ true
   pub own : areTables w lines ≡ true
-  pub listed : Listed (stationCount w) path r
-  pub few : r ≤ 63
-  pub long : r ≤ length path
+  pub listed : Listed (stationCount w) path (2 * r - 1)
+  pub few : r ≤ 64
+  pub long : 2 * r - 1 ≤ length path
   pub timely : v ≤ 2879
 
 module _ (timetable : Timetable) (b v : ℕ) where
@@ -52,4 +53,5 @@ module _ (timetable : Timetable) (b v : ℕ) where
 -- written rides.
 unfoldable pub FoundAt : (w path : List ℕ) (r v a t p : ℕ) (f : First) (rides : List ℕ) → Type 0
 FoundAt w path r v a t p f rides =
-    Found (timetableOf w) (getD path (r - 1) 0) v (f .found) (take r path) a t p (take (3 * r) rides) (f .depart)
+    Found (timetableOf w) (getD path (2 * r - 2) 0) v (f .found) (take (2 * r - 1) path) a t p (take (3 * r) rides)
+    (f .depart)

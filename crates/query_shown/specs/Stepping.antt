@@ -1,6 +1,6 @@
--- From what is left at one station of a pattern to what is left at the station before it: for each ride between them
--- that can be caught, the latest minute of arrival for which it can, and what it costs with the change before it and
--- what is left behind it.
+-- From what is left behind one ride of a pattern to what is left behind the ride before it: for each way of changing
+-- and each ride that can be caught by it, the latest minute of arrival for which it can, and what it costs with the
+-- change before it and what is left behind it.
 use mathlib.Core.Path.{_≡_, sym, ap, _∙_}
 use mathlib.Core.Bool.{Bool, not, _&&_}
 use mathlib.Core.Logic.{inl, inr}
@@ -10,16 +10,18 @@ use native.Mathlib.Omega.{arith}
 use lib.Dec.{T, leb, ltb, ltb→lt, nltb→le}
 use lib.ListN.{length, getD}
 use Rattle.timetable.specs.Timetable.{Timetable, valid}
-use Rattle.lists.specs.Lists.{_∈_, filter}
+use Rattle.lists.specs.Lists.{_∈_, filter, concatMap}
 use Rattle.lists.specs.Tests.{either, reads, writes}
-use Rattle.lists.specs.Members.{filter-in, filter-out}
+use Rattle.lists.specs.Members.{filter-in, filter-out, concatMap-in, concatMap-out}
+use Rattle.results.specs.declared.Cost.{Cost}
 use Rattle.connections.specs.Rides.{Ride}
-use Rattle.connections.specs.Connections.{Change, Net, net, Boards}
-use Rattle.connections.specs.RideLaws.{change-unique}
+use Rattle.connections.specs.Connections.{Net, net, Boards}
 use Rattle.connections.specs.Sound.{Sound, sound}
 use Rattle.connections.specs.Feasibility.{penalty-most}
 use Rattle.optimality.specs.Ways.{firstRide}
+use Rattle.query_direct.specs.Candidates.{nearRead}
 use Rattle.query_direct.specs.Nearest.{Nearer, nearer-sooner}
+use Rattle.query_rides.specs.Ways.{Changes, Open}
 use Rattle.query_minutes.specs.Minutes.{noPoints, noteAll, blank}
 use Rattle.query_minutes.specs.Noted.{Noted, Arrives, all-noted, LeastNoted, least-noted, length-noted}
 use Rattle.query_shown.specs.Rests.{Rest, Rests, rest-earlier, begun, parted}
@@ -48,9 +50,20 @@ catchable cm old r = ltb (getD old (r .arrive) noPoints) noPoints && leb cm (r .
 unfoldable pub catches : (cm cp : ℕ) (old : List ℕ) → List Ride → List Ride
 catches cm cp old l = map (caught cm cp old) (filter (catchable cm old) l)
 
--- what is left at the station before from minute t on, rides being those between the two
-unfoldable pub stepped : (t cm cp : ℕ) (old : List ℕ) → List Ride → List ℕ
-stepped t cm cp old rides = settledFrom noPoints t (noteAll blank (catches cm cp old rides))
+-- the rides from one station to the nearest places of another, as line tables tell them, by the minute from which on
+-- they leave
+unfoldable pub ridesTo : (lines : List ℕ) (from to : ℕ) → (u : ℕ) → List Ride
+ridesTo lines from to u = nearRead lines from u to
+
+-- the same for each way of changing, by what it takes and costs, for one who arrives at minute t or later: rides tells
+-- the rides that leave at a minute or later
+unfoldable pub caughtWays : (t : ℕ) → List Cost → (old : List ℕ) (rides : ℕ → List Ride) → List Ride
+caughtWays t costs old rides =
+    concatMap (λ c. catches (c .minutes .0) (c .points .0) old (rides (t + c .minutes .0))) costs
+
+-- what is left at the station before from minute t on
+unfoldable pub stepped : (t : ℕ) → List Cost → (old : List ℕ) (rides : ℕ → List Ride) → List ℕ
+stepped t costs old rides = settledFrom noPoints t (noteAll blank (caughtWays t costs old rides))
 
 -- ---- the window is kept
 module _ (t v : ℕ) (early : t ≤ v) (timely : v ≤ 2879) where
@@ -84,28 +97,31 @@ module _ (t v : ℕ) (early : t ≤ v) (timely : v ≤ 2879) where
   -- Rides that can still be caught by one who arrives at minute t, and that take time, are noted for minutes from t
   -- on; and what is left behind them is left by minute v, so they are noted for minutes before it.
   module _
-      (cm cp : ℕ)
+      (costs : List Cost)
       (old : List ℕ)
       (spans : Spans t v old)
-      (rides : List Ride)
-      (useful : (r : Ride) → r ∈ rides → (t + cm ≤ r .depart) × (r .depart < r .arrive))
+      (rides : ℕ → List Ride)
+      (useful : (u : ℕ) (r : Ride) → r ∈ rides u → (u ≤ r .depart) × (r .depart < r .arrive))
     where
       abbrev counted : List Ride
-      counted = catches cm cp old rides
+      counted = caughtWays t costs old rides
 
       within : (r : Ride) → r ∈ counted → (t ≤ r .arrive) × (r .arrive ≤ v)
-      unfolding catches
+      unfolding caughtWays catches
       within r m =
-          let k = Memᴰ·of-map (caught cm cp old) (filter (catchable cm old) rides) m in
-          let f = filter-out (catchable cm old) rides (k .1) in
+          let o = concatMap-out (λ c. catches (c .minutes .0) (c .points .0) old (rides (t + c .minutes .0))) costs m in
+          let cm = (o .0) .minutes .0 in
+          let cp = (o .0) .points .0 in
+          let k = Memᴰ·of-map (caught cm cp old) (filter (catchable cm old) (rides (t + cm))) (o .2) in
+          let f = filter-out (catchable cm old) (rides (t + cm)) (k .1) in
           let test = f .1 in
           let left : getD old ((k .0) .arrive) noPoints < noPoints = search reads in
           let by = spans-in t v old spans ((k .0) .arrive) left .1 in
-          let u = useful (k .0) (f .0) in
+          let u = useful (t + cm) (k .0) (f .0) in
           let at = ap (λ r. r .arrive) (k .2) in
           (omega (arith, u .0, at), omega (arith, u .1, by, at))
 
-      pub noted-spans : Spans t v (noteAll blank (catches cm cp old rides))
+      pub noted-spans : Spans t v (noteAll blank (caughtWays t costs old rides))
       noted-spans =
           record {
             long = length-noted counted blank ∙ blank-spans .long;
@@ -141,42 +157,48 @@ module _ (timetable : Timetable) (okay : T (valid timetable)) (b v t : ℕ) wher
   ok : Sound n
   ok = sound timetable okay
 
-  -- ---- a change at x, and the rides from x to y
+  -- ---- the changes from station o to station x, and the rides from x to y
   module _
       (q : List ℕ)
-      (x y : ℕ)
-      (w : Change)
-      (listed : w ∈ n .changes)
-      (at : w .from ≡ x)
-      (rides : List Ride)
-      (told : (r : Ride) → r ∈ rides → Boards n x (t + w .minutes) r × (r .to ≡ y))
-      (near : (r : Ride) → Boards n x (t + w .minutes) r × (r .to ≡ y) → (e : Ride) × (e ∈ rides) × Nearer e r)
+      (o x y : ℕ)
+      (costs : List Cost)
+      (known : Open n o x costs)
+      (rides : ℕ → List Ride)
+      (told : (u : ℕ) (r : Ride) → r ∈ rides u → Boards n x u r × (r .to ≡ y))
+      (near : (u : ℕ) (r : Ride) → Boards n x u r × (r .to ≡ y) → (e : Ride) × (e ∈ rides u) × Nearer e r)
       (old : List ℕ)
       (rests : Rests n b v t q y old)
     where
       abbrev those : List Ride
-      those = catches (w .minutes) (w .points) old rides
+      those = caughtWays t costs old rides
 
-      -- a ride that can be caught, as it is counted
+      -- a ride that can be caught by a change, as it is counted
       record Caught (r : Ride) : Type 0 where
+        way : Cost
+        changes : Changes n o x way
         ride : Ride
-        boards : Boards n x (t + w .minutes) ride
+        boards : Boards n x (t + way .minutes .0) ride
         to : ride .to ≡ y
         rest : Rest n b v q y (ride .arrive) (getD old (ride .arrive) noPoints)
-        early : w .minutes ≤ ride .depart
-        minute : r .arrive + w .minutes ≡ ride .depart
-        pays : r .points ≡ w .points + ride .points + getD old (ride .arrive) noPoints
+        early : way .minutes .0 ≤ ride .depart
+        minute : r .arrive + way .minutes .0 ≡ ride .depart
+        pays : r .points ≡ way .points .0 + ride .points + getD old (ride .arrive) noPoints
 
       caught-out : (r : Ride) → r ∈ those → Caught r
-      unfolding catches
+      unfolding caughtWays catches
       caught-out r m =
-          let k = Memᴰ·of-map (caught (w .minutes) (w .points) old) (filter (catchable (w .minutes) old) rides) m in
-          let f = filter-out (catchable (w .minutes) old) rides (k .1) in
+          let i = concatMap-out (λ c. catches (c .minutes .0) (c .points .0) old (rides (t + c .minutes .0))) costs m in
+          let cm = (i .0) .minutes .0 in
+          let cp = (i .0) .points .0 in
+          let k = Memᴰ·of-map (caught cm cp old) (filter (catchable cm old) (rides (t + cm))) (i .2) in
+          let f = filter-out (catchable cm old) (rides (t + cm)) (k .1) in
           let test = f .1 in
           let left : getD old ((k .0) .arrive) noPoints < noPoints = search reads in
-          let early : w .minutes ≤ (k .0) .depart = search reads in
-          let h = told (k .0) (f .0) in
+          let early : (i .0) .minutes .0 ≤ (k .0) .depart = search reads in
+          let h = told (t + cm) (k .0) (f .0) in
           record {
+            way = i .0;
+            changes = known .sound (i .0) (i .1);
             ride = k .0;
             boards = h .0;
             to = h .1;
@@ -186,12 +208,14 @@ module _ (timetable : Timetable) (okay : T (valid timetable)) (b v t : ℕ) wher
             pays = sym (ap (λ r. r .points) (k .2));
           }
 
-      caught-in : (r : Ride) → r ∈ rides → getD old (r .arrive) noPoints < noPoints → w .minutes ≤ r .depart
-          → caught (w .minutes) (w .points) old r ∈ those
-      unfolding catches
-      caught-in r m left early =
-          Memᴰ·map (caught (w .minutes) (w .points) old)
-          (filter-in (catchable (w .minutes) old) m (search writes))
+      caught-in : (c : Cost) → c ∈ costs → (r : Ride) → r ∈ rides (t + c .minutes .0)
+          → getD old (r .arrive) noPoints < noPoints → c .minutes .0 ≤ r .depart
+          → caught (c .minutes .0) (c .points .0) old r ∈ those
+      unfolding caughtWays catches
+      caught-in c i r m left early =
+          concatMap-in (λ c. catches (c .minutes .0) (c .points .0) old (rides (t + c .minutes .0))) i
+          (Memᴰ·map (caught (c .minutes .0) (c .points .0) old)
+          (filter-in (catchable (c .minutes .0) old) m (search writes)))
 
       in-time : (r : Ride) → r ∈ those → r .arrive < 2880
       in-time r m =
@@ -201,17 +225,18 @@ module _ (timetable : Timetable) (okay : T (valid timetable)) (b v t : ℕ) wher
       -- the least penalties of those, for who can wait
       module _ (after : List ℕ) (noted : LeastNoted noPoints after those) (inside : t ≤ length after) where
         some : (m : ℕ) → getD (settledFrom noPoints t after) m noPoints < noPoints
-            → Rest n b v (y ∷ q) x m (getD (settledFrom noPoints t after) m noPoints)
+            → Rest n b v (x ∷ y ∷ q) o m (getD (settledFrom noPoints t after) m noPoints)
         some m h =
             let k = from-is noPoints t after inside m h in
             let a = noted .arrives (k .0) (omega (arith, k .2)) in
             let c = caught-out (a .ride) (a .listed) in
             let r = c .ride in
+            let w = c .changes .change in
             let boards : Boards n (w .to) (m + w .minutes) r =
             record {
               listed = c .boards .listed;
-              here = c .boards .here ∙ sym at ∙ sym (ok .stays w listed);
-              timely = omega (arith, k .1, a .at, c .minute);
+              here = c .boards .here ∙ sym (c .changes .to);
+              timely = omega (arith, k .1, a .at, c .minute, c .changes .takes .minutes);
             }
             in
             let left = getD old (r .arrive) noPoints in
@@ -219,60 +244,62 @@ module _ (timetable : Timetable) (okay : T (valid timetable)) (b v t : ℕ) wher
             record {
               change = w;
               connection = e .connection;
-              listed = listed;
-              at = at;
+              listed = c .changes .listed;
+              from = c .changes .from;
+              to = c .changes .to;
               feasible = e .feasible;
               is = e .is;
               timely = e .timely;
-              total = omega (arith, k .2, a .costs, c .pays, e .total);
+              total = omega (arith, k .2, a .costs, c .pays, e .total, c .changes .takes .points);
             }
 
-        least : (m s : ℕ) → t ≤ m → m < 2880 → Rest n b v (y ∷ q) x m s
+        least : (m s : ℕ) → t ≤ m → m < 2880 → Rest n b v (x ∷ y ∷ q) o m s
             → getD (settledFrom noPoints t after) m noPoints ≤ s
-        least m s h g o =
-            let same : o .change ≡ w =
-            change-unique (timetable .stations) (o .change) w (o .listed) listed (o .at ∙ sym at) in
-            let x′ = o .change .to in
-            let u = m + o .change .minutes in
-            let e = o .connection in
-            let d = parted n b v q y x′ u e (o .feasible) (o .is) (o .timely) in
+        least m s h g rest =
+            let w = rest .change in
+            let way = known .all w (rest .listed) (rest .from) (rest .to) in
+            let c = way .0 in
+            let u = m + w .minutes in
+            let e = rest .connection in
+            let d = parted n b v q y (w .to) u e (rest .feasible) (rest .is) (rest .timely) in
             let r = firstRide e in
-            let minutes = ap (λ w. w .minutes) same in
-            let points = ap (λ w. w .points) same in
-            let most = penalty-most timetable okay x′ u b e (o .feasible) in
-            let boards : Boards n x (t + w .minutes) r =
+            let minutes = way .2 .minutes in
+            let points = way .2 .points in
+            let most = penalty-most timetable okay (w .to) u b e (rest .feasible) in
+            let boards : Boards n x (t + c .minutes .0) r =
             record {
               listed = d .boards .listed;
-              here = d .boards .here ∙ ok .stays (o .change) (o .listed) ∙ o .at;
+              here = d .boards .here ∙ rest .to;
               timely = omega (arith, d .boards .timely, minutes);
             }
             in
-            let k = near r (boards, d .to) in
+            let k = near (t + c .minutes .0) r (boards, d .to) in
             let f = k .0 in
             let depart = k .2 .depart in
             let sooner = nearer-sooner f r (k .2) in
-            let forward = ok .forward f (told f (k .1) .0 .listed) in
+            let forward = ok .forward f (told (t + c .minutes .0) f (k .1) .0 .listed) in
             let bounded = ok .bounded r (d .boards .listed) in
-            let rest = rest-earlier n b v q y (f .arrive) (r .arrive) (d .points) sooner (d .rest) in
-            let low = rests .least (f .arrive) (d .points) (omega (arith, boards .timely)) (omega arith) rest in
+            let behind = rest-earlier n b v q y (f .arrive) (r .arrive) (d .points) sooner (d .rest) in
+            let low = rests .least (f .arrive) (d .points) (omega (arith, boards .timely)) (omega arith) behind in
             let left : getD old (f .arrive) noPoints < noPoints = omega (arith, low, d .total, most) in
-            let early : w .minutes ≤ f .depart = omega (arith, d .boards .timely, minutes) in
-            let in-list = caught-in f (k .1) left early in
+            let early : c .minutes .0 ≤ f .depart = omega (arith, d .boards .timely, minutes) in
+            let in-list = caught-in c (way .1) f (k .1) left early in
+            let waits : m ≤ f .depart - c .minutes .0 = omega (arith, d .boards .timely, minutes) in
             omega (
               arith,
-              from-low noPoints t after inside m (f .depart - w .minutes) h (omega (arith, d .boards .timely, minutes)),
-              noted .low (caught (w .minutes) (w .points) old f) in-list,
+              from-low noPoints t after inside m (f .depart - c .minutes .0) h waits,
+              noted .low (caught (c .minutes .0) (c .points .0) old f) in-list,
               k .2 .points,
               low,
-              o .total,
+              rest .total,
               d .total,
               points,
             )
 
-        settled-rests : Rests n b v t (y ∷ q) x (settledFrom noPoints t after)
+        settled-rests : Rests n b v t (x ∷ y ∷ q) o (settledFrom noPoints t after)
         settled-rests = record { some = some; least = least }
 
-      pub rests-before : t ≤ 2880 → Rests n b v t (y ∷ q) x (stepped t (w .minutes) (w .points) old rides)
+      pub rests-before : t ≤ 2880 → Rests n b v t (x ∷ y ∷ q) o (stepped t costs old rides)
       unfolding stepped
       rests-before h =
           let long = length-noted those blank ∙ spans-blank t v .long in

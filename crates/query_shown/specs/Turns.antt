@@ -2,20 +2,19 @@
 use mathlib.Core.Path.{_≡_, refl, ap, _∙_}
 use mathlib.Core.Bool.{Bool, true, false, cond, _&&_}
 use mathlib.Core.List.{List, [], _∷_}
-use Prim.Native.Nat.{ℕ, _+_, _-_, _≤_}
+use Prim.Native.Nat.{ℕ, _+_, _-_, _*_, _≤_}
 use lib.Dec.{leb, ltb}
 use lib.ListN.{getD}
-use Rattle.timetable.specs.Words.{stationAt}
 use Rattle.lists.specs.Lists.{before, keep, filter}
 use Rattle.connections.specs.Rides.{Ride}
-use Rattle.query_direct.specs.Candidates.{nearRead}
 use Rattle.query_minutes.specs.Minutes.{noPoints, noteAll, blank, lowered}
 use Rattle.query_rides.specs.declared.Ride.{Ride as RideStruct}
 use Rattle.query_rides.specs.Riding.{Tells}
+use Rattle.query_rides.specs.Ways.{waysBetween, costsIn}
 use Rattle.query_shown.specs.Settling.{settledFrom}
-use Rattle.query_shown.specs.Stepping.{catchable, catches}
+use Rattle.query_shown.specs.Stepping.{catchable, catches, ridesTo, caughtWays}
 use Rattle.query_shown.specs.Foremost.{former, foremost}
-use Rattle.query_shown.specs.Heads.{lateness, headKey, noRide, takeable, headOf}
+use Rattle.query_shown.specs.Heads.{lateness, headKey, noRide, payable, endable, takeable, headOf}
 
 -- a ride as the code tells it
 abbrev pub tellsOf : Ride → RideStruct
@@ -63,15 +62,15 @@ catches-more cm cp old z r l = go (catchable cm old r) refl
     go true e = rw e
     go false e = rw e
 
--- z once the rides from the station before station j of a path to the nearest places of station j are noted, old being
--- what is left there
+-- z once the rides that can be ride j of a path, to the nearest places, are noted by each way of changing before them,
+-- old being what is left behind
 unfoldable pub gatherBack : (w lines : List ℕ) (minute : ℕ) (path : List ℕ) (j : ℕ) (old z : List ℕ) → List ℕ
 gatherBack w lines minute path j old z =
-    let x = getD path (j - 1) 0 in
-    let s = stationAt w (x - 1) in
-    noteAll z (catches (s .minutes) (s .points) old (nearRead lines x (minute + s .minutes) (getD path j 0)))
+    let y = getD path (2 * j - 2) 0 in
+    let x = getD path (2 * j - 1) 0 in
+    noteAll z (caughtWays minute (costsIn (waysBetween w y x)) old (ridesTo lines x (getD path (2 * j) 0)))
 
--- what is left behind the station before station j of a path
+-- what is left behind the ride before ride j of a path
 unfoldable pub stepBack : (w lines : List ℕ) (minute : ℕ) (path : List ℕ) (j : ℕ) (z : List ℕ) → List ℕ
 stepBack w lines minute path j z = settledFrom noPoints minute (gatherBack w lines minute path j z blank)
 
@@ -92,36 +91,65 @@ tried first z p best s =
     (cond (comesBefore first s best) s best)
     best
 
-unfoldable pub triedAll : (first : Bool) (z : List ℕ) (p : ℕ) → RideStruct → List Ride → RideStruct
-triedAll first z p best [] = best
-triedAll first z p best (r ∷ l) = triedAll first z p (tried first z p best (tellsOf r)) l
+-- where one pays k in front of it
+unfoldable pub triedOnto : (first : Bool) (z : List ℕ) (p k : ℕ) (best s : RideStruct) → RideStruct
+triedOnto first z p k best s = cond (payable k p) (tried first z (p - k) best s) best
 
-module _ (first : Bool) (z : List ℕ) (p : ℕ) where
+unfoldable pub triedAll : (first : Bool) (price : ℕ → ℕ) (z : List ℕ) (p : ℕ) → RideStruct → List Ride → RideStruct
+triedAll first price z p best [] = best
+triedAll first price z p best (r ∷ l) =
+    triedAll first price z p (triedOnto first z p (price (r .depart)) best (tellsOf r)) l
+
+module _ (first : Bool) (price : ℕ → ℕ) (z : List ℕ) (p : ℕ) where
+  abbrev all : RideStruct → List Ride → RideStruct
+  all = triedAll first price z p
+
+  cond-both : (a b : Bool) (s f : RideStruct) → cond a (cond b s f) f ≡ cond (a && b) s f
+  cond-both true b s f = refl
+  cond-both false b s f = refl
+
+  tried-one : (f : RideStruct) (r : Ride)
+      → triedOnto first z p (price (r .depart)) f (tellsOf r)
+      ≡ cond (takeable price z p r) (cond (comesBefore first (tellsOf r) f) (tellsOf r) f) f
+  unfolding triedOnto tried
+  tried-one f r =
+      let k = price (r .depart) in
+      cond-both (payable k p) (endable z (p - k) r) (cond (comesBefore first (tellsOf r) f) (tellsOf r) f) f
+
   tried-head : (l : List Ride) (f : Ride)
-      → triedAll first z p (tellsOf f) l ≡ tellsOf (foremost (headKey first) f (filter (takeable z p) l))
-  unfolding triedAll tried comesBefore foremost
+      → all (tellsOf f) l ≡ tellsOf (foremost (headKey first) f (filter (takeable price z p) l))
+  unfolding triedAll comesBefore foremost
   tried-head [] f = refl
-  tried-head (r ∷ l) f = go (takeable z p r) refl (tried-head l)
+  tried-head (r ∷ l) f = go (takeable price z p r) refl (tried-head l)
     where
-      go : (b : Bool) → takeable z p r ≡ b
+      one : RideStruct
+      one = triedOnto first z p (price (r .depart)) (tellsOf f) (tellsOf r)
+
+      better : RideStruct
+      better = cond (comesBefore first (tellsOf r) (tellsOf f)) (tellsOf r) (tellsOf f)
+
+      go : (b : Bool) → takeable price z p r ≡ b
           → ((f : Ride)
-          → triedAll first z p (tellsOf f) l ≡ tellsOf (foremost (headKey first) f (filter (takeable z p) l)))
-          → triedAll first z p (tried first z p (tellsOf f) (tellsOf r)) l
-          ≡ tellsOf (foremost (headKey first) f (keep b r (filter (takeable z p) l)))
-      go true e ih = ap (λ s. triedAll first z p s l) same ∙ ih (former (headKey first) f r)
+          → all (tellsOf f) l ≡ tellsOf (foremost (headKey first) f (filter (takeable price z p) l)))
+          → all one l ≡ tellsOf (foremost (headKey first) f (keep b r (filter (takeable price z p) l)))
+      go true e ih = ap (λ s. all s l) same ∙ ih (former (headKey first) f r)
         where
           choice : (b : Bool) → cond b (tellsOf r) (tellsOf f) ≡ tellsOf (cond b r f)
           choice true = refl
           choice false = refl
 
-          same : tried first z p (tellsOf f) (tellsOf r) ≡ tellsOf (former (headKey first) f r)
-          same = rw e (choice (before (headKey first r) (headKey first f)))
-      go false e ih = ap (λ s. triedAll first z p s l) same ∙ ih f
+          same : one ≡ tellsOf (former (headKey first) f r)
+          same =
+              tried-one (tellsOf f) r
+              ∙ ap (λ b. cond b better (tellsOf f)) e
+              ∙ choice (before (headKey first r) (headKey first f))
+      go false e ih = ap (λ s. all s l) same ∙ ih f
         where
-          same : tried first z p (tellsOf f) (tellsOf r) ≡ tellsOf f
-          same = rw e
+          same : one ≡ tellsOf f
+          same = tried-one (tellsOf f) r ∙ ap (λ b. cond b better (tellsOf f)) e
 
-  pub tried-all : (l : List Ride) → triedAll first z p (tellsOf noRide) l ≡ tellsOf (headOf first z p l)
+  pub tried-all : (l : List Ride)
+      → triedAll first price z p (tellsOf noRide) l ≡ tellsOf (headOf first price z p l)
   unfolding headOf
   tried-all l = tried-head l noRide
 

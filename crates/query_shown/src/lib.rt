@@ -1,5 +1,5 @@
-// The connection of one stored pattern that is shown for a row: what is left after each station, station by station
-// from the target back, and then ride by ride the first that can be taken.
+// The connection of one stored pattern that is shown for a row: what is left after each ride, from the target back, and
+// then ride by ride the first that can be taken.
 mod rests;
 mod rides;
 
@@ -11,12 +11,21 @@ ghost use Rattle.query_shown.specs.Showing.{Given, FoundAt};
 ghost use Rattle.query_shown.specs.Spans.{Spans};
 use query_minutes::MINUTES;
 use query_minutes::NO_POINTS;
+use query_rides::Change;
+use query_rides::Ride;
 use results::Points;
 
-// Where one is on the way: the station, the minute from which one can leave, and the points left to pay.
+// A step of a connection after its first ride: how one changes to a ride, and the ride.
+pub struct Step {
+    pub change: Change,
+    pub ride: Ride,
+}
+
+// Where one is on the way: the station alighted at, the minute of the arrival, and the points left to pay. Before the
+// first ride it is the source and the query's minute.
 pub struct At {
-    pub from: usize,
-    pub ready: usize,
+    pub alighted: usize,
+    pub arrive: usize,
     pub left: Points,
 }
 
@@ -33,7 +42,7 @@ pub struct First {
     pub depart: usize,
 }
 
-// The connection along a path of r stations, from the source at the minute, that is shown for a row: there by minute v,
+// The connection along a path of r rides, from the source at the minute, that is shown for a row: there by minute v,
 // which is no earlier, for p points at the most. Its rides are written.
 fn first_in_time(
     words: &[u16],
@@ -60,8 +69,8 @@ fn first_in_time(
     ensures { λ _. ⌜ length (now (rides .exit)) ≡ length (now (rides .entry)) ⌝ }
 {
     let start = At {
-        from: source,
-        ready: minute,
+        alighted: source,
+        arrive: minute,
         left: p,
     };
     let head = rides::ride_on(

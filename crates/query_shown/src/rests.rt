@@ -1,20 +1,27 @@
-// What is left to pay after each station of a path, station by station from the target back.
+// What is left to pay after each ride along a path, from the target back.
 //
 // There is a word for each minute of the two days, but only the minutes from the query's to the row's can matter, and
 // only their words are stored: all others say throughout that nothing is left.
 ghost use mathlib.Core.Path.{_≡_};
-ghost use Prim.Native.Nat.{_+_, _-_, _≤_, _<_};
+ghost use mathlib.Core.Bool.{true};
+ghost use Prim.Native.Nat.{_+_, _-_, _*_, _≤_, _<_};
+ghost use mathlib.Core.List.{[]};
 ghost use lib.ListN.{length, getD};
+ghost use Rattle.lists.specs.Lists.{keep as keptIf};
+ghost use Rattle.timetable.specs.Words.{stationCount, isTimetable};
 ghost use Rattle.query_direct.specs.Candidates.{nearRead};
 ghost use Rattle.query_minutes.specs.Minutes.{noPoints, noteAll, blank, lowered};
+ghost use Rattle.query_rides.specs.Ways.{costsIn};
 ghost use Rattle.query_shown.specs.Showing.{Given};
 ghost use Rattle.query_shown.specs.Rests.{RestsAt};
 ghost use Rattle.query_shown.specs.Settling.{settledFrom};
 ghost use Rattle.query_shown.specs.Spans.{Spans, Stored, Arrived};
-ghost use Rattle.query_shown.specs.Stepping.{catches};
+ghost use Rattle.query_shown.specs.Stepping.{catches, ridesTo, caughtWays};
 ghost use Rattle.query_shown.specs.Turns.{caughtBy, gatherBack, stepBack};
 use query_minutes::NO_POINTS;
+use query_rides::Change;
 use query_rides::Ride;
+use query_rides::Ways;
 use results::Cost;
 use results::Points;
 
@@ -112,7 +119,7 @@ fn settle(z: &mut [u32], minute: usize, v: usize)
     }
 }
 
-// Station i of a path.
+// Station i that a path names.
 pub fn station(path: &[u16], i: usize) -> usize
     requires { ⌜ i < length (now path) ⌝ }
     ensures { λ r. ⌜ (r ≡ getD (now (path .entry)) i 0) × (r < 65536) ⌝ }
@@ -142,8 +149,58 @@ fn clear(z: &mut [u32], minute: usize, v: usize)
     fill(z, minute, v + 1, Points(NO_POINTS));
 }
 
-// Notes all rides from the station before station j of a path to station j, for one who arrives at the minute or later:
-// a ride that leaves before he can have changed is of no use.
+// Notes those rides, if the way of changing before them that takes and costs so much is open, for one who arrives at
+// the minute or later: a ride that leaves before he can have changed is of no use.
+fn gather_way(
+    offered: bool,
+    lines: &[u16],
+    from: usize,
+    to: usize,
+    minute: usize,
+    change: Cost,
+    old: &[u32],
+    z: &mut [u32],
+)
+    requires { ⌜ minute ≤ 2879 ⌝ }
+    ensures { λ _. ⌜ now (z .exit)
+        ≡ noteAll (now (z .entry))
+        (caughtWays minute (keptIf offered change []) (now (old .entry)) (ridesTo (now (lines .entry)) from to)) ⌝ }
+    ensures { λ _. ⌜ length (now (z .exit)) ≡ length (now (z .entry)) ⌝ }
+{
+    if !offered {
+        return;
+    }
+    let wait = change.minutes;
+    let earliest = query_minutes::minute_after(minute, wait);
+    gather(lines, from, to, earliest, change, old, z);
+}
+
+// Notes those rides by each way of changing before them.
+fn gather_ways(
+    lines: &[u16],
+    from: usize,
+    to: usize,
+    minute: usize,
+    ways: Ways,
+    old: &[u32],
+    z: &mut [u32],
+)
+    requires { ⌜ minute ≤ 2879 ⌝ }
+    ensures { λ _. ⌜ now (z .exit)
+        ≡ noteAll (now (z .entry))
+        (caughtWays minute (costsIn ways) (now (old .entry)) (ridesTo (now (lines .entry)) from to)) ⌝ }
+    ensures { λ _. ⌜ length (now (z .exit)) ≡ length (now (z .entry)) ⌝ }
+{
+    let here = ways.here;
+    let afoot = ways.walk;
+    let stay = query_rides::cost_of(here, Change::Here);
+    let walk = query_rides::cost_of(here, Change::Walk(afoot));
+    gather_way(ways.stays, lines, from, to, minute, stay, old, z);
+    gather_way(ways.walks, lines, from, to, minute, walk, old, z);
+}
+
+// Notes all rides to the station where ride j of a path ends, by each way of changing from the station where the ride
+// before it ends.
 fn gather_back(
     words: &[u16],
     lines: &[u16],
@@ -154,25 +211,26 @@ fn gather_back(
     z: &mut [u32],
 )
     requires { ⌜ (16384 ≤ length (now words))
+        × (isTimetable (now words) ≡ true)
         × (minute ≤ 2879)
         × (1 ≤ j)
-        × (j < length (now path))
-        × (1 ≤ getD (now path) (j - 1) 0)
-        × (getD (now path) (j - 1) 0 ≤ 64) ⌝ }
+        × (j < 64)
+        × (2 * j < length (now path))
+        × (1 ≤ getD (now path) (2 * j - 2) 0)
+        × (getD (now path) (2 * j - 2) 0 ≤ stationCount (now words)) ⌝ }
     ensures { λ _. ⌜ now (z .exit)
         ≡ gatherBack (now (words .entry)) (now (lines .entry)) minute (now (path .entry)) j (now (old .entry))
         (now (z .entry)) ⌝ }
     ensures { λ _. ⌜ length (now (z .exit)) ≡ length (now (z .entry)) ⌝ }
 {
-    let from = station(path, j - 1);
-    let to = station(path, j);
-    let change = query_rides::change_at(words, from);
-    let wait = change.minutes;
-    let earliest = query_minutes::minute_after(minute, wait);
-    gather(lines, from, to, earliest, change, old, z);
+    let alighted = station(path, 2 * j - 2);
+    let from = station(path, 2 * j - 1);
+    let to = station(path, 2 * j);
+    let ways = query_rides::ways_between(words, alighted, from);
+    gather_ways(lines, from, to, minute, ways, old, z);
 }
 
-// From what is left after station j of a path to what is left after the one before it.
+// From what is left after ride j along a path to what is left after the one before it.
 fn step(
     words: &[u16],
     lines: &[u16],
@@ -201,7 +259,7 @@ fn step(
     settle(z, minute, v);
 }
 
-// Behind the last station nothing is left to pay, by minute v.
+// After the last ride nothing is left to pay, by minute v.
 fn fill_last(z: &mut [u32], minute: usize, v: usize)
     requires { ⌜ (minute ≤ v) × (v ≤ 2879) × Spans minute v (now z) ⌝ }
     ensures { λ _. ⌜ Arrived minute v (now (z .exit)) ⌝ }
@@ -210,7 +268,7 @@ fn fill_last(z: &mut [u32], minute: usize, v: usize)
     fill(z, minute, v + 1, Points(0));
 }
 
-// What is left after station i of a path of r stations, for one who is to arrive at the last by minute v.
+// What is left after ride i along a path of r rides, counted from 0, for one who is to arrive at the end by minute v.
 pub fn rest(
     words: &[u16],
     lines: &[u16],

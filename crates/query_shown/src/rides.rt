@@ -1,21 +1,27 @@
-// The ride to take next along a path: of those after which all that is left can be paid, the one that comes first. It
-// is written, and one changes after it.
+// The ride to take next along a path: of those to which one can change, and after which all that is left can be paid,
+// the one that comes first. It is written.
 ghost use mathlib.Core.Path.{_≡_};
 ghost use mathlib.Core.List.{[], _∷_};
+ghost use mathlib.Core.Bool.{cond};
 ghost use Prim.Native.Nat.{_+_, _*_, _≤_, _<_};
-ghost use lib.ListN.{length, getD};
+ghost use lib.ListN.{length};
 ghost use Rattle.words.specs.Put.{put};
 ghost use Rattle.query_direct.specs.Candidates.{nearRead};
+ghost use Rattle.query_rides.specs.Ways.{waysBetween};
+ghost use Rattle.query_shown.specs.Prices.{openIn, stepPrice, priceOf, frontPrice};
 ghost use Rattle.query_shown.specs.Showing.{Given};
 ghost use Rattle.query_shown.specs.Spans.{Spans};
 ghost use Rattle.query_shown.specs.Heads.{lateness, headOf};
-ghost use Rattle.query_shown.specs.OnTheWay.{Standing, Headed, Moved, Rode};
-ghost use Rattle.query_shown.specs.Turns.{tellsOf, numbersBefore, comesBefore, tried, Sized};
+ghost use Rattle.query_shown.specs.OnTheWay.{boardedAt, Standing, Headed, Moved, Rode};
+ghost use Rattle.query_shown.specs.Turns.{tellsOf, numbersBefore, comesBefore, tried, triedOnto, Sized};
 use crate::At;
 use crate::Next;
+use crate::Step;
 use crate::rests;
 use query_minutes::NO_POINTS;
+use query_rides::Change;
 use query_rides::Ride;
+use query_rides::Ways;
 use results::Minutes;
 use results::Points;
 
@@ -69,6 +75,66 @@ fn goes_before(first: bool, g: Ride, f: Ride) -> bool
     numbers_before(g, f)
 }
 
+// Whether a way of changing is open.
+fn is_open(ways: Ways, change: Change) -> bool
+    ensures { λ r. ⌜ r ≡ openIn ways change ⌝ }
+{
+    match change {
+        Change::Here => ways.stays,
+        Change::Walk(_) => ways.walks,
+    }
+}
+
+// What the change of a step costs for one who arrived at a minute; NO_POINTS if it is not open or not in time.
+fn price_of(ways: Ways, arrive: usize, step: Step) -> Points
+    requires { ⌜ arrive ≤ 65536 ⌝ }
+    ensures { λ r. ⌜ r .0 ≡ stepPrice ways arrive (step .ride .depart) (step .change) ⌝ }
+{
+    let change = step.change;
+    if !is_open(ways, change) {
+        return Points(NO_POINTS);
+    }
+    let here = ways.here;
+    let cost = query_rides::cost_of(here, change);
+    let wait = cost.minutes;
+    if step.ride.depart < query_minutes::minute_after(arrive, wait) {
+        return Points(NO_POINTS);
+    }
+    cost.points
+}
+
+// The step to a ride by the cheapest way that is in time, if there is one.
+fn step_onto(ways: Ways, arrive: usize, ride: Ride) -> Step
+    requires { ⌜ arrive ≤ 65536 ⌝ }
+    ensures { λ r. ⌜ stepPrice ways arrive (r .ride .depart) (r .change) ≡ priceOf ways arrive (ride .depart) ⌝ }
+{
+    let afoot = ways.walk;
+    let stay = Step {
+        change: Change::Here,
+        ride,
+    };
+    let walk = Step {
+        change: Change::Walk(afoot),
+        ride,
+    };
+    if query_minutes::less(price_of(ways, arrive, walk), price_of(ways, arrive, stay)) {
+        return walk;
+    }
+    stay
+}
+
+// What one pays in front of a ride; no change stands in front of the first.
+fn front_price(first: bool, ways: Ways, arrive: usize, ride: Ride) -> Points
+    requires { ⌜ arrive ≤ 65536 ⌝ }
+    ensures { λ r. ⌜ r .0 ≡ frontPrice first ways arrive (ride .depart) ⌝ }
+{
+    if first {
+        return Points(0);
+    }
+    let step = step_onto(ways, arrive, ride);
+    price_of(ways, arrive, step)
+}
+
 // One ride more: taken if something is left after it that can be paid, and it comes before the best so far.
 fn try_ride(first: bool, z: &[u32], left: Points, best: Ride, ride: Ride) -> Ride
     requires { ⌜ Sized best × Sized ride ⌝ }
@@ -91,19 +157,39 @@ fn try_ride(first: bool, z: &[u32], left: Points, best: Ride, ride: Ride) -> Rid
     best
 }
 
-// The ride to take from one station to the next, at a minute and with points left to pay. Of the rides from one stop of
-// a trip the one to the nearest place comes first, arrives first and costs no more: the others are not looked at.
+// The same where one pays a price in front of the ride.
+fn try_onto(first: bool, z: &[u32], left: Points, price: Points, best: Ride, ride: Ride) -> Ride
+    requires { ⌜ Sized best × Sized ride ⌝ }
+    ensures { λ r. ⌜ (r ≡ triedOnto first (now (z .entry)) (left .0) (price .0) best ride) × Sized r ⌝ }
+{
+    if !query_minutes::less(price, Points(NO_POINTS)) {
+        return best;
+    }
+    if query_minutes::less(left, price) {
+        return best;
+    }
+    let over = query_minutes::left_of(left, price);
+    try_ride(first, z, over, best, ride)
+}
+
+// The ride to take from one station to the next, for one who arrived at a minute, with points left to pay. Of the rides
+// from one stop of a trip the one to the nearest place comes first, arrives first and costs no more: the others are not
+// looked at.
 fn choose(
     lines: &[u16],
     from: usize,
     to: usize,
-    ready: usize,
+    arrive: usize,
     first: bool,
+    ways: Ways,
     left: Points,
     z: &[u32],
 ) -> Ride
+    requires { ⌜ arrive ≤ 65536 ⌝ }
     ensures { λ r. ⌜ (r
-        ≡ tellsOf (headOf first (now (z .entry)) (left .0) (nearRead (now (lines .entry)) from ready to)))
+        ≡ tellsOf
+        (headOf first (frontPrice first ways arrive) (now (z .entry)) (left .0)
+        (nearRead (now (lines .entry)) from arrive to)))
         × Sized r ⌝ }
 {
     let mut best = Ride {
@@ -114,16 +200,28 @@ fn choose(
         arrive: 0,
         points: Points(0),
     };
-    let mut c = query_rides::begin(lines, from, to, ready);
+    let mut c = query_rides::begin(lines, from, to, arrive);
     while c.more {
         let ride = query_rides::tell(lines, c);
-        best = try_ride(first, z, left, best, ride);
-        c = query_rides::next_nearest(lines, ready, c);
+        let price = front_price(first, ways, arrive, ride);
+        best = try_onto(first, z, left, price, best, ride);
+        c = query_rides::next_nearest(lines, arrive, c);
     }
     best
 }
 
-// The ride to take next, from where one is to station i of the path.
+// The station at which ride i along a path is boarded.
+fn boarded(path: &[u16], i: usize, first: bool, alighted: usize) -> usize
+    requires { ⌜ (i < 64) × (cond first 0 1 ≤ i) × (2 * i < length (now path)) ⌝ }
+    ensures { λ r. ⌜ r ≡ boardedAt (now (path .entry)) first i alighted ⌝ }
+{
+    if first {
+        return alighted;
+    }
+    rests::station(path, 2 * i - 1)
+}
+
+// Ride i along the path, if there is one to take, from where one is.
 fn take_ride(
     words: &[u16],
     lines: &[u16],
@@ -134,12 +232,16 @@ fn take_ride(
     v: usize,
     at: At,
     first: bool,
+    from: usize,
+    ways: Ways,
     z: &mut [u32],
     old: &mut [u32],
 ) -> Ride
     requires { ⌜ Given (now words) (now lines) (now path) r v
         × (i < r)
-        × Standing (now words) minute at
+        × Standing (now words) minute first i at
+        × (from ≡ boardedAt (now path) first i (at .alighted))
+        × (ways ≡ waysBetween (now words) (at .alighted) from)
         × (minute ≤ v)
         × Spans minute v (now z)
         × Spans minute v (now old) ⌝ }
@@ -152,8 +254,8 @@ fn take_ride(
 {
     rests::rest(words, lines, minute, path, i, r, v, z, old);
     let left = at.left;
-    let to = rests::station(path, i);
-    choose(lines, at.from, to, at.ready, first, left, z)
+    let to = rests::station(path, 2 * i);
+    choose(lines, from, to, at.arrive, first, ways, left, z)
 }
 
 // Writes the numbers of ride i.
@@ -168,35 +270,25 @@ fn put_ride(rides: &mut [u32], i: usize, ride: Ride)
     rides[at + 2] = ride.alight as u32;
 }
 
-// Writes ride i, and changes after it.
-fn move_on(words: &[u16], path: &[u16], i: usize, left: Points, ride: Ride, rides: &mut [u32]) -> At
-    requires { ⌜ (16384 ≤ length (now words))
-        × (i < length (now path))
-        × (1 ≤ getD (now path) i 0)
-        × (getD (now path) i 0 ≤ 64)
-        × (i < 64)
-        × (3 * i + 3 ≤ length (now rides))
-        × Sized ride ⌝ }
-    ensures { λ r. ⌜ Moved (now (words .entry)) (now (path .entry)) i (left .0) ride (now (rides .entry))
+// Writes ride i, for which and for the change in front of it one pays.
+fn move_on(path: &[u16], i: usize, left: Points, price: Points, ride: Ride, rides: &mut [u32]) -> At
+    requires { ⌜ (2 * i < length (now path)) × (i < 64) × (3 * i + 3 ≤ length (now rides)) × Sized ride ⌝ }
+    ensures { λ r. ⌜ Moved (now (path .entry)) i (left .0) (price .0) ride (now (rides .entry))
         (now (rides .exit)) r ⌝ }
     ensures { λ _. ⌜ length (now (rides .exit)) ≡ length (now (rides .entry)) ⌝ }
 {
     put_ride(rides, i, ride);
-    let to = rests::station(path, i);
-    let change = query_rides::change_at(words, to);
-    let wait = change.minutes;
-    let price = change.points;
+    let alighted = rests::station(path, 2 * i);
     let points = ride.points;
-    let ready = query_minutes::minute_after(ride.arrive, wait);
-    let rest = query_minutes::left_of(query_minutes::left_of(left, points), price);
+    let rest = query_minutes::left_of(query_minutes::left_of(left, price), points);
     At {
-        from: to,
-        ready,
+        alighted,
+        arrive: ride.arrive,
         left: rest,
     }
 }
 
-// Takes the ride to station i of the path, if there is one to take.
+// Takes ride i along the path, if there is one to take.
 pub fn ride_on(
     words: &[u16],
     lines: &[u16],
@@ -213,7 +305,7 @@ pub fn ride_on(
 ) -> Next
     requires { ⌜ Given (now words) (now lines) (now path) r v
         × (i < r)
-        × Standing (now words) minute at
+        × Standing (now words) minute first i at
         × (length (now rides) ≡ 192)
         × (minute ≤ v)
         × Spans minute v (now z)
@@ -226,7 +318,23 @@ pub fn ride_on(
         × (length (now (z .exit)) ≡ length (now (z .entry)))
         × (length (now (old .exit)) ≡ length (now (old .entry))) ⌝ }
 {
-    let ride = take_ride(words, lines, minute, path, i, r, v, at, first, z, old);
+    let from = boarded(path, i, first, at.alighted);
+    let ways = query_rides::ways_between(words, at.alighted, from);
+    let ride = take_ride(
+        words,
+        lines,
+        minute,
+        path,
+        i,
+        r,
+        v,
+        at,
+        first,
+        from,
+        ways,
+        z,
+        old,
+    );
     if ride.trip == NO_TRIP {
         return Next {
             found: false,
@@ -235,7 +343,8 @@ pub fn ride_on(
         };
     }
     let left = at.left;
-    let next = move_on(words, path, i, left, ride, rides);
+    let price = front_price(first, ways, at.arrive, ride);
+    let next = move_on(path, i, left, price, ride, rides);
     Next {
         found: true,
         depart: ride.depart,

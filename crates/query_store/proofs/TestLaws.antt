@@ -8,8 +8,9 @@ use borrow.Author.Tests.{le-leb, lt-leb, lt-ltb, le-ltb, eq-eqb, ne-eqb, not-tru
 use lib.Dec.{T, leb, ltb, eqb, leb→le, nleb→lt}
 use lib.ListN.{length, getD, set, length-append, length-set}
 use Rattle.lists.specs.Tests.{either}
-use Rattle.stores.specs.Words.{long, wellMade, entriesMost}
-use Rattle.query_store.specs.Entries.{nodeCount, arcCount, nodeStation, nodeParent, arcTarget, arcBefore}
+use Rattle.stores.specs.Words.{isStation, long, wellMade, entriesMost}
+use Rattle.query_store.specs.Entries.{nodeCount, arcCount, nodeAlighted, nodeBoarded, nodeParent, arcTarget}
+use Rattle.query_store.specs.Entries.{arcBefore}
 use Rattle.query_store.specs.Paths.{nodePath, arcPath, arc-path}
 use Rattle.query_store.specs.Depths.{Depths, depths-start, depths-more}
 use Rattle.query_store.specs.Tests.{presentTest, nodeTest, nodesTest, arcTest, risesTest, arcsTest}
@@ -18,10 +19,10 @@ use Rattle.query_store.specs.Tests.{arcs-next, decided}
 
 -- ---- a station
 module _ (k x : ℕ) where
-  pub unlisted : x < 1 → false ≡ (leb 1 x && leb x k)
+  pub unlisted : x < 1 → false ≡ isStation k x
   unlisted h = simp (lt-leb 1 x h)
 
-  pub listed : 1 ≤ x → leb x k ≡ (leb 1 x && leb x k)
+  pub listed : 1 ≤ x → leb x k ≡ isStation k x
   listed h = simp (le-leb 1 x h)
 
 -- ---- the counts
@@ -29,21 +30,21 @@ module _ (s : List ℕ) where
   pub no-counts : length s < 2 → false ≡ presentTest s
   unfolding presentTest
   no-counts h =
-      let e : leb (2 + 2 * nodeCount s + 2 * arcCount s) (length s) ≡ false = omega (arith, lt-leb) in
+      let e : leb (2 + 3 * nodeCount s + 2 * arcCount s) (length s) ≡ false = omega (arith, lt-leb) in
       rw e
 
   module _ (n m : ℕ) (is-n : n ≡ nodeCount s) (is-m : m ≡ arcCount s) where
-    pub absent : length s < 2 + 2 * n + 2 * m → false ≡ presentTest s
+    pub absent : length s < 2 + 3 * n + 2 * m → false ≡ presentTest s
     unfolding presentTest
     absent h =
-        let e : leb (2 + 2 * nodeCount s + 2 * arcCount s) (length s) ≡ false = omega (arith, lt-leb) in
+        let e : leb (2 + 3 * nodeCount s + 2 * arcCount s) (length s) ≡ false = omega (arith, lt-leb) in
         rw e
 
-    module _ (there : 2 + 2 * n + 2 * m ≤ length s) where
+    module _ (there : 2 + 3 * n + 2 * m ≤ length s) where
       counts : presentTest s ≡ (leb n entriesMost && leb m entriesMost)
       unfolding presentTest
       counts =
-          let e : leb (2 + 2 * nodeCount s + 2 * arcCount s) (length s) ≡ true = omega (arith, le-leb) in
+          let e : leb (2 + 3 * nodeCount s + 2 * arcCount s) (length s) ≡ true = omega (arith, le-leb) in
           rw (e, is-n, is-m)
 
       pub many-nodes : entriesMost < n → false ≡ presentTest s
@@ -60,24 +61,36 @@ module _ (k : ℕ) (s : List ℕ) (n v : ℕ) (is-n : n ≡ nodeCount s) (so-far
   pub all-noted : n ≤ v → v ≤ n → (w : List ℕ) → Depths s w v → Depths s w (nodeCount s)
   all-noted h g w d = subst (Depths s w) (omega arith) d
 
-  module _ (more : v < n) (x : ℕ) (is-x : x ≡ nodeStation s (v + 1)) (t : Bool) (is-t : t ≡ (leb 1 x && leb x k)) where
-    node-tests : nodesTest k s 0 ≡ (t && ltb (nodeParent s (v + 1)) (suc v) && nodesTest k s (v + 1))
+  module _ (more : v < n) (x : ℕ) (is-x : x ≡ nodeAlighted s (v + 1)) (t : Bool) (is-t : t ≡ isStation k x) where
+    node-tests : nodesTest k s 0
+        ≡ (t
+        && isStation k (nodeBoarded s (v + 1))
+        && ltb (nodeParent s (v + 1)) (suc v)
+        && nodesTest k s (v + 1))
     unfolding nodeTest
     node-tests = so-far ∙ nodes-next k s v (omega arith) ∙ rw (is-t, is-x)
 
     pub node-unlisted : not t ≡ true → false ≡ nodesTest k s 0
     node-unlisted h = sym (node-tests ∙ rw (not-true t h))
 
-    module _ (in-list : not t ≡ false) (p : ℕ) (is-p : p ≡ nodeParent s (v + 1)) where
-      pub node-unknown : v < p → false ≡ nodesTest k s 0
-      node-unknown h =
-          let e : ltb p (suc v) ≡ false = omega (arith, le-ltb) in
-          sym (node-tests ∙ rw (not-false t in-list, ← is-p, e))
+    module _ (in-list : not t ≡ false) (y : ℕ) (is-y : y ≡ nodeBoarded s (v + 1)) (u : Bool)
+        (is-u : u ≡ isStation k y) where
+      tests-left : nodesTest k s 0 ≡ (u && ltb (nodeParent s (v + 1)) (suc v) && nodesTest k s (v + 1))
+      tests-left = node-tests ∙ rw (not-false t in-list, is-u, is-y)
 
-      pub node-made : p ≤ v → nodesTest k s 0 ≡ nodesTest k s (v + 1)
-      node-made h =
-          let e : ltb p (suc v) ≡ true = omega (arith, lt-ltb) in
-          node-tests ∙ rw (not-false t in-list, ← is-p, e)
+      pub node-unboarded : not u ≡ true → false ≡ nodesTest k s 0
+      node-unboarded h = sym (tests-left ∙ rw (not-true u h))
+
+      module _ (listed-too : not u ≡ false) (p : ℕ) (is-p : p ≡ nodeParent s (v + 1)) where
+        pub node-unknown : v < p → false ≡ nodesTest k s 0
+        node-unknown h =
+            let e : ltb p (suc v) ≡ false = omega (arith, le-ltb) in
+            sym (tests-left ∙ rw (not-false u listed-too, ← is-p, e))
+
+        pub node-made : p ≤ v → nodesTest k s 0 ≡ nodesTest k s (v + 1)
+        node-made h =
+            let e : ltb p (suc v) ≡ true = omega (arith, lt-ltb) in
+            tests-left ∙ rw (not-false u listed-too, ← is-p, e)
 
 -- ---- what is noted of them, where x is working space as it is and w as it was
 module _ (w x : List ℕ) (kept : length x ≡ length (set w 0 0)) where
@@ -107,24 +120,24 @@ pub nothing-noted : (P : Type 0) → false ≡ true → P
 nothing-noted P e = absurd (subst T (sym e) tt)
 
 -- ---- an arc
--- d stations before the target
-short : (d l : ℕ) → l ≡ d + 1 → not (ltb 64 (suc l)) ≡ leb d 62
-short d l e = either (leb d 62) low high
+-- d changes before the target
+short : (d l : ℕ) → l ≡ 2 * d + 1 → not (ltb 128 (suc l)) ≡ leb d 63
+short d l e = either (leb d 63) low high
   where
-    low : T (leb d 62) → not (ltb 64 (suc l)) ≡ leb d 62
+    low : T (leb d 63) → not (ltb 128 (suc l)) ≡ leb d 63
     low t =
-        let h = leb→le d 62 t in
-        let f : ltb 64 (suc l) ≡ false = omega (arith, le-ltb) in
-        rw (f, le-leb d 62 h)
+        let h = leb→le d 63 t in
+        let f : ltb 128 (suc l) ≡ false = omega (arith, le-ltb) in
+        rw (f, le-leb d 63 h)
 
-    high : T (not (leb d 62)) → not (ltb 64 (suc l)) ≡ leb d 62
+    high : T (not (leb d 63)) → not (ltb 128 (suc l)) ≡ leb d 63
     high t =
-        let h = nleb→lt d 62 t in
-        let f : ltb 64 (suc l) ≡ true = omega (arith, lt-ltb) in
-        rw (f, lt-leb d 62 h)
+        let h = nleb→lt d 63 t in
+        let f : ltb 128 (suc l) ≡ true = omega (arith, lt-ltb) in
+        rw (f, lt-leb d 63 h)
 
 module _ (k : ℕ) (s : List ℕ) (i : ℕ) (x : ℕ) (is-x : x ≡ arcTarget s i) (t : Bool)
-    (is-t : t ≡ (leb 1 x && leb x k)) where
+    (is-t : t ≡ isStation k x) where
   arc-tests : arcTest k s i ≡ (t && leb (arcBefore s i) (nodeCount s) && not (long (arcPath s i)))
   unfolding arcTest
   arc-tests = rw (is-t, is-x)
@@ -137,14 +150,14 @@ module _ (k : ℕ) (s : List ℕ) (i : ℕ) (x : ℕ) (is-x : x ≡ arcTarget s 
     arc-unknown h = sym (arc-tests ∙ rw (not-false t in-list, ← is-n, ← is-b, lt-leb b n h))
 
     module _ (known : b ≤ n) (w : List ℕ) (d : Depths s w (nodeCount s)) (h : i < arcCount s) where
-      depth : length (arcPath s i) ≡ getD w b 0 + 1
+      depth : length (arcPath s i) ≡ 2 * getD w b 0 + 1
       depth =
           let e = d .deep b (omega arith) in
           let f = ap (λ v. length (nodePath s v)) is-b in
           let g = length-append (nodePath s (arcBefore s i)) (arcTarget s i ∷ []) in
           omega (arith, ap length (arc-path s i h))
 
-      pub arc-decides : leb (getD w b 0) 62 ≡ arcTest k s i
+      pub arc-decides : leb (getD w b 0) 63 ≡ arcTest k s i
       arc-decides =
           sym
           (arc-tests
@@ -217,10 +230,10 @@ module _ (k : ℕ) (s : List ℕ) (t : Bool) (is-t : t ≡ presentTest s) where
     yes : presentTest s ≡ true
     yes = sym is-t ∙ not-false t there
 
-    pub nodes-there : 2 + 2 * nodeCount s ≤ length s
+    pub nodes-there : 2 + 3 * nodeCount s ≤ length s
     nodes-there = omega (arith, present-words s yes)
 
-    pub all-there : 2 + 2 * nodeCount s + 2 * arcCount s ≤ length s
+    pub all-there : 2 + 3 * nodeCount s + 2 * arcCount s ≤ length s
     all-there = present-words s yes
 
     pub few-nodes : nodeCount s ≤ entriesMost

@@ -15,7 +15,8 @@ use Rattle.lists.specs.Members.{none, cons-cases, append-cases}
 use Rattle.lists.specs.Pigeonhole.{Within}
 use Rattle.lists.specs.Places.{getD-in}
 use Rattle.stores.specs.Words.{readable, long, wellMade, entriesMost}
-use Rattle.query_store.specs.Entries.{nodeCount, arcCount, nodeStation, nodeParent, arcTarget, arcBefore}
+use Rattle.query_store.specs.Entries.{nodeCount, arcCount, nodeAlighted, nodeBoarded, nodeParent, arcTarget}
+use Rattle.query_store.specs.Entries.{arcBefore}
 use Rattle.query_store.specs.Paths.{nodePath, arcPath, root-path, next-path, arc-path, length-readable}
 use Rattle.query_store.specs.Tests.{presentTest, nodeTest, nodesTest, arcTest, risesTest, arcsTest}
 use Rattle.query_store.specs.Tests.{present-words, present-arcs, nodes-next, arcs-next, decided}
@@ -66,9 +67,13 @@ module _ (k : ℕ) (s : List ℕ) (yes : wellMade k s ≡ true) where
         (nodeTest k s v)
         (and-left (nodeTest k s v) (nodesTest k s (v + 1)) (sym (nodes-next k s v h) ∙ nodes-yes v (omega arith)))
 
-    pub node-listed : (1 ≤ nodeStation s (v + 1)) × (nodeStation s (v + 1) ≤ k)
+    pub node-alighted : (1 ≤ nodeAlighted s (v + 1)) × (nodeAlighted s (v + 1) ≤ k)
     unfolding nodeTest
-    node-listed = let t = node-test in (search reads, search reads)
+    node-alighted = let t = node-test in (search reads, search reads)
+
+    pub node-boarded : (1 ≤ nodeBoarded s (v + 1)) × (nodeBoarded s (v + 1) ≤ k)
+    unfolding nodeTest
+    node-boarded = let t = node-test in (search reads, search reads)
 
     pub node-below : nodeParent s (v + 1) ≤ v
     unfolding nodeTest
@@ -96,12 +101,12 @@ module _ (k : ℕ) (s : List ℕ) (yes : wellMade k s ≡ true) where
     unfolding arcTest
     arc-known = let t = arc-test in search reads
 
-    pub arc-short : length (arcPath s i) ≤ 63
+    pub arc-short : length (arcPath s i) ≤ 127
     unfolding arcTest
     arc-short =
         let t = arc-test in
         let l : T (not (long (arcPath s i))) = search reads in
-        omega (arith, nltb→le 64 (suc (length (arcPath s i))) l)
+        omega (arith, nltb→le 128 (suc (length (arcPath s i))) l)
 
   present : presentTest s ≡ true
   present = and-left (presentTest s) (nodesTest k s 0) first-tests
@@ -119,15 +124,20 @@ module _ (k : ℕ) (s : List ℕ) (yes : wellMade k s ≡ true) where
       }
 
   -- ---- listed stations
-  last-listed : (q : List ℕ) (x : ℕ) → Within k q → (1 ≤ x) × (x ≤ k) → Within k (q ++ (x ∷ []))
-  last-listed q x w l z m =
-      append-cases q m (w z) (λ h. cons-cases h (λ e. subst (λ y. (1 ≤ y) × (y ≤ k)) (sym e) l) none)
+  listed-more : (q r : List ℕ) → Within k q → Within k r → Within k (q ++ r)
+  listed-more q r w v z m = append-cases q m (w z) (v z)
+
+  listed-first : (x : ℕ) (q : List ℕ) → (1 ≤ x) × (x ≤ k) → Within k q → Within k (x ∷ q)
+  listed-first x q l w z m = cons-cases m (λ e. subst (λ y. (1 ≤ y) × (y ≤ k)) (sym e) l) (w z)
+
+  listed-none : Within k []
+  listed-none z m = none m
 
   -- by the numbers of nodes, f at most
   within-most : (f v : ℕ) → v ≤ f → v ≤ nodeCount s → Within k (nodePath s v)
-  within-most zero zero h g = subst (Within k) (sym (root-path s)) (λ x m. none m)
+  within-most zero zero h g = subst (Within k) (sym (root-path s)) listed-none
   within-most zero (suc v) h g = absurd (omega arith)
-  within-most (suc f) zero h g = subst (Within k) (sym (root-path s)) (λ x m. none m)
+  within-most (suc f) zero h g = subst (Within k) (sym (root-path s)) listed-none
   within-most (suc f) (suc v) h g =
       subst (λ u. Within k (nodePath s u)) (add-one v) (go (within-most f))
     where
@@ -138,11 +148,15 @@ module _ (k : ℕ) (s : List ℕ) (yes : wellMade k s ≡ true) where
           subst
           (Within k)
           (sym (next-path s v g l))
-          (last-listed
+          (listed-more
           (nodePath s (nodeParent s (v + 1)))
-          (nodeStation s (v + 1))
+          (nodeAlighted s (v + 1) ∷ nodeBoarded s (v + 1) ∷ [])
           (ih (nodeParent s (v + 1)) (omega arith) (omega arith))
-          (node-listed v g))
+          (listed-first
+          (nodeAlighted s (v + 1))
+          (nodeBoarded s (v + 1) ∷ [])
+          (node-alighted v g)
+          (listed-first (nodeBoarded s (v + 1)) [] (node-boarded v g) listed-none)))
 
   pub node-within : (v : ℕ) → v ≤ nodeCount s → Within k (nodePath s v)
   node-within v h = within-most v v (le-refl v) h
@@ -152,8 +166,8 @@ module _ (k : ℕ) (s : List ℕ) (yes : wellMade k s ≡ true) where
       subst
       (Within k)
       (sym (arc-path s i h))
-      (last-listed
+      (listed-more
       (nodePath s (arcBefore s i))
-      (arcTarget s i)
+      (arcTarget s i ∷ [])
       (node-within (arcBefore s i) (arc-known i h))
-      (arc-listed i h))
+      (listed-first (arcTarget s i) [] (arc-listed i h) listed-none))

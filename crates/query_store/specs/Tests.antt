@@ -11,16 +11,16 @@ use lib.ListN.{length, drop, drop-of-length-le}
 use lib.Seq.{drop-cons}
 use Rattle.lists.specs.Lists.{any, before}
 use Rattle.lists.specs.Tests.{either, reads}
-use Rattle.stores.specs.Words.{nodePairs, arcPairs, follow, chains, readable, nodesMade, arcsMade, arcsRise, long}
-use Rattle.stores.specs.Words.{entriesMost, wellMade}
-use Rattle.query_store.specs.Entries.{nodeCount, arcCount, nodeStation, nodeParent, arcTarget, arcBefore}
-use Rattle.query_store.specs.Entries.{length-nodes, length-arcs, node-at, arc-at}
+use Rattle.stores.specs.Words.{nodeThrees, arcPairs, follow, chains, readable, isStation, nodesMade, arcsMade}
+use Rattle.stores.specs.Words.{arcsRise, long, entriesMost, wellMade}
+use Rattle.query_store.specs.Entries.{nodeCount, arcCount, nodeAlighted, nodeBoarded, nodeParent, arcTarget}
+use Rattle.query_store.specs.Entries.{arcBefore, length-nodes, length-arcs, node-at, arc-at}
 use Rattle.query_store.specs.Paths.{nodePath, arcPath, arc-path}
 
 -- "all words present, n and m at most 16,383"
 unfoldable pub presentTest : List ℕ → Bool
 presentTest s =
-    leb (2 + 2 * nodeCount s + 2 * arcCount s) (length s)
+    leb (2 + 3 * nodeCount s + 2 * arcCount s) (length s)
     && leb (nodeCount s) entriesMost
     && leb (arcCount s) entriesMost
 
@@ -28,7 +28,7 @@ module _ (s : List ℕ) (yes : presentTest s ≡ true) where
   tests : T (presentTest s)
   tests = subst T (sym yes) tt
 
-  pub present-words : 2 + 2 * nodeCount s + 2 * arcCount s ≤ length s
+  pub present-words : 2 + 3 * nodeCount s + 2 * arcCount s ≤ length s
   unfolding presentTest
   present-words = let t = tests in search reads
 
@@ -44,30 +44,27 @@ module _ (s : List ℕ) (yes : presentTest s ≡ true) where
 -- node v + 1
 unfoldable pub nodeTest : (k : ℕ) (s : List ℕ) (v : ℕ) → Bool
 nodeTest k s v =
-    leb 1 (nodeStation s (v + 1)) && leb (nodeStation s (v + 1)) k && ltb (nodeParent s (v + 1)) (suc v)
+    isStation k (nodeAlighted s (v + 1)) && isStation k (nodeBoarded s (v + 1)) && ltb (nodeParent s (v + 1)) (suc v)
 
 -- the nodes behind node v
 unfoldable pub nodesTest : (k : ℕ) (s : List ℕ) (v : ℕ) → Bool
-nodesTest k s v = nodesMade k (suc v) (drop v (nodePairs s))
+nodesTest k s v = nodesMade k (suc v) (drop v (nodeThrees s))
 
 module _ (k : ℕ) (s : List ℕ) (v : ℕ) where
   pub nodes-end : nodeCount s ≤ v → nodesTest k s v ≡ true
   unfolding nodesTest
-  nodes-end h = rw (drop-of-length-le (nodePairs s) {i = v} (omega (arith, length-nodes s)))
+  nodes-end h = rw (drop-of-length-le (nodeThrees s) {i = v} (omega (arith, length-nodes s)))
 
   pub nodes-next : v < nodeCount s → nodesTest k s v ≡ (nodeTest k s v && nodesTest k s (v + 1))
   unfolding nodesTest nodeTest
   nodes-next h =
-      rw (drop-cons (nodePairs s) v [] (omega (arith, length-nodes s)), node-at s v h, add-one v)
+      rw (drop-cons (nodeThrees s) v [] (omega (arith, length-nodes s)), node-at s v h, add-one v)
 
 -- ---- the arcs
 -- arc i, of k stations, and its sequence is not too long
 unfoldable pub arcTest : (k : ℕ) (s : List ℕ) (i : ℕ) → Bool
 arcTest k s i =
-    leb 1 (arcTarget s i)
-    && leb (arcTarget s i) k
-    && leb (arcBefore s i) (nodeCount s)
-    && not (long (arcPath s i))
+    isStation k (arcTarget s i) && leb (arcBefore s i) (nodeCount s) && not (long (arcPath s i))
 
 -- arc i is the last, or comes before the next
 unfoldable pub risesTest : (s : List ℕ) (i : ℕ) → Bool
@@ -81,7 +78,7 @@ arcsTest k s i =
     let l = drop i (arcPairs s) in
     arcsMade k (nodeCount s) l
     && arcsRise l
-    && not (any long (map (follow (chains ([] ∷ []) (nodePairs s))) l))
+    && not (any long (map (follow (chains ([] ∷ []) (nodeThrees s))) l))
 
 -- what is said of the first arc and of those behind it, arc by arc
 weave : (a as′ b bs c cs : Bool)
@@ -141,13 +138,13 @@ module _ (k : ℕ) (s : List ℕ) (i : ℕ) where
       n = nodeCount s
 
       f : List ℕ → List ℕ
-      f = follow (chains ([] ∷ []) (nodePairs s))
+      f = follow (chains ([] ∷ []) (nodeThrees s))
 
       rest : List (List ℕ)
       rest = drop (i + 1) (arcPairs s)
 
       listed : Bool
-      listed = leb 1 (arcTarget s i) && leb (arcTarget s i) k && leb (arcBefore s i) n
+      listed = isStation k (arcTarget s i) && leb (arcBefore s i) n
 
 -- ---- all of them, in this order
 regroup : (a b c d : Bool) → (a && b && c && d) ≡ (a && (b && c && d))

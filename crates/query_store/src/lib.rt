@@ -1,14 +1,14 @@
 // Question 13: is a store well made? And the sequences of a well-made store, by number.
 ghost use mathlib.Core.Path.{_≡_};
-ghost use mathlib.Core.Bool.{true, _&&_};
+ghost use mathlib.Core.Bool.{true};
 ghost use Prim.Native.Nat.{_+_, _*_, _≤_, _<_};
-ghost use lib.Dec.{leb};
 ghost use lib.ListN.{length, take};
-ghost use Rattle.stores.specs.Words.{wellMade};
+ghost use Rattle.stores.specs.Words.{isStation, wellMade};
 ghost use Rattle.query_store.specs.Entries.{
   nodeCount,
   arcCount,
-  nodeStation,
+  nodeAlighted,
+  nodeBoarded,
   nodeParent,
   arcTarget,
   arcBefore,
@@ -21,8 +21,8 @@ ghost use Rattle.query_store.specs.Made.{Made};
 // The most nodes, and the most arcs.
 const ENTRIES_MOST: usize = stores::ENTRIES_MOST;
 
-// A pattern has at most 64 stations: its source, its target, and these between them.
-const BETWEEN_MOST: u32 = 62;
+// A pattern has at most 64 rides, and so these changes.
+const CHANGES_MOST: u32 = 63;
 
 // ---- nodes and arcs, where their words are there
 
@@ -42,45 +42,53 @@ pub fn arc_count(store: &[u16]) -> usize
     words::word(store, 1) as usize
 }
 
-// The station of node v, counted from 1.
-fn node_station(store: &[u16], v: usize) -> usize
-    requires { ⌜ 2 * v + 1 < length (now store) ⌝ }
-    ensures { λ r. ⌜ (r ≡ nodeStation (now (store .entry)) v) × (r < 65536) ⌝ }
+// The station alighted at of node v, counted from 1.
+fn node_alighted(store: &[u16], v: usize) -> usize
+    requires { ⌜ (1 ≤ v) × (3 * v + 1 < length (now store)) ⌝ }
+    ensures { λ r. ⌜ (r ≡ nodeAlighted (now (store .entry)) v) × (r < 65536) ⌝ }
 {
-    words::word(store, 2 * v) as usize
+    words::word(store, 3 * v - 1) as usize
+}
+
+// The station boarded at of node v.
+fn node_boarded(store: &[u16], v: usize) -> usize
+    requires { ⌜ 3 * v + 1 < length (now store) ⌝ }
+    ensures { λ r. ⌜ (r ≡ nodeBoarded (now (store .entry)) v) × (r < 65536) ⌝ }
+{
+    words::word(store, 3 * v) as usize
 }
 
 // The parent of node v: a node, or 0 for the root.
 fn node_parent(store: &[u16], v: usize) -> usize
-    requires { ⌜ 2 * v + 1 < length (now store) ⌝ }
+    requires { ⌜ 3 * v + 1 < length (now store) ⌝ }
     ensures { λ r. ⌜ (r ≡ nodeParent (now (store .entry)) v) × (r < 65536) ⌝ }
 {
-    words::word(store, 2 * v + 1) as usize
+    words::word(store, 3 * v + 1) as usize
 }
 
 // The target of arc k, counted from 0.
 pub fn arc_target(store: &[u16], k: usize) -> usize
-    requires { ⌜ (2 + 2 * nodeCount (now store) + 2 * arcCount (now store) ≤ length (now store))
+    requires { ⌜ (2 + 3 * nodeCount (now store) + 2 * arcCount (now store) ≤ length (now store))
         × (k < arcCount (now store)) ⌝ }
     ensures { λ r. ⌜ (r ≡ arcTarget (now (store .entry)) k) × (r < 65536) ⌝ }
 {
-    words::word(store, 2 + 2 * node_count(store) + 2 * k) as usize
+    words::word(store, 2 + 3 * node_count(store) + 2 * k) as usize
 }
 
 // The predecessor of arc k: a node, or 0 for the root.
 pub fn arc_before(store: &[u16], k: usize) -> usize
-    requires { ⌜ (2 + 2 * nodeCount (now store) + 2 * arcCount (now store) ≤ length (now store))
+    requires { ⌜ (2 + 3 * nodeCount (now store) + 2 * arcCount (now store) ≤ length (now store))
         × (k < arcCount (now store)) ⌝ }
     ensures { λ r. ⌜ (r ≡ arcBefore (now (store .entry)) k) × (r < 65536) ⌝ }
 {
-    words::word(store, 2 + 2 * node_count(store) + 2 * k + 1) as usize
+    words::word(store, 2 + 3 * node_count(store) + 2 * k + 1) as usize
 }
 
 // ---- question 13
 
 // Whether the station is one of so many.
 fn is_listed(stations: usize, station: usize) -> bool
-    ensures { λ r. ⌜ r ≡ (leb 1 station && leb station stations) ⌝ }
+    ensures { λ r. ⌜ r ≡ isStation stations station ⌝ }
 {
     if station < 1 {
         return false;
@@ -97,7 +105,7 @@ fn is_present(store: &[u16]) -> bool
     }
     let nodes = node_count(store);
     let arcs = arc_count(store);
-    if store.len() < 2 + 2 * nodes + 2 * arcs {
+    if store.len() < 2 + 3 * nodes + 2 * arcs {
         return false;
     }
     if ENTRIES_MOST < nodes {
@@ -106,9 +114,9 @@ fn is_present(store: &[u16]) -> bool
     arcs <= ENTRIES_MOST
 }
 
-// Whether the nodes are well made. If so, word v of working space is the number of stations of node v.
+// Whether the nodes are well made. If so, word v of working space is the number of changes of node v.
 fn nodes_made(store: &[u16], stations: usize, work: &mut [u32]) -> bool
-    requires { ⌜ (2 + 2 * nodeCount (now store) ≤ length (now store))
+    requires { ⌜ (2 + 3 * nodeCount (now store) ≤ length (now store))
         × (nodeCount (now store) ≤ 16383)
         × (16384 ≤ length (now work)) ⌝ }
     ensures { λ r. ⌜ r ≡ nodesTest stations (now (store .entry)) 0 ⌝ }
@@ -119,7 +127,10 @@ fn nodes_made(store: &[u16], stations: usize, work: &mut [u32]) -> bool
     let mut v = 0;
     while v < nodes {
         let node = v + 1;
-        if !is_listed(stations, node_station(store, node)) {
+        if !is_listed(stations, node_alighted(store, node)) {
+            return false;
+        }
+        if !is_listed(stations, node_boarded(store, node)) {
             return false;
         }
         let parent = node_parent(store, node);
@@ -134,7 +145,7 @@ fn nodes_made(store: &[u16], stations: usize, work: &mut [u32]) -> bool
 
 // Whether arc k is well made, and its pattern is not too long.
 fn arc_made(store: &[u16], stations: usize, work: &[u32], k: usize) -> bool
-    requires { ⌜ (2 + 2 * nodeCount (now store) + 2 * arcCount (now store) ≤ length (now store))
+    requires { ⌜ (2 + 3 * nodeCount (now store) + 2 * arcCount (now store) ≤ length (now store))
         × (nodeCount (now store) ≤ 16383)
         × (16384 ≤ length (now work))
         × Depths (now store) (now work) (nodeCount (now store))
@@ -148,12 +159,12 @@ fn arc_made(store: &[u16], stations: usize, work: &[u32], k: usize) -> bool
     if node_count(store) < before {
         return false;
     }
-    work[before] <= BETWEEN_MOST
+    work[before] <= CHANGES_MOST
 }
 
 // Whether arc k is the last, or comes before the next: by target, then predecessor.
 fn arc_rises(store: &[u16], k: usize) -> bool
-    requires { ⌜ (2 + 2 * nodeCount (now store) + 2 * arcCount (now store) ≤ length (now store))
+    requires { ⌜ (2 + 3 * nodeCount (now store) + 2 * arcCount (now store) ≤ length (now store))
         × (k < arcCount (now store)) ⌝ }
     ensures { λ r. ⌜ r ≡ risesTest (now (store .entry)) k ⌝ }
 {
@@ -174,7 +185,7 @@ fn arc_rises(store: &[u16], k: usize) -> bool
 
 // Whether the arcs are well made and rise, and no pattern is too long.
 fn arcs_made(store: &[u16], stations: usize, work: &[u32]) -> bool
-    requires { ⌜ (2 + 2 * nodeCount (now store) + 2 * arcCount (now store) ≤ length (now store))
+    requires { ⌜ (2 + 3 * nodeCount (now store) + 2 * arcCount (now store) ≤ length (now store))
         × (nodeCount (now store) ≤ 16383)
         × (16384 ≤ length (now work))
         × Depths (now store) (now work) (nodeCount (now store)) ⌝ }
@@ -210,7 +221,8 @@ pub fn is_well_made(store: &[u16], stations: usize, work: &mut [u32]) -> bool
 
 // ---- the sequences of a well-made store
 
-// Writes the stations of a node, from the root's child to its own, and returns how many; none for 0, the root.
+// Writes the stations of a node, for each change where one alights and where one boards, from the root's child to its
+// own, and returns how many; none for 0, the root.
 pub fn read_pattern(store: &[u16], node: usize, path: &mut [u16]) -> usize
     requires { ⌜ Made (now store) ⌝ }
     requires { ⌜ (node ≤ nodeCount (now store)) × (length (nodePath (now store) node) ≤ length (now path)) ⌝ }
@@ -222,16 +234,17 @@ pub fn read_pattern(store: &[u16], node: usize, path: &mut [u16]) -> usize
         return 0;
     }
     let depth = read_pattern(store, node_parent(store, node), path);
-    path[depth] = node_station(store, node) as u16;
-    depth + 1
+    path[depth] = node_alighted(store, node) as u16;
+    path[depth + 1] = node_boarded(store, node) as u16;
+    depth + 2
 }
 
 // Writes the stations of the pattern of arc k, without the source, and returns how many.
 pub fn arc_pattern(store: &[u16], k: usize, path: &mut [u16]) -> usize
     requires { ⌜ Made (now store) ⌝ }
-    requires { ⌜ (k < arcCount (now store)) × (64 ≤ length (now path)) ⌝ }
+    requires { ⌜ (k < arcCount (now store)) × (128 ≤ length (now path)) ⌝ }
     ensures { λ r. ⌜ take r (now (path .exit)) ≡ arcPath (now (store .entry)) k ⌝ }
-    ensures { λ r. ⌜ (r ≡ length (arcPath (now (store .entry)) k)) × (1 ≤ r) × (r ≤ 63) ⌝ }
+    ensures { λ r. ⌜ (r ≡ length (arcPath (now (store .entry)) k)) × (1 ≤ r) × (r ≤ 127) ⌝ }
     ensures { λ r. ⌜ length (now (path .exit)) ≡ length (now (path .entry)) ⌝ }
 {
     let depth = read_pattern(store, arc_before(store, k), path);

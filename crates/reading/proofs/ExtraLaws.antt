@@ -8,8 +8,9 @@ use lib.Dec.{ltb, eqb}
 use Rattle.questions.specs.Question.{ask, firstNo}
 use Rattle.text.specs.Range.{rangeNumber, range-in, range-out, range-three}
 use Rattle.text.specs.declared.StationLine.{StationLine}
+use Rattle.text.specs.declared.WalkLine.{WalkLine}
 use Rattle.text.specs.declared.StopLine.{StopLine}
-use Rattle.reading.specs.Draft.{Rules, stopInRange, extraStation, extraInRange}
+use Rattle.reading.specs.Draft.{Rules, walkInRange, stopInRange, extraStation, extraWalk, extraInRange}
 use Rattle.reading.specs.Progress.{stopFitsAt, placeOfExtra, roomForExtra, extraStopAt}
 use Rattle.reading.specs.declared.Progress.{Progress}
 
@@ -37,6 +38,16 @@ module _ (l : StationLine) (m : ℕ) (is-m : m ≡ rangeNumber 1 (l .minutes)) w
     pub extra-astray : q ≡ 0 → 4 ≡ extraStation l
     unfolding extraStation
     extra-astray h = simp (range-in 1 (l .minutes) m is-m in-m, range-in 2 (l .points) q is-q h)
+
+-- ---- a walk line
+module _ (l : WalkLine) (t : Bool) (is-t : t ≡ walkInRange l) where
+  pub extra-walk-out : not t ≡ true → 3 ≡ extraWalk l
+  unfolding extraWalk
+  extra-walk-out h = simp (← is-t, not-true t h)
+
+  pub extra-walk-astray : not t ≡ false → 4 ≡ extraWalk l
+  unfolding extraWalk
+  extra-walk-astray h = simp (← is-t, not-false t h)
 
 -- ---- a stop line: its range
 module _ (l : StopLine) where

@@ -2,7 +2,7 @@
 use mathlib.Core.Path.{_≡_, refl, sym, ap, subst, _∙_}
 use mathlib.Core.Bool.{Bool, true, false, cond, _&&_}
 use mathlib.Core.List.{List, [], _∷_, _++_, map, append-nil}
-use Prim.Native.Nat.{ℕ, zero, suc, _+_, _-_, _*_, _≤_}
+use Prim.Native.Nat.{ℕ, zero, suc, _+_, _-_, _*_, _^_, _≤_, _<_}
 use native.Mathlib.Numerals.{add-one}
 use native.Mathlib.Decide.{ℕ-discrete}
 use native.Mathlib.Omega.{arith}
@@ -10,7 +10,7 @@ use borrow.Author.Tests.{eq-eqb, ne-eqb, eqb-true}
 use lib.Dec.{eqb}
 use lib.ListN.{length, getD, take, drop, set, length-take, length-drop, length-set, length-map, take-append-drop}
 use lib.Seq.{length-take-le, drop-cons}
-use Rattle.words.specs.Put.{put, put-one, put-append, put-over, put-front, length-put}
+use Rattle.words.specs.Put.{put, put-none, put-one, put-append, put-over, put-front, length-put}
 use Rattle.lists.specs.Lists.{range}
 use Rattle.lists.specs.Ranges.{length-range}
 use Rattle.lists.specs.Places.{no-length}
@@ -20,8 +20,8 @@ use Rattle.text.specs.Time.{timeValue}
 use Rattle.text.specs.Shape.{shapeOf}
 use Rattle.text.specs.declared.Line.{Line}
 use Rattle.timetable.specs.Timetable.{Trip, Timetable}
-use Rattle.timetable.specs.Words.{stationWords, stopWords, startWords}
-use Rattle.timetable.specs.WordLaws.{length-startWords, start-first}
+use Rattle.timetable.specs.Words.{stationWords, stopWords, startWords, walkWords}
+use Rattle.timetable.specs.WordLaws.{length-startWords, length-walkWords, start-first}
 use Rattle.reading.specs.Draft.{Draft, Rules, opening, withLine, numberUnder}
 use Rattle.reading.specs.Progress.{progress, lineNumberAt, isThere, same-number}
 use Rattle.reading.specs.Reading.{Outcome, Accepted, Refused, complete, numbersUnder, ended, readUnder}
@@ -35,6 +35,8 @@ use Rattle.reading.specs.Model.{
   bodyAfter,
   startsWith,
   startsAfter,
+  walkingWords,
+  walkingAfter,
   endOf,
   progressOf,
   LinesRead,
@@ -49,8 +51,10 @@ use Rattle.reading.proofs.DraftLaws.{
   length-bodyOf,
   progress-grows,
   body-grows,
+  walking-grows,
   starts-grow,
   within-grows,
+  linesIn,
   lines-grow,
 }
 
@@ -120,34 +124,49 @@ unfolding stationsIn
 length-stationsIn body n = length-map (range 0 n) _ ∙ length-range 0 n
 
 -- ---- what the loop keeps
-pub record Kept (r : Rules) (n : ℕ) (text body₀ starts₀ body starts : List ℕ) (p : Progress) (line from : ℕ) : Type 0
+pub record Kept
+    (r : Rules)
+    (n : ℕ)
+    (text body₀ starts₀ walking₀ body starts walking : List ℕ)
+    (p : Progress)
+    (line from : ℕ)
+    : Type 0
   where
     pub draft : Draft
     pub is-progress : p ≡ progress draft
     pub is-body : body ≡ put 0 (bodyOf draft) body₀
     pub is-starts : starts ≡ put 0 (startWords 0 (draft .trips)) starts₀
+    pub is-walking : walking ≡ put 0 (walkWords (draft .walks)) walking₀
     pub is-read : readAfter r body₀ n text ≡ readUnder r timeValue draft line (pieces 10 (drop from text))
     pub within : Within p
     pub long-body : length body ≡ 10368
     pub long-starts : length starts ≡ 257
+    pub long-walking : length walking ≡ 1024
     pub body-room : length body₀ ≡ 10368
     pub starts-room : length starts₀ ≡ 257
+    pub walking-room : length walking₀ ≡ 1024
+    pub text-fits : length text < 2 ^ 64
     pub in-text : from ≤ length text
     pub some-line : 1 ≤ line
-    pub few-lines : line ≤ p .stations + p .stops + 1
+    pub few-lines : line ≤ linesIn p + 1
 
 abbrev pub beginning : (stations : ℕ) → Progress
-beginning n = record { stations = n; trips = 0; stops = 0; begun = 0; station = 0; depart = 0 }
+beginning n =
+    record { stations = n; walks = 0; from = 0; to = 0; trips = 0; stops = 0; begun = 0; station = 0; depart = 0 }
 
-pub kept-at-first : (r : Rules) (n : ℕ) (text body starts : List ℕ) → n ≤ 64 → length body ≡ 10368
-    → length starts ≡ 257 → Kept r n text body (set starts 0 0) body (set starts 0 0) (beginning n) 1 0
-unfolding startWords stopWords
-kept-at-first r n text body starts few h g =
+pub kept-at-first : (r : Rules) (n : ℕ) (text body starts walking : List ℕ) → n ≤ 64 → length body ≡ 10368
+    → length starts ≡ 257 → length walking ≡ 1024 → length text < 2 ^ 64
+    → Kept r n text body (set starts 0 0) walking body (set starts 0 0) walking (beginning n) 1 0
+unfolding startWords stopWords walkWords
+kept-at-first r n text body starts walking few h g m t =
     record {
       draft = opening (stationsIn body n);
       is-progress = λ i.
           record {
             stations = sym (length-stationsIn body n) i;
+            walks = 0;
+            from = 0;
+            to = 0;
             trips = 0;
             stops = 0;
             begun = 0;
@@ -158,12 +177,17 @@ kept-at-first r n text body starts few h g =
           stations-held body n (omega arith)
           ∙ ap (λ l. put 0 l body) (sym (append-nil (stationWords (stationsIn body n))));
       is-starts = put-one 0 starts 0 (omega arith) ∙ sym (put-over 0 0 [] starts);
+      is-walking = sym (put-none 0 walking);
       is-read = refl;
-      within = record { stations = few; trips = omega arith; stops = omega arith; begun = omega arith };
+      within =
+          record { stations = few; walks = omega arith; trips = omega arith; stops = omega arith; begun = omega arith };
       long-body = h;
       long-starts = simp length-set g;
+      long-walking = m;
       body-room = h;
       starts-room = simp length-set g;
+      walking-room = m;
+      text-fits = t;
       in-text = omega arith;
       some-line = omega arith;
       few-lines = omega arith;
@@ -176,25 +200,29 @@ lineAt text from end = shapeOf (take (end - from) (drop from text))
 module _
     (r : Rules)
     (stations : ℕ)
-    (text body₀ starts₀ body starts : List ℕ)
+    (text body₀ starts₀ walking₀ body starts walking : List ℕ)
     (p : Progress)
     (line from : ℕ)
-    (k : Kept r stations text body₀ starts₀ body starts p line from)
+    (k : Kept r stations text body₀ starts₀ walking₀ body starts walking p line from)
     (end : ℕ)
     (ends : end ≡ from + pieceLength 10 (drop from text))
     (in-text : end ≤ length text)
   where
+    -- behind a line there is more of the text
+    pub from-fits : (end ≡ length text → ⊥) → end + 1 < 2 ^ 64
+    from-fits n = omega (arith, k .text-fits)
+
     -- ---- behind the last line end
-    pub rest-refused : end ≡ length text → (from ≡ length text → ⊥) → (b s b₀ s₀ : List ℕ)
-        → LinesRead r (readAfter r body₀ stations text) (LinesRefused 2 line) b s b₀ s₀
-    rest-refused e n b s b₀ s₀ =
+    pub rest-refused : end ≡ length text → (from ≡ length text → ⊥) → (b s w b₀ s₀ w₀ : List ℕ)
+        → LinesRead r (readAfter r body₀ stations text) (LinesRefused 2 line) b s w b₀ s₀ w₀
+    rest-refused e n b s w b₀ s₀ w₀ =
         let some : length (take (end - from) (drop from text)) ≡ 0 → ⊥ =
         (λ z. n (omega (arith, length-take (end - from) (drop from text), length-drop from text, k .in-text))) in
         let is : readAfter r body₀ stations text ≡ Refused 2 line =
         k .is-read
         ∙ ap (readUnder r timeValue (k .draft) line) (last-from 10 text from end ends (k .in-text) e)
         ∙ read-rest r (k .draft) line (take (end - from) (drop from text)) some in
-        subst (λ o. LinesRead r o (LinesRefused 2 line) b s b₀ s₀) (sym is) refl
+        subst (λ o. LinesRead r o (LinesRefused 2 line) b s w b₀ s₀ w₀) (sym is) refl
 
     ends-here : end ≡ length text → from ≡ length text → readAfter r body₀ stations text ≡ ended r (k .draft) line
     ends-here e n =
@@ -223,6 +251,7 @@ module _
       whole =
           record {
             stations = (k .draft) .stations;
+            walks = (k .draft) .walks;
             numbers = numbersUnder r ((k .draft) .trips);
             trips = (k .draft) .trips;
           }
@@ -240,7 +269,7 @@ module _
           k .is-starts ∙ ap (put 0 marks) began ∙ over
 
       ended-well : some ≡ true
-          → LinesRead r (Accepted whole (line - 1)) (LinesAccepted p (line - 1)) body starts body₀ old
+          → LinesRead r (Accepted whole (line - 1)) (LinesAccepted p (line - 1)) body starts walking body₀ old walking₀
       unfolding some whole
       ended-well t =
           let none : (k .draft) .begun ≡ [] =
@@ -249,11 +278,18 @@ module _
           (and-right (cond (r .extra) _ _) (eqb (length ((k .draft) .begun)) 0) t)) in
           let closed : k .draft ≡ record {
             stations = (k .draft) .stations;
+            walks = (k .draft) .walks;
             trips = (k .draft) .trips;
             begun = [];
           } =
           ap
-          (λ (b : Trip). record { stations = (k .draft) .stations; trips = (k .draft) .trips; begun = b })
+          (λ (b : Trip).
+          record {
+            stations = (k .draft) .stations;
+            walks = (k .draft) .walks;
+            trips = (k .draft) .trips;
+            begun = b;
+          })
           none in
           let is : p ≡ progressOf whole = k .is-progress ∙ ap progress closed in (
             ap (λ (x : Progress). LinesAccepted x (line - 1)) is,
@@ -261,30 +297,34 @@ module _
             k .is-body ∙ ap (λ (d : Draft). put 0 (bodyOf d) body₀) closed ∙ rw append-nil,
             ended-starts,
             refl,
+            k .is-walking,
           )
 
-      pub lines-end : LinesRead r (readAfter r body₀ stations text) a body starts body₀ old
+      pub lines-end : LinesRead r (readAfter r body₀ stations text) a body starts walking body₀ old walking₀
       lines-end =
           rw (as-lines)
           (subst (λ o. LinesRead r o (cond some (LinesAccepted p (line - 1)) (LinesRefused 7 line))
-          body starts body₀ old)
+          body starts walking body₀ old walking₀)
           (sym as-read)
           (by-test some ended-well))
         where
           by-test : (t : Bool)
-              → (t ≡ true → LinesRead r (Accepted whole (line - 1)) (LinesAccepted p (line - 1)) body starts body₀ old)
+              → (t ≡ true
+              → LinesRead r (Accepted whole (line - 1)) (LinesAccepted p (line - 1)) body starts walking body₀ old
+              walking₀)
               → LinesRead r (cond t (Accepted whole (line - 1)) (Refused 7 line))
-              (cond t (LinesAccepted p (line - 1)) (LinesRefused 7 line)) body starts body₀ old
+              (cond t (LinesAccepted p (line - 1)) (LinesRefused 7 line)) body starts walking body₀ old walking₀
           by-test true well = well refl
           by-test false well = refl
 
     -- ---- a line
     module _
         (a : Next)
-        (body′ starts′ : List ℕ)
+        (body′ starts′ walking′ : List ℕ)
         (answers : a ≡ nextOf r p (lineAt text from end))
         (body-after : body′ ≡ bodyAfter r p (lineAt text from end) body)
         (starts-after : starts′ ≡ startsAfter r p (lineAt text from end) starts)
+        (walking-after : walking′ ≡ walkingAfter r p (lineAt text from end) walking)
         (more : end ≡ length text → ⊥)
       where
         number : ℕ
@@ -332,12 +372,13 @@ module _
             let refused : a ≡ NextRefused number = answer ∙ simp (ne-eqb number 0 (has-no m e)) in
             cc
 
-        pub line-refused : (m : ℕ) → a ≡ NextRefused m → (b s b₀ s₀ : List ℕ)
-            → LinesRead r (readAfter r body₀ stations text) (LinesRefused m line) b s b₀ s₀
-        line-refused m e b s b₀ s₀ =
+        pub line-refused : (m : ℕ) → a ≡ NextRefused m → (b s w b₀ s₀ w₀ : List ℕ)
+            → LinesRead r (readAfter r body₀ stations text) (LinesRefused m line) b s w b₀ s₀ w₀
+        line-refused m e b s w b₀ s₀ w₀ =
             let is : readAfter r body₀ stations text ≡ Refused number line =
             read-on ∙ simp (ne-eqb number 0 (has-no m e)) in
-            rw (is-number m e) (subst (λ o. LinesRead r o (LinesRefused number line) b s b₀ s₀) (sym is) refl)
+            rw (is-number m e)
+            (subst (λ o. LinesRead r o (LinesRefused number line) b s w b₀ s₀ w₀) (sym is) refl)
 
         module _ (q : Progress) (on : a ≡ On q) where
           accepted : lineNumberAt r (progress (k .draft)) (lineAt text from end) ≡ 0
@@ -370,6 +411,9 @@ module _
           starts-fit : 0 + length (startWords 0 (next .trips)) ≤ length starts₀
           starts-fit = omega (arith, length-startWords 0 (next .trips), within-next, k .starts-room)
 
+          walking-fits : 0 + length (walkWords (next .walks)) ≤ length walking₀
+          walking-fits = omega (arith, length-walkWords (next .walks), within-next, k .walking-room)
+
           next-body : body′ ≡ put 0 (bodyOf next) body₀
           unfolding bodyAfter next
           next-body =
@@ -390,12 +434,25 @@ module _
               (ap (λ x. startsWith x (lineAt text from end) starts) (k .is-progress)
               ∙ starts-grow (k .draft) starts starts₀ (k .is-starts) r (lineAt text from end) accepted (k .starts-room))
 
-          few-after : line + 1 ≤ q .stations + q .stops + 1
+          next-walking : walking′ ≡ put 0 (walkWords (next .walks)) walking₀
+          unfolding walkingAfter next
+          next-walking =
+              let there = k .draft in
+              let room = length-walkWords (there .walks) in
+              let place : 4 * p .walks ≡ 0 + length (walkWords (there .walks)) =
+              ap (λ (x : Progress). 4 * x .walks) (k .is-progress) ∙ omega arith in
+              walking-after
+              ∙ simp (eq-eqb (lineNumberAt r p (lineAt text from end)) 0 accepted-here)
+              (rw (k .is-walking, place, walking-grows there (lineAt text from end))
+              (put-append 0 (length (walkWords (there .walks))) (walkWords (there .walks))
+              (walkingWords (lineAt text from end)) walking₀ refl (omega (arith, place, k .within, k .walking-room))))
+
+          few-after : line + 1 ≤ linesIn q + 1
           few-after =
-              subst (λ (x : Progress). line + 1 ≤ x .stations + x .stops + 1) (sym (advances q on))
+              subst (λ (x : Progress). line + 1 ≤ linesIn x + 1) (sym (advances q on))
               (lines-grow r p (lineAt text from end) line accepted-here (k .few-lines))
 
-          pub line-kept : Kept r stations text body₀ starts₀ body′ starts′ q (line + 1) (end + 1)
+          pub line-kept : Kept r stations text body₀ starts₀ walking₀ body′ starts′ walking′ q (line + 1) (end + 1)
           unfolding number next
           line-kept =
               record {
@@ -403,6 +460,7 @@ module _
                 is-progress = next-progress;
                 is-body = next-body;
                 is-starts = next-starts;
+                is-walking = next-walking;
                 is-read = read-on ∙ simp (eq-eqb number 0 (has-yes q on));
                 within = next-within;
                 long-body = ap length next-body ∙ length-put 0 (bodyOf next) body₀ body-fits ∙ k .body-room;
@@ -410,8 +468,14 @@ module _
                     ap length next-starts
                     ∙ length-put 0 (startWords 0 (next .trips)) starts₀ starts-fit
                     ∙ k .starts-room;
+                long-walking =
+                    ap length next-walking
+                    ∙ length-put 0 (walkWords (next .walks)) walking₀ walking-fits
+                    ∙ k .walking-room;
                 body-room = k .body-room;
                 starts-room = k .starts-room;
+                walking-room = k .walking-room;
+                text-fits = k .text-fits;
                 in-text = omega arith;
                 some-line = omega arith;
                 few-lines = few-after;

@@ -1,14 +1,26 @@
 -- The ways out of the functions that put the questions to a line, on plain values.
 use mathlib.Core.Path.{_≡_, sym, _∙_}
 use mathlib.Core.Bool.{Bool, true, false, not, _&&_, _||_}
+use mathlib.Core.List.{[], _∷_}
 use Prim.Native.Nat.{ℕ, _+_, _≤_, _<_}
 use borrow.Author.Tests.{lt-ltb, le-ltb, le-leb, lt-leb, eq-eqb, ne-eqb, not-true, not-false}
 use lib.Dec.{leb, ltb, eqb}
 use Rattle.text.specs.Range.{inRange, rangeNumber, range-in, range-out, range-three, range-test}
+use Rattle.questions.specs.Question.{ask, firstNo}
 use Rattle.text.specs.declared.StationLine.{StationLine}
+use Rattle.text.specs.declared.WalkLine.{WalkLine}
 use Rattle.text.specs.declared.StopLine.{StopLine}
-use Rattle.reading.specs.Draft.{stopInRange}
-use Rattle.reading.specs.Progress.{stationNumberAt, stopNumberAt, stopFitsAt}
+use Rattle.reading.specs.Draft.{walkInRange, stopInRange}
+use Rattle.reading.specs.Progress.{
+  placeOfStation,
+  stationNumberAt,
+  risesAt,
+  roomForWalk,
+  walkFitsAt,
+  walkNumberAt,
+  stopNumberAt,
+  stopFitsAt,
+}
 use Rattle.reading.specs.declared.Progress.{Progress}
 
 -- ---- a station line
@@ -30,28 +42,125 @@ module _ (p : Progress) (l : StationLine) (m : ℕ) (is-m : m ≡ rangeNumber 1 
       station-in-range : (inRange 1 (l .minutes) && inRange 2 (l .points)) ≡ true
       station-in-range = simp (range-in 1 (l .minutes) m is-m in-m, range-in 2 (l .points) q is-q in-q)
 
-      pub behind-stops : (p .stops ≡ 0 → ⊥) → 4 ≡ stationNumberAt p l
+      pub behind-walks : (p .walks ≡ 0 → ⊥) → 4 ≡ stationNumberAt p l
       unfolding stationNumberAt
-      behind-stops h = simp (station-in-range, ne-eqb (p .stops) 0 h)
+      behind-walks h = simp (station-in-range, ne-eqb (p .walks) 0 h)
 
-      module _ (none : p .stops ≡ 0) where
-        pub out-of-turn : (l .number ≡ p .stations + 1 → ⊥) → 4 ≡ stationNumberAt p l
+      module _ (no-walk : p .walks ≡ 0) where
+        pub behind-stops : (p .stops ≡ 0 → ⊥) → 4 ≡ stationNumberAt p l
         unfolding stationNumberAt
-        out-of-turn h = simp (station-in-range, eq-eqb (p .stops) 0 none, ne-eqb (l .number) (p .stations + 1) h)
+        behind-stops h = simp (station-in-range, eq-eqb (p .walks) 0 no-walk, ne-eqb (p .stops) 0 h)
 
-        module _ (turn : l .number ≡ p .stations + 1) where
-          station-in-place : (eqb (p .stops) 0 && eqb (l .number) (p .stations + 1)) ≡ true
-          station-in-place = simp (eq-eqb (p .stops) 0 none, eq-eqb (l .number) (p .stations + 1) turn)
-
-          pub stations-full : 64 ≤ p .stations → 5 ≡ stationNumberAt p l
+        module _ (none : p .stops ≡ 0) where
+          pub out-of-turn : (l .number ≡ p .stations + 1 → ⊥) → 4 ≡ stationNumberAt p l
           unfolding stationNumberAt
-          stations-full h = simp (station-in-range, station-in-place, le-ltb (p .stations) 64 h)
+          out-of-turn h =
+              simp (
+                station-in-range,
+                eq-eqb (p .walks) 0 no-walk,
+                eq-eqb (p .stops) 0 none,
+                ne-eqb (l .number) (p .stations + 1) h,
+              )
 
-          pub station-taken : p .stations < 64 → 0 ≡ stationNumberAt p l
-          unfolding stationNumberAt
-          station-taken h = simp (station-in-range, station-in-place, lt-ltb (p .stations) 64 h)
+          module _ (turn : l .number ≡ p .stations + 1) where
+            station-in-place : placeOfStation p l ≡ true
+            station-in-place =
+                simp (
+                  eq-eqb (p .walks) 0 no-walk,
+                  eq-eqb (p .stops) 0 none,
+                  eq-eqb (l .number) (p .stations + 1) turn,
+                )
 
--- ---- question 6
+            pub stations-full : 64 ≤ p .stations → 5 ≡ stationNumberAt p l
+            unfolding stationNumberAt
+            stations-full h = simp (station-in-range, station-in-place, le-ltb (p .stations) 64 h)
+
+            pub station-taken : p .stations < 64 → 0 ≡ stationNumberAt p l
+            unfolding stationNumberAt
+            station-taken h = simp (station-in-range, station-in-place, lt-ltb (p .stations) 64 h)
+
+-- ---- a walk line: its range
+module _ (l : WalkLine) (m : ℕ) (is-m : m ≡ rangeNumber 6 (l .minutes)) where
+  pub walk-minutes-out : (m ≡ 0 → ⊥) → false ≡ walkInRange l
+  walk-minutes-out h = simp (range-out 6 (l .minutes) m is-m h)
+
+  pub walk-points-decide : m ≡ 0 → (q : ℕ) → q ≡ rangeNumber 2 (l .points) → eqb q 0 ≡ walkInRange l
+  walk-points-decide in-m q is-q =
+      sym (simp (range-in 6 (l .minutes) m is-m in-m, range-test 2 (l .points) q is-q))
+
+-- its order
+module _ (p : Progress) (l : WalkLine) where
+  pub first-walk : p .walks ≡ 0 → true ≡ risesAt p l
+  unfolding risesAt
+  first-walk h = simp (eq-eqb (p .walks) 0 h)
+
+  module _ (some : p .walks ≡ 0 → ⊥) where
+    pub later-from : p .from < l .from → true ≡ risesAt p l
+    unfolding risesAt
+    later-from h = simp (ne-eqb (p .walks) 0 some, lt-ltb (p .from) (l .from) h)
+
+    module _ (least : l .from ≤ p .from) where
+      pub earlier-from : (p .from ≡ l .from → ⊥) → false ≡ risesAt p l
+      unfolding risesAt
+      earlier-from h =
+          simp (ne-eqb (p .walks) 0 some, le-ltb (p .from) (l .from) least, ne-eqb (p .from) (l .from) h)
+
+      pub same-from : p .from ≡ l .from → ltb (p .to) (l .to) ≡ risesAt p l
+      unfolding risesAt
+      same-from h =
+          simp (ne-eqb (p .walks) 0 some, le-ltb (p .from) (l .from) least, eq-eqb (p .from) (l .from) h)
+
+  -- question 6
+  pub from-none : l .from < 1 → false ≡ walkFitsAt p l
+  unfolding walkFitsAt
+  from-none h = simp (lt-leb 1 (l .from) h)
+
+  module _ (some : 1 ≤ l .from) where
+    pub from-unlisted : p .stations < l .from → false ≡ walkFitsAt p l
+    unfolding walkFitsAt
+    from-unlisted h = simp (le-leb 1 (l .from) some, lt-leb (l .from) (p .stations) h)
+
+    module _ (listed : l .from ≤ p .stations) where
+      pub to-none : l .to < 1 → false ≡ walkFitsAt p l
+      unfolding walkFitsAt
+      to-none h = simp (le-leb 1 (l .from) some, le-leb (l .from) (p .stations) listed, lt-leb 1 (l .to) h)
+
+      pub to-decides : 1 ≤ l .to → leb (l .to) (p .stations) ≡ walkFitsAt p l
+      unfolding walkFitsAt
+      to-decides h = simp (le-leb 1 (l .from) some, le-leb (l .from) (p .stations) listed, le-leb 1 (l .to) h)
+
+-- and all questions
+module _ (p : Progress) (l : WalkLine) (t : Bool) (is-t : t ≡ walkInRange l) where
+  pub walk-out-of-range : not t ≡ true → 3 ≡ walkNumberAt p l
+  unfolding walkNumberAt
+  walk-out-of-range h = simp (← is-t, not-true t h)
+
+  module _ (still : not t ≡ false) where
+    pub walk-behind-stops : (p .stops ≡ 0 → ⊥) → 4 ≡ walkNumberAt p l
+    unfolding walkNumberAt
+    walk-behind-stops h = simp (← is-t, not-false t still, ne-eqb (p .stops) 0 h)
+
+    module _ (none : p .stops ≡ 0) (u : Bool) (is-u : u ≡ risesAt p l) where
+      pub walk-falls : not u ≡ true → 4 ≡ walkNumberAt p l
+      unfolding walkNumberAt
+      walk-falls h = simp (← is-t, not-false t still, eq-eqb (p .stops) 0 none, ← is-u, not-true u h)
+
+      module _ (up : not u ≡ false) where
+        walk-placed : walkNumberAt p l ≡ firstNo (ask 5 (roomForWalk p) ∷ ask 6 (walkFitsAt p l) ∷ [])
+        unfolding walkNumberAt
+        walk-placed = simp (← is-t, not-false t still, eq-eqb (p .stops) 0 none, ← is-u, not-false u up)
+
+        pub walks-full : 256 ≤ p .walks → 5 ≡ walkNumberAt p l
+        walks-full h = sym (walk-placed ∙ simp (le-ltb (p .walks) 256 h))
+
+        module _ (few : p .walks < 256) (f : Bool) (is-f : f ≡ walkFitsAt p l) where
+          pub walk-taken : f ≡ true → 0 ≡ walkNumberAt p l
+          walk-taken h = sym (walk-placed ∙ simp (lt-ltb (p .walks) 256 few, ← is-f, h))
+
+          pub walk-refused : f ≡ false → 6 ≡ walkNumberAt p l
+          walk-refused h = sym (walk-placed ∙ simp (lt-ltb (p .walks) 256 few, ← is-f, h))
+
+-- ---- question 6 to a stop line
 module _ (p : Progress) (l : StopLine) where
   pub no-station : l .station < 1 → false ≡ stopFitsAt p l
   unfolding stopFitsAt

@@ -11,7 +11,7 @@ use Rattle.lists.specs.Lists.{range}
 use Rattle.lists.specs.Ranges.{length-range}
 use Rattle.words.specs.Put.{put}
 use Rattle.timetable.specs.Timetable.{Timetable, stopsOf}
-use Rattle.timetable.specs.Words.{startWords, words, joined}
+use Rattle.timetable.specs.Words.{startWords, walkWords, words, joined}
 use Rattle.timetable.specs.WordLaws.{joined-words}
 use Rattle.reading.specs.Reading.{
   Outcome,
@@ -34,6 +34,13 @@ use Rattle.reading.specs.declared.Lines.{Lines}
 use Rattle.reading.specs.declared.Lines.the-variants.{Accepted as LinesAccepted, Refused as LinesRefused}
 use Rattle.reading.specs.declared.Reply.{Reply}
 use Rattle.reading.specs.declared.Reply.the-variants.{Done as ReplyDone, Refused as ReplyRefused}
+
+-- the timetable's words, with the numbers that were counted
+pub numbers-written : (table numbers : List ℕ) (stations trips stops walks : ℕ) (body starts walking old : List ℕ)
+    → numbers ≡ range 1 256 → table ≡ put 0 (joined stations trips stops walks body starts numbers walking) old
+    → table ≡ put 0 (joined stations trips stops walks body starts (range 1 256) walking) old
+numbers-written table numbers stations trips stops walks body starts walking old counted e =
+    e ∙ ap (λ n. put 0 (joined stations trips stops walks body starts n walking) old) counted
 
 -- the values of the reply are those of the outcome
 outcome-values : (o : Outcome) → valuesOf (replyTo o) ≡ outcomeValues o
@@ -83,104 +90,112 @@ module _ (text old : List ℕ) where
       unfolding readWords
       long-words = simp (le-leb 16384 (length old) room, refused-long)
 
-    module _ (fits : length text ≤ 65536) (r : Lines) (body starts body₀ starts₀ : List ℕ)
-        (lines : LinesRead textRules (readAfter textRules body₀ 0 text) r body starts body₀ starts₀) where
-      reads-lines : reading text ≡ readAfter textRules body₀ 0 text
-      unfolding reading readLines stationsIn
-      reads-lines = simp (le-leb (length text) 65536 fits)
+    module _ (fits : length text ≤ 65536) (r : Lines) (body starts walking body₀ starts₀ walking₀ : List ℕ)
+        (lines : LinesRead textRules (readAfter textRules body₀ 0 text) r body starts walking body₀ starts₀ walking₀)
+      where
+        reads-lines : reading text ≡ readAfter textRules body₀ 0 text
+        unfolding reading readLines stationsIn
+        reads-lines = simp (le-leb (length text) 65536 fits)
 
-      module _ (number line : ℕ) (no : r ≡ LinesRefused number line) where
-        is-refused : (o : Outcome) → LinesRead textRules o r body starts body₀ starts₀ → o ≡ Refused number line
-        is-refused (Accepted t n) l = let e = l .0 in let z : _≡_ {A = ℕ} 0 1 = cc in absurd (omega arith)
-        is-refused (Refused k m) l = cc
+        module _ (number line : ℕ) (no : r ≡ LinesRefused number line) where
+          is-refused : (o : Outcome) → LinesRead textRules o r body starts walking body₀ starts₀ walking₀
+              → o ≡ Refused number line
+          is-refused (Accepted t n) l = let e = l .0 in let z : _≡_ {A = ℕ} 0 1 = cc in absurd (omega arith)
+          is-refused (Refused k m) l = cc
 
-        refused-lines : reading text ≡ Refused number line
-        refused-lines = reads-lines ∙ is-refused (readAfter textRules body₀ 0 text) lines
+          refused-lines : reading text ≡ Refused number line
+          refused-lines = reads-lines ∙ is-refused (readAfter textRules body₀ 0 text) lines
 
-        pub refused-reply : ReplyRefused number line ≡ readReply text (length old)
-        unfolding readReply
-        refused-reply = simp (le-leb 16384 (length old) room, refused-lines)
+          pub refused-reply : ReplyRefused number line ≡ readReply text (length old)
+          unfolding readReply
+          refused-reply = simp (le-leb 16384 (length old) room, refused-lines)
 
-        pub refused-values : valuesOf (ReplyRefused number line) ≡ readValues text (length old)
-        refused-values = values-told (ReplyRefused number line) refused-reply
+          pub refused-values : valuesOf (ReplyRefused number line) ≡ readValues text (length old)
+          refused-values = values-told (ReplyRefused number line) refused-reply
 
-        pub refused-words : old ≡ readWords text old
-        unfolding readWords
-        refused-words = simp (le-leb 16384 (length old) room, refused-lines)
+          pub refused-words : old ≡ readWords text old
+          unfolding readWords
+          refused-words = simp (le-leb 16384 (length old) room, refused-lines)
 
-      module _ (p : Progress) (n : ℕ) (done : r ≡ LinesAccepted p n) where
-        -- the timetable that was read, and what is kept of it
-        record Held : Type 0 where
-          timetable : Timetable
-          accepted : readAfter textRules body₀ 0 text ≡ Accepted timetable n
-          is-progress : p ≡ progressOf timetable
-          within : Within (progressOf timetable)
-          is-body : body ≡ put 0 (bodyWords timetable) body₀
-          is-starts : starts ≡ put 0 (startWords 0 (timetable .trips)) starts₀
-          is-numbered : timetable .numbers ≡ range 1 (length (timetable .trips))
+        module _ (p : Progress) (n : ℕ) (done : r ≡ LinesAccepted p n) where
+          -- the timetable that was read, and what is kept of it
+          record Held : Type 0 where
+            timetable : Timetable
+            accepted : readAfter textRules body₀ 0 text ≡ Accepted timetable n
+            is-progress : p ≡ progressOf timetable
+            within : Within (progressOf timetable)
+            is-body : body ≡ put 0 (bodyWords timetable) body₀
+            is-starts : starts ≡ put 0 (startWords 0 (timetable .trips)) starts₀
+            is-numbered : timetable .numbers ≡ range 1 (length (timetable .trips))
+            is-walking : walking ≡ put 0 (walkWords (timetable .walks)) walking₀
 
-        is-held : (o : Outcome) → readAfter textRules body₀ 0 text ≡ o
-            → LinesRead textRules o r body starts body₀ starts₀ → Held
-        is-held (Accepted t m) e l =
-            let f = l .0 in
-            let same : m ≡ n = cc in
-            record {
-              timetable = t;
-              accepted = e ∙ ap (Accepted t) same;
-              is-progress = cc;
-              within = l .1;
-              is-body = l .2;
-              is-starts = l .3;
-              is-numbered = l .4;
-            }
-        is-held (Refused k m) e l = let z : _≡_ {A = ℕ} 0 1 = cc in absurd (omega arith)
+          is-held : (o : Outcome) → readAfter textRules body₀ 0 text ≡ o
+              → LinesRead textRules o r body starts walking body₀ starts₀ walking₀ → Held
+          is-held (Accepted t m) e l =
+              let f = l .0 in
+              let same : m ≡ n = cc in
+              record {
+                timetable = t;
+                accepted = e ∙ ap (Accepted t) same;
+                is-progress = cc;
+                within = l .1;
+                is-body = l .2;
+                is-starts = l .3;
+                is-numbered = l .4;
+                is-walking = l .5;
+              }
+          is-held (Refused k m) e l = let z : _≡_ {A = ℕ} 0 1 = cc in absurd (omega arith)
 
-        held : Held
-        held = is-held (readAfter textRules body₀ 0 text) refl lines
+          held : Held
+          held = is-held (readAfter textRules body₀ 0 text) refl lines
 
-        is-within : Within p
-        is-within = subst Within (sym (held .is-progress)) (held .within)
+          is-within : Within p
+          is-within = subst Within (sym (held .is-progress)) (held .within)
 
-        pub few-stations : p .stations ≤ 64
-        few-stations = is-within .stations
+          pub few-stations : p .stations ≤ 64
+          few-stations = is-within .stations
 
-        pub few-trips : p .trips ≤ 256
-        few-trips = is-within .trips
+          pub few-trips : p .trips ≤ 256
+          few-trips = is-within .trips
 
-        pub few-stops : p .stops ≤ 2048
-        few-stops = is-within .stops
+          pub few-stops : p .stops ≤ 2048
+          few-stops = is-within .stops
 
-        pub done-reply : ReplyDone n ≡ readReply text (length old)
-        unfolding readReply
-        done-reply = simp (le-leb 16384 (length old) room, reads-lines, held .accepted)
+          pub few-walks : p .walks ≤ 256
+          few-walks = is-within .walks
 
-        module _ (numbers : List ℕ) (counted : numbers ≡ range 1 256) where
+          pub done-reply : ReplyDone n ≡ readReply text (length old)
+          unfolding readReply
+          done-reply = simp (le-leb 16384 (length old) room, reads-lines, held .accepted)
+
           -- the numbers are the first of 1, 2, 3..
-          numbers-are : numbers ≡ put 0 (held .timetable .numbers) numbers
+          numbers-are : range 1 256 ≡ put 0 (held .timetable .numbers) (range 1 256)
           numbers-are =
               let t = held .timetable in
               let few : length (t .trips) ≤ 256 = omega (arith, held .within .trips) in
-              counted
-              ∙ sym (range-front 1 (length (t .trips)) 256 few)
-              ∙ (λ i. put 0 (sym (held .is-numbered) i) (sym counted i))
+              sym (range-front 1 (length (t .trips)) 256 few)
+              ∙ ap (λ l. put 0 l (range 1 256)) (sym (held .is-numbered))
 
-          table-is : joined (p .stations) (p .trips) (p .stops) body starts numbers ≡ words (held .timetable)
+          table-is : joined (p .stations) (p .trips) (p .stops) (p .walks) body starts (range 1 256) walking
+              ≡ words (held .timetable)
           table-is =
               let t = held .timetable in
               let e = held .is-progress in
               let stops : (progressOf t) .stops ≡ length (stopsOf (t .trips)) = simp append-nil in
-              joined-words t (p .stations) (p .trips) (p .stops) (ap (λ (x : Progress). x .stations) e)
-              (ap (λ (x : Progress). x .trips) e) (ap (λ (x : Progress). x .stops) e ∙ stops) body starts numbers body₀
-              starts₀ numbers (held .is-body) (held .is-starts) numbers-are
+              joined-words t (p .stations) (p .trips) (p .stops) (p .walks) (ap (λ (x : Progress). x .stations) e)
+              (ap (λ (x : Progress). x .trips) e) (ap (λ (x : Progress). x .stops) e ∙ stops)
+              (ap (λ (x : Progress). x .walks) e) body starts (range 1 256) walking body₀ starts₀ (range 1 256) walking₀
+              (held .is-body) (held .is-starts) numbers-are (held .is-walking)
               (ap length (held .is-numbered) ∙ length-range 1 (length (t .trips)))
 
           pub done-words : (table : List ℕ)
-              → table ≡ put 0 (joined (p .stations) (p .trips) (p .stops) body starts numbers) old
+              → table
+              ≡ put 0 (joined (p .stations) (p .trips) (p .stops) (p .walks) body starts (range 1 256) walking) old
               → table ≡ readWords text old
           unfolding readWords
           done-words table e =
               simp (le-leb 16384 (length old) room, reads-lines, held .accepted)
               (e ∙ ap (λ w. put 0 w old) table-is)
 
-        pub done-values : valuesOf (ReplyDone n) ≡ readValues text (length old)
-        done-values = values-told (ReplyDone n) done-reply
+          pub done-values : valuesOf (ReplyDone n) ≡ readValues text (length old)
+          done-values = values-told (ReplyDone n) done-reply

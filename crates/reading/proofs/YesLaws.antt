@@ -9,16 +9,23 @@ use borrow.Author.Tests.{ltb-true, leb-true, eqb-true}
 use lib.Dec.{leb, ltb, eqb}
 use Rattle.questions.specs.Question.{ask, firstNo, yes-here, yes-later}
 use Rattle.lists.specs.Tests.{and-left, and-right}
-use Rattle.text.specs.Range.{inRange, minutes-bound, points-bound, time-bound, ride-bound, mark-bound}
-use Rattle.text.specs.declared.Line.the-variants.{Station as StationIn, Stop as StopIn}
+use Rattle.text.specs.Range.{inRange, minutes-bound, points-bound, time-bound, ride-bound, mark-bound, walk-bound}
+use Rattle.text.specs.declared.Line.the-variants.{Station as StationIn, Walk as WalkIn, Stop as StopIn}
 use Rattle.text.specs.declared.StationLine.{StationLine}
+use Rattle.text.specs.declared.WalkLine.{WalkLine}
 use Rattle.text.specs.declared.StopLine.{StopLine}
 use Rattle.timetable.specs.Timetable.{lastMinute}
-use Rattle.reading.specs.Draft.{Rules, stationInRange, stopInRange, extraStation, extraInRange}
+use Rattle.reading.specs.Draft.{Rules, stationInRange, walkInRange, stopInRange}
+use Rattle.reading.specs.Draft.{extraStation, extraWalk, extraInRange}
 use Rattle.reading.specs.Progress.{
   stationNumberAt,
   placeOfStation,
   roomForStation,
+  walkNumberAt,
+  placeOfWalk,
+  risesAt,
+  roomForWalk,
+  walkFitsAt,
   stopNumberAt,
   placeOfStop,
   roomForStop,
@@ -54,6 +61,7 @@ pub record StationYes (p : Progress) (l : StationLine) : Type 0 where
   pub minutes : l .minutes ≤ 240
   pub least : 1 ≤ l .points
   pub most : l .points ≤ 1000
+  pub before-walks : p .walks ≡ 0
   pub before-stops : p .stops ≡ 0
   pub turn : l .number ≡ p .stations + 1
   pub room : p .stations < 64
@@ -63,19 +71,18 @@ unfolding stationNumberAt
 text-station-yes p l e =
     let all = three-yes (stationInRange l) (placeOfStation p l) (roomForStation p) e in
     let points = points-bound (l .points) (and-right (inRange 1 (l .minutes)) (inRange 2 (l .points)) (all .0)) in
+    let placed = all .1 in
     record {
       minutes = minutes-bound (l .minutes) (and-left (inRange 1 (l .minutes)) (inRange 2 (l .points)) (all .0));
       least = points .0;
       most = points .1;
-      before-stops =
-          eqb-true (p .stops) 0 (and-left (eqb (p .stops) 0) (eqb (l .number) (p .stations + 1)) (all .1));
-      turn =
-          eqb-true (l .number) (p .stations + 1)
-          (and-right (eqb (p .stops) 0) (eqb (l .number) (p .stations + 1)) (all .1));
+      before-walks = search (and-left, eqb-true);
+      before-stops = search (and-left, and-right, eqb-true);
+      turn = search (and-right, eqb-true);
       room = ltb-true (p .stations) 64 (all .2);
     }
 
--- no station line of an extra trip has it
+-- no station line and no walk line of an extra trip has it
 never-astray : (a : Bool) → firstNo (ask 3 a ∷ ask 4 false ∷ []) ≡ 0 → ⊥
 never-astray true e = omega arith
 never-astray false e = omega arith
@@ -100,6 +107,62 @@ module _ (r : Rules) (p : Progress) (l : StationLine) (n : ℕ) (is : n ≡ line
 
     pub points-word : l .points < 65536
     points-word = omega (arith, station-yes r p l n is e)
+
+pub record WalkYes (p : Progress) (l : WalkLine) : Type 0 where
+  pub minutes : (1 ≤ l .minutes) × (l .minutes ≤ 60)
+  pub points : (1 ≤ l .points) × (l .points ≤ 1000)
+  pub before-stops : p .stops ≡ 0
+  pub rises : risesAt p l ≡ true
+  pub room : p .walks < 256
+  pub from : l .from ≤ p .stations
+  pub to : l .to ≤ p .stations
+
+text-walk-yes : (p : Progress) (l : WalkLine) → walkNumberAt p l ≡ 0 → WalkYes p l
+unfolding walkNumberAt walkFitsAt
+text-walk-yes p l e =
+    let all = four-yes (walkInRange l) (placeOfWalk p l) (roomForWalk p) (walkFitsAt p l) e in
+    let placed = all .1 in
+    let fits = all .3 in
+    record {
+      minutes = walk-bound (l .minutes) (and-left (inRange 6 (l .minutes)) (inRange 2 (l .points)) (all .0));
+      points = points-bound (l .points) (and-right (inRange 6 (l .minutes)) (inRange 2 (l .points)) (all .0));
+      before-stops = search (and-left, eqb-true);
+      rises = search and-right;
+      room = ltb-true (p .walks) 256 (all .2);
+      from = search (and-left, and-right, leb-true);
+      to = search (and-right, leb-true);
+    }
+
+pub walk-yes : (r : Rules) (p : Progress) (l : WalkLine) (n : ℕ) → n ≡ lineNumberAt r p (WalkIn l) → n ≡ 0
+    → WalkYes p l
+unfolding extraWalk
+walk-yes r p l n is e = by-kind (r .extra) (sym is ∙ e)
+  where
+    by-kind : (b : Bool) → cond b (extraWalk l) (walkNumberAt p l) ≡ 0 → WalkYes p l
+    by-kind true f = absurd (never-astray (walkInRange l) f)
+    by-kind false f = text-walk-yes p l f
+
+-- its words have room, and fit
+module _ (r : Rules) (p : Progress) (l : WalkLine) (n : ℕ) (is : n ≡ lineNumberAt r p (WalkIn l)) (e : n ≡ 0) where
+  pub walk-room : (walking : List ℕ) → length walking ≡ 1024 → 4 * p .walks + 2 ≤ length walking
+  walk-room walking h = omega (arith, walk-yes r p l n is e)
+
+  pub walk-more-room : (old walking : List ℕ) → length old ≡ 1024 → length walking ≡ length old
+      → 4 * p .walks + 2 + 2 ≤ length walking
+  walk-more-room old walking h g = omega (arith, walk-yes r p l n is e)
+
+  pub walk-minutes-word : l .minutes < 65536
+  walk-minutes-word = omega (arith, walk-yes r p l n is e)
+
+  pub walk-points-word : l .points < 65536
+  walk-points-word = omega (arith, walk-yes r p l n is e)
+
+  module _ (within : Within p) where
+    pub from-word : l .from < 65536
+    from-word = omega (arith, walk-yes r p l n is e, within)
+
+    pub to-word : l .to < 65536
+    to-word = omega (arith, walk-yes r p l n is e, within)
 
 pub record StopYes (p : Progress) (l : StopLine) : Type 0 where
   pub arrive : l .arrive ≤ lastMinute

@@ -7,21 +7,24 @@ use lib.ListN.{length}
 use Rattle.questions.specs.Question.{ask, firstNo}
 use Rattle.text.specs.Range.{inRange}
 use Rattle.text.specs.declared.Line.{Line}
-use Rattle.text.specs.declared.Line.the-variants.{Station as StationIn, Stop as StopIn, Shapeless}
+use Rattle.text.specs.declared.Line.the-variants.{Station as StationIn, Walk as WalkIn, Stop as StopIn, Shapeless}
 use Rattle.text.specs.declared.StationLine.{StationLine}
+use Rattle.text.specs.declared.WalkLine.{WalkLine}
 use Rattle.text.specs.declared.StopLine.{StopLine}
-use Rattle.timetable.specs.Timetable.{Station, Stop, Trip, stopsOf, stationsMost, tripsMost, stopsMost}
+use Rattle.timetable.specs.Timetable.{Station, Walk, Stop, Trip, stopsOf, walkBefore}
+use Rattle.timetable.specs.Timetable.{stationsMost, walksMost, tripsMost, stopsMost}
 use Rattle.reading.specs.declared.Rules.{Rules as RulesStruct}
 
--- stations and ended trips, and the stops of a trip that has begun and not ended
+-- stations, walks and ended trips, and the stops of a trip that has begun and not ended
 pub record Draft : Type 0 where
   pub stations : List Station
+  pub walks : List Walk
   pub trips : List Trip
   pub begun : Trip
 
 -- stations alone
 abbrev pub opening : List Station → Draft
-opening l = record { stations = l; trips = []; begun = [] }
+opening l = record { stations = l; walks = []; trips = []; begun = [] }
 
 abbrev pub blank : Draft
 blank = opening []
@@ -41,9 +44,10 @@ stopsIn d = stopsOf (d .trips) ++ d .begun
 abbrev pub stationInRange : StationLine → Bool
 stationInRange l = inRange 1 (l .minutes) && inRange 2 (l .points)
 
--- "In place: stations 1, 2, 3.. first, then trips ..? 4"
+-- "In place: stations 1, 2, 3.. first, then trips ..? 4"; document 02, One: "Lines `W,..` follow the S lines"
 abbrev pub stationInPlace : Draft → StationLine → Bool
-stationInPlace d l = eqb (length (stopsIn d)) 0 && eqb (l .number) (length (d .stations) + 1)
+stationInPlace d l =
+    eqb (length (d .walks)) 0 && eqb (length (stopsIn d)) 0 && eqb (l .number) (length (d .stations) + 1)
 
 -- "Within the three counts? 5"
 abbrev pub stationCounted : Draft → Bool
@@ -52,6 +56,41 @@ stationCounted d = ltb (length (d .stations)) stationsMost
 unfoldable pub stationNumber : Draft → StationLine → ℕ
 stationNumber d l =
     firstNo (ask 3 (stationInRange l) ∷ ask 4 (stationInPlace d l) ∷ ask 5 (stationCounted d) ∷ [])
+
+-- ---- the questions to a walk line, document 02, One
+-- "minutes 1 to 60, penalty 1 to 1,000"
+abbrev pub walkInRange : WalkLine → Bool
+walkInRange l = inRange 6 (l .minutes) && inRange 2 (l .points)
+
+abbrev pub walkOfLine : WalkLine → Walk
+walkOfLine l = record { from = l .from; to = l .to; minutes = l .minutes; points = l .points }
+
+-- "strictly rising by from, then to"
+abbrev pub risesAfter : List Walk → Walk → Bool
+risesAfter [] w = true
+risesAfter (v ∷ []) w = walkBefore v w
+risesAfter (v ∷ u ∷ l) w = risesAfter (u ∷ l) w
+
+-- "Lines out of place or of rising order give 4": after the S lines and before the T lines
+abbrev pub walkInPlace : Draft → WalkLine → Bool
+walkInPlace d l = eqb (length (stopsIn d)) 0 && risesAfter (d .walks) (walkOfLine l)
+
+-- "at most 256", "too many 5"
+abbrev pub walkCounted : Draft → Bool
+walkCounted d = ltb (length (d .walks)) walksMost
+
+-- "unlisted stations 6"
+unfoldable pub walkFits : Draft → WalkLine → Bool
+walkFits d l =
+    leb 1 (l .from)
+    && leb (l .from) (length (d .stations))
+    && leb 1 (l .to)
+    && leb (l .to) (length (d .stations))
+
+unfoldable pub walkNumber : Draft → WalkLine → ℕ
+walkNumber d l =
+    firstNo
+    (ask 3 (walkInRange l) ∷ ask 4 (walkInPlace d l) ∷ ask 5 (walkCounted d) ∷ ask 6 (walkFits d l) ∷ [])
 
 -- ---- the questions to a stop line
 -- "In range? 3"
@@ -103,6 +142,10 @@ extraRules n trips stops = record { extra = true; number = n; trips = trips; sto
 unfoldable pub extraStation : StationLine → ℕ
 extraStation l = firstNo (ask 3 (stationInRange l) ∷ ask 4 false ∷ [])
 
+-- and so has and is a walk line
+unfoldable pub extraWalk : WalkLine → ℕ
+extraWalk l = firstNo (ask 3 (walkInRange l) ∷ ask 4 false ∷ [])
+
 -- "(0 in a line gives 3)"
 abbrev pub extraInRange : StopLine → Bool
 extraInRange l = leb 1 (l .trip) && stopInRange l
@@ -129,6 +172,7 @@ extraStop r d l =
 
 abbrev pub extraNumber : Rules → Draft → Line → ℕ
 extraNumber r d (StationIn l) = extraStation l
+extraNumber r d (WalkIn l) = extraWalk l
 extraNumber r d (StopIn l) = extraStop r d l
 extraNumber r d Shapeless = 2
 
@@ -136,6 +180,7 @@ extraNumber r d Shapeless = 2
 -- "Then for each line: is it of a shape above? 2", and the questions to its shape; 0 where all have a yes
 abbrev pub lineNumber : Draft → Line → ℕ
 lineNumber d (StationIn l) = stationNumber d l
+lineNumber d (WalkIn l) = walkNumber d l
 lineNumber d (StopIn l) = stopNumber d l
 lineNumber d Shapeless = 2
 
@@ -152,12 +197,26 @@ stopOfLine l =
 
 -- a stop more; an empty depart ends the trip
 abbrev pub withStop : Draft → Stop → (last : Bool) → Draft
-withStop d s true = record { stations = d .stations; trips = d .trips ++ ((d .begun ++ (s ∷ [])) ∷ []); begun = [] }
-withStop d s false = record { stations = d .stations; trips = d .trips; begun = d .begun ++ (s ∷ []) }
+withStop d s true =
+    record {
+      stations = d .stations;
+      walks = d .walks;
+      trips = d .trips ++ ((d .begun ++ (s ∷ [])) ∷ []);
+      begun = [];
+    }
+withStop d s false =
+    record { stations = d .stations; walks = d .walks; trips = d .trips; begun = d .begun ++ (s ∷ []) }
 
 -- the draft with a line more
 abbrev pub withLine : Draft → Line → Draft
 withLine d (StationIn l) =
-    record { stations = d .stations ++ (stationOfLine l ∷ []); trips = d .trips; begun = d .begun }
+    record {
+      stations = d .stations ++ (stationOfLine l ∷ []);
+      walks = d .walks;
+      trips = d .trips;
+      begun = d .begun;
+    }
+withLine d (WalkIn l) =
+    record { stations = d .stations; walks = d .walks ++ (walkOfLine l ∷ []); trips = d .trips; begun = d .begun }
 withLine d (StopIn l) = withStop d (stopOfLine l) (l .last)
 withLine d Shapeless = d

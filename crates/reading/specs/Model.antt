@@ -1,5 +1,6 @@
 -- How the code reads: it keeps the progress, and the words of stations and stops in one array, where trips begin in
--- another. No reader of the promise needs this file; proofs/ shows that it comes to the same as Reading.
+-- another, and the words of walks in a third. No reader of the promise needs this file; proofs/ shows that it comes to
+-- the same as Reading.
 use mathlib.Core.Path.{_≡_}
 use mathlib.Core.Bool.{cond, _&&_}
 use mathlib.Core.List.{List, [], _∷_, _++_, map}
@@ -11,10 +12,10 @@ use Rattle.words.specs.Put.{put}
 use Rattle.text.specs.Piece.{pieces}
 use Rattle.text.specs.Time.{timeValue}
 use Rattle.text.specs.declared.Line.{Line}
-use Rattle.text.specs.declared.Line.the-variants.{Station as StationIn, Stop as StopIn, Shapeless}
+use Rattle.text.specs.declared.Line.the-variants.{Station as StationIn, Walk as WalkIn, Stop as StopIn, Shapeless}
 use Rattle.text.specs.declared.StopLine.{StopLine}
 use Rattle.timetable.specs.Timetable.{Station, Timetable, stopsOf}
-use Rattle.timetable.specs.Words.{stationWords, stopWords, startWords}
+use Rattle.timetable.specs.Words.{stationWords, stopWords, startWords, walkWords}
 use Rattle.reading.specs.Draft.{Rules, opening}
 use Rattle.reading.specs.Progress.{progress, lineNumberAt, isThere}
 use Rattle.reading.specs.Reading.{Outcome, Accepted, Refused, numbersUnder, readUnder}
@@ -27,6 +28,7 @@ use Rattle.reading.specs.declared.Lines.the-variants.{Accepted as LinesA
 -- within the limits, so that no sum wraps and every index is in range
 pub record Within (p : Progress) : Type 0 where
   pub stations : p .stations ≤ 64
+  pub walks : p .walks ≤ 256
   pub trips : p .trips ≤ 256
   pub stops : p .stops ≤ 2048
   pub begun : p .begun ≤ p .stops
@@ -49,6 +51,9 @@ abbrev pub endTrip : Progress → Progress
 endTrip p =
     record {
       stations = p .stations;
+      walks = p .walks;
+      from = p .from;
+      to = p .to;
       trips = p .trips + 1;
       stops = p .stops + 1;
       begun = 0;
@@ -60,6 +65,9 @@ abbrev pub goOn : Progress → StopLine → Progress
 goOn p l =
     record {
       stations = p .stations;
+      walks = p .walks;
+      from = p .from;
+      to = p .to;
       trips = p .trips;
       stops = p .stops + 1;
       begun = p .begun + 1;
@@ -72,6 +80,21 @@ abbrev pub advance : Progress → Line → Progress
 advance p (StationIn l) =
     record {
       stations = p .stations + 1;
+      walks = p .walks;
+      from = p .from;
+      to = p .to;
+      trips = p .trips;
+      stops = p .stops;
+      begun = p .begun;
+      station = p .station;
+      depart = p .depart;
+    }
+advance p (WalkIn l) =
+    record {
+      stations = p .stations;
+      walks = p .walks + 1;
+      from = l .from;
+      to = l .to;
       trips = p .trips;
       stops = p .stops;
       begun = p .begun;
@@ -87,6 +110,7 @@ nextOf r p line = cond (eqb (lineNumberAt r p line) 0) (On (advance p line)) (Ne
 -- the words that a line adds to those of stations and stops
 abbrev pub lineWords : Line → List ℕ
 lineWords (StationIn l) = l .minutes ∷ l .points ∷ []
+lineWords (WalkIn l) = []
 lineWords (StopIn l) = l .station ∷ l .arrive ∷ l .depart ∷ l .points ∷ l .mark ∷ []
 lineWords Shapeless = []
 
@@ -98,29 +122,43 @@ bodyAfter r p line old =
 -- the array of starts after an accepted line: a trip's last stop says where the next trip begins
 abbrev pub startsWith : Progress → Line → List ℕ → List ℕ
 startsWith p (StationIn l) old = old
+startsWith p (WalkIn l) old = old
 startsWith p (StopIn l) old = cond (l .last) (set old (p .trips + 1) (p .stops + 1)) old
 startsWith p Shapeless old = old
 
 unfoldable pub startsAfter : Rules → Progress → Line → List ℕ → List ℕ
 startsAfter r p line old = cond (eqb (lineNumberAt r p line) 0) (startsWith p line old) old
 
+-- the words that a line adds to those of walks
+abbrev pub walkingWords : Line → List ℕ
+walkingWords (StationIn l) = []
+walkingWords (WalkIn l) = l .from ∷ l .to ∷ l .minutes ∷ l .points ∷ []
+walkingWords (StopIn l) = []
+walkingWords Shapeless = []
+
+-- the array of walks' words after a line
+unfoldable pub walkingAfter : Rules → Progress → Line → List ℕ → List ℕ
+walkingAfter r p line old =
+    cond (eqb (lineNumberAt r p line) 0) (put (4 * p .walks) (walkingWords line) old) old
+
 -- the words of stations and stops of a timetable
 abbrev pub bodyWords : Timetable → List ℕ
 bodyWords t = stationWords (t .stations) ++ stopWords (stopsOf (t .trips))
 
 abbrev pub progressOf : Timetable → Progress
-progressOf t = progress (record { stations = t .stations; trips = t .trips; begun = [] })
+progressOf t = progress (record { stations = t .stations; walks = t .walks; trips = t .trips; begun = [] })
 
 -- question 7
 unfoldable pub endOf : Rules → Progress → ℕ → Lines
 endOf r p line = cond (isThere r p && eqb (p .begun) 0) (LinesAccepted p (line - 1)) (LinesRefused 7 line)
 
--- what reading all lines has to answer and to leave in the two arrays
-abbrev pub LinesRead : Rules → Outcome → Lines → (body starts body₀ starts₀ : List ℕ) → Type 0
-LinesRead r (Accepted t n) a body starts body₀ starts₀ =
+-- what reading all lines has to answer and to leave in the three arrays
+abbrev pub LinesRead : Rules → Outcome → Lines → (body starts walking body₀ starts₀ walking₀ : List ℕ) → Type 0
+LinesRead r (Accepted t n) a body starts walking body₀ starts₀ walking₀ =
     (a ≡ LinesAccepted (progressOf t) n)
     × Within (progressOf t)
     × (body ≡ put 0 (bodyWords t) body₀)
     × (starts ≡ put 0 (startWords 0 (t .trips)) starts₀)
     × (t .numbers ≡ numbersUnder r (t .trips))
-LinesRead r (Refused k l) a body starts body₀ starts₀ = a ≡ LinesRefused k l
+    × (walking ≡ put 0 (walkWords (t .walks)) walking₀)
+LinesRead r (Refused k l) a body starts walking body₀ starts₀ walking₀ = a ≡ LinesRefused k l

@@ -32,7 +32,14 @@ numbersUnder r trips = cond (r .extra) (r .number ∷ []) (range 1 (length trips
 unfoldable pub ended : Rules → Draft → (line : ℕ) → Outcome
 ended r d line =
     cond (complete r d)
-    (Accepted (record { stations = d .stations; numbers = numbersUnder r (d .trips); trips = d .trips }) (line - 1))
+    (Accepted
+    (record {
+      stations = d .stations;
+      walks = d .walks;
+      numbers = numbersUnder r (d .trips);
+      trips = d .trips;
+    })
+    (line - 1))
     (Refused 7 line)
 
 -- the lines given, the first of which has this number; what stands last ends with no byte 10: "bytes after the last 10

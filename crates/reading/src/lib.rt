@@ -5,11 +5,16 @@ ghost use Prim.Native.Nat.{_+_, _*_, _≤_, _<_};
 ghost use mathlib.Core.Bool.{cond};
 ghost use lib.ListN.{length, set};
 ghost use Rattle.text.specs.Shape.{shapeOf};
-ghost use Rattle.text.specs.declared.Line.the-variants.{Station, Stop};
+ghost use Rattle.text.specs.declared.Line.the-variants.{Station, Walk, Stop};
 ghost use Rattle.lists.specs.Lists.{range};
-ghost use Rattle.reading.specs.Draft.{stopInRange, extraStation, extraInRange};
+ghost use Rattle.words.specs.Put.{put};
+ghost use Rattle.timetable.specs.Words.{joined};
+ghost use Rattle.reading.specs.Draft.{walkInRange, stopInRange, extraStation, extraWalk, extraInRange};
 ghost use Rattle.reading.specs.Progress.{
   stationNumberAt,
+  risesAt,
+  walkFitsAt,
+  walkNumberAt,
   stopNumberAt,
   stopFitsAt,
   placeOfExtra,
@@ -27,12 +32,14 @@ ghost use Rattle.reading.specs.Model.{
   nextOf,
   bodyAfter,
   startsAfter,
+  walkingAfter,
   endOf,
   LinesRead,
 };
 use text::Line;
 use text::StationLine;
 use text::StopLine;
+use text::WalkLine;
 
 const LINE_END: u8 = 10;
 
@@ -40,14 +47,20 @@ const TEXT_MOST: usize = 65536;
 
 const STATIONS_MOST: usize = timetable::STATIONS_MOST as usize;
 
+const WALKS_MOST: usize = timetable::WALKS_MOST as usize;
+
 const TRIPS_MOST: usize = timetable::TRIPS_MOST as usize;
 
 const STOPS_MOST: usize = timetable::STOPS_MOST as usize;
 
-// How far the lines of a text have come: stations, ended trips, stops in all, stops of the begun trip, and the station
-// and departure of the stop before, where a trip has begun.
+// How far the lines of a text have come: stations, walks, and the stations of the walk before, where there is one;
+// ended trips, stops in all, stops of the begun trip, and the station and departure of the stop before, where a trip
+// has begun.
 pub struct Progress {
     pub stations: usize,
+    pub walks: usize,
+    pub from: u32,
+    pub to: u32,
     pub trips: usize,
     pub stops: usize,
     pub begun: usize,
@@ -93,6 +106,9 @@ fn station_number(p: Progress, l: StationLine) -> u32
     if points != 0 {
         return points;
     }
+    if p.walks != 0 {
+        return 4;
+    }
     if p.stops != 0 {
         return 4;
     }
@@ -103,6 +119,72 @@ fn station_number(p: Progress, l: StationLine) -> u32
         return 5;
     }
     0
+}
+
+// Question 3 to a walk line.
+fn walk_in_range(l: WalkLine) -> bool
+    ensures { λ r. ⌜ r ≡ walkInRange l ⌝ }
+{
+    if text::range_number(text::WALK_MINUTES, l.minutes) != 0 {
+        return false;
+    }
+    text::range_number(text::CHANGE_PENALTY, l.points) == 0
+}
+
+// The walk comes after the one before: by from, then to.
+fn walk_rises(p: Progress, l: WalkLine) -> bool
+    ensures { λ r. ⌜ r ≡ risesAt p l ⌝ }
+{
+    if p.walks == 0 {
+        return true;
+    }
+    if p.from < l.from {
+        return true;
+    }
+    if p.from != l.from {
+        return false;
+    }
+    p.to < l.to
+}
+
+// Question 6 to a walk line.
+fn walk_fits(p: Progress, l: WalkLine) -> bool
+    requires { ⌜ Within p ⌝ }
+    ensures { λ r. ⌜ r ≡ walkFitsAt p l ⌝ }
+{
+    if l.from < 1 {
+        return false;
+    }
+    if p.stations < l.from as usize {
+        return false;
+    }
+    if l.to < 1 {
+        return false;
+    }
+    l.to as usize <= p.stations
+}
+
+// Questions 3 to 6 to a walk line: 0, or the number of the first no.
+fn walk_number(p: Progress, l: WalkLine) -> u32
+    requires { ⌜ Within p ⌝ }
+    ensures { λ r. ⌜ r ≡ walkNumberAt p l ⌝ }
+{
+    if !walk_in_range(l) {
+        return 3;
+    }
+    if p.stops != 0 {
+        return 4;
+    }
+    if !walk_rises(p, l) {
+        return 4;
+    }
+    if WALKS_MOST <= p.walks {
+        return 5;
+    }
+    if walk_fits(p, l) {
+        return 0;
+    }
+    6
 }
 
 // Question 3 to a stop line.
@@ -188,6 +270,16 @@ fn extra_station(l: StationLine) -> u32
     4
 }
 
+// Questions 3 and 4 to a walk line of an extra trip: none is in place there either.
+fn extra_walk(l: WalkLine) -> u32
+    ensures { λ r. ⌜ r ≡ extraWalk l ⌝ }
+{
+    if !walk_in_range(l) {
+        return 3;
+    }
+    4
+}
+
 // Question 3 to a stop line of an extra trip.
 fn extra_in_range(l: StopLine) -> bool
     ensures { λ r. ⌜ r ≡ extraInRange l ⌝ }
@@ -253,6 +345,16 @@ fn station_asked(rules: Rules, p: Progress, l: StationLine) -> u32
     station_number(p, l)
 }
 
+fn walk_asked(rules: Rules, p: Progress, l: WalkLine) -> u32
+    requires { ⌜ Within p ⌝ }
+    ensures { λ r. ⌜ r ≡ lineNumberAt rules p (Walk l) ⌝ }
+{
+    if rules.extra {
+        return extra_walk(l);
+    }
+    walk_number(p, l)
+}
+
 fn stop_asked(rules: Rules, p: Progress, l: StopLine) -> u32
     requires { ⌜ Within p × Running rules ⌝ }
     ensures { λ r. ⌜ r ≡ lineNumberAt rules p (Stop l) ⌝ }
@@ -276,6 +378,35 @@ fn take_station(rules: Rules, p: Progress, l: StationLine, body: &mut [u16]) -> 
     words::put_two(body, 2 * p.stations + 5 * p.stops, l.minutes, l.points);
     Next::On(Progress {
         stations: p.stations + 1,
+        walks: p.walks,
+        from: p.from,
+        to: p.to,
+        trips: p.trips,
+        stops: p.stops,
+        begun: p.begun,
+        station: p.station,
+        depart: p.depart,
+    })
+}
+
+// Puts the questions to a walk line, and where all have a yes takes its words.
+fn take_walk(rules: Rules, p: Progress, l: WalkLine, walking: &mut [u16]) -> Next
+    requires { ⌜ Within p × (length (now walking) ≡ 1024) ⌝ }
+    ensures { λ r. ⌜ (r ≡ nextOf rules p (Walk l))
+        × (now (walking .exit) ≡ walkingAfter rules p (Walk l) (now (walking .entry))) ⌝ }
+{
+    let number = walk_asked(rules, p, l);
+    if number != 0 {
+        return Next::Refused(number);
+    }
+    let place = 4 * p.walks;
+    words::put_two(walking, place, l.from, l.to);
+    words::put_two(walking, place + 2, l.minutes, l.points);
+    Next::On(Progress {
+        stations: p.stations,
+        walks: p.walks + 1,
+        from: l.from,
+        to: l.to,
         trips: p.trips,
         stops: p.stops,
         begun: p.begun,
@@ -292,6 +423,9 @@ fn after_stop(p: Progress, l: StopLine) -> Progress
     if l.last {
         return Progress {
             stations: p.stations,
+            walks: p.walks,
+            from: p.from,
+            to: p.to,
             trips: p.trips + 1,
             stops: p.stops + 1,
             begun: 0,
@@ -301,6 +435,9 @@ fn after_stop(p: Progress, l: StopLine) -> Progress
     }
     Progress {
         stations: p.stations,
+        walks: p.walks,
+        from: p.from,
+        to: p.to,
         trips: p.trips,
         stops: p.stops + 1,
         begun: p.begun + 1,
@@ -346,15 +483,30 @@ fn take_stop(rules: Rules, p: Progress, l: StopLine, body: &mut [u16], starts: &
 }
 
 // Takes a line, without its line end: the progress after it, or the number of the first no.
-fn take_line(rules: Rules, p: Progress, line: &[u8], body: &mut [u16], starts: &mut [u16]) -> Next
-    requires { ⌜ Within p × Running rules × (length (now body) ≡ 10368) × (length (now starts) ≡ 257) ⌝ }
+fn take_line(
+    rules: Rules,
+    p: Progress,
+    line: &[u8],
+    body: &mut [u16],
+    starts: &mut [u16],
+    walking: &mut [u16],
+) -> Next
+    requires { ⌜ Within p
+        × Running rules
+        × (length (now body) ≡ 10368)
+        × (length (now starts) ≡ 257)
+        × (length (now walking) ≡ 1024) ⌝ }
     ensures { λ r. ⌜ (r ≡ nextOf rules p (shapeOf (now (line .entry))))
         × (now (body .exit) ≡ bodyAfter rules p (shapeOf (now (line .entry))) (now (body .entry)))
-        × (now (starts .exit) ≡ startsAfter rules p (shapeOf (now (line .entry))) (now (starts .entry))) ⌝ }
+        × (now (starts .exit) ≡ startsAfter rules p (shapeOf (now (line .entry))) (now (starts .entry)))
+        × (now (walking .exit) ≡ walkingAfter rules p (shapeOf (now (line .entry))) (now (walking .entry))) ⌝ }
 {
     match text::shape(line) {
         Line::Station(l) => {
             return take_station(rules, p, l, body);
+        }
+        Line::Walk(l) => {
+            return take_walk(rules, p, l, walking);
         }
         Line::Stop(l) => {
             return take_stop(rules, p, l, body, starts);
@@ -389,27 +541,32 @@ fn end_lines(rules: Rules, p: Progress, line: u32) -> Lines
     Lines::Accepted(p, line - 1)
 }
 
-// Reads all lines, into the words of stations and stops and the places where trips begin. So many stations stand in the
-// words already.
+// Reads all lines, into the words of stations and stops, the places where trips begin and the words of walks. So many
+// stations stand in the words already.
 pub fn read_lines(
     rules: Rules,
     stations: usize,
     text: &[u8],
     body: &mut [u16],
     starts: &mut [u16],
+    walking: &mut [u16],
 ) -> Lines
     requires { ⌜ Running rules
         × (stations ≤ 64)
         × (length (now body) ≡ 10368)
-        × (length (now starts) ≡ 257) ⌝ }
+        × (length (now starts) ≡ 257)
+        × (length (now walking) ≡ 1024) ⌝ }
     ensures { λ r. ⌜ LinesRead rules (readAfter rules (now (body .entry)) stations (now (text .entry)))
-        r (now (body .exit))
-        (now (starts .exit)) (now (body .entry)) (now (starts .entry)) ⌝ }
+        r (now (body .exit)) (now (starts .exit)) (now (walking .exit)) (now (body .entry)) (now (starts .entry))
+        (now (walking .entry)) ⌝ }
 {
     starts[0] = 0;
     let n = text.len();
     let mut p = Progress {
         stations,
+        walks: 0,
+        from: 0,
+        to: 0,
         trips: 0,
         stops: 0,
         begun: 0,
@@ -426,7 +583,7 @@ pub fn read_lines(
             }
             return Lines::Refused { number: 2, line };
         }
-        match take_line(rules, p, &text[from..end], body, starts) {
+        match take_line(rules, p, &text[from..end], body, starts, walking) {
             Next::On(q) => {
                 p = q;
             }
@@ -451,6 +608,42 @@ fn count_trips(numbers: &mut [u16])
     }
 }
 
+// Writes the timetable that the lines of a text say, whose trips have the numbers 1, 2, 3.. .
+fn write_timetable(
+    timetable: &mut [u16],
+    p: Progress,
+    body: &[u16],
+    starts: &[u16],
+    walking: &[u16],
+)
+    requires { ⌜ (p .stations ≤ 64)
+        × (p .trips ≤ 256)
+        × (p .stops ≤ 2048)
+        × (p .walks ≤ 256)
+        × (16384 ≤ length (now timetable))
+        × (length (now body) ≡ 10368)
+        × (length (now starts) ≡ 257)
+        × (length (now walking) ≡ 1024) ⌝ }
+    ensures { λ _. ⌜ now (timetable .exit)
+        ≡ put 0 (joined (p .stations) (p .trips) (p .stops) (p .walks) (now (body .entry)) (now (starts .entry))
+        (range 1 256) (now (walking .entry))) (now (timetable .entry)) ⌝ }
+    ensures { λ _. ⌜ length (now (timetable .exit)) ≡ length (now (timetable .entry)) ⌝ }
+{
+    let mut numbers = [0u16; timetable::NUMBERS_WORDS];
+    count_trips(&mut numbers);
+    timetable::write_words(
+        timetable,
+        p.stations,
+        p.trips,
+        p.stops,
+        p.walks,
+        body,
+        starts,
+        &numbers,
+        walking,
+    );
+}
+
 // Reads a text into the lent words of a timetable.
 pub fn read(text: &[u8], timetable: &mut [u16]) -> Reply
     ensures reply { λ r. ⌜ r ≡ readReply (now (text .entry)) (length (now (timetable .entry))) ⌝ }
@@ -465,28 +658,19 @@ pub fn read(text: &[u8], timetable: &mut [u16]) -> Reply
     }
     let mut body = [0u16; timetable::BODY_WORDS];
     let mut starts = [0u16; timetable::STARTS_WORDS];
-    let mut numbers = [0u16; timetable::NUMBERS_WORDS];
-    count_trips(&mut numbers);
+    let mut walking = [0u16; timetable::WALKING_WORDS];
     let rules = Rules {
         extra: false,
         number: 0,
         trips: 0,
         stops: 0,
     };
-    match read_lines(rules, 0, text, &mut body, &mut starts) {
+    match read_lines(rules, 0, text, &mut body, &mut starts, &mut walking) {
         Lines::Refused { number, line } => {
             return Reply::Refused { number, line };
         }
         Lines::Accepted(p, lines) => {
-            timetable::write_words(
-                timetable,
-                p.stations,
-                p.trips,
-                p.stops,
-                &body,
-                &starts,
-                &numbers,
-            );
+            write_timetable(timetable, p, &body, &starts, &walking);
             return Reply::Done { lines };
         }
     }

@@ -28,12 +28,11 @@ fn make(words: &[u16], work: &mut [u32], source: usize, store: &mut [u16]) -> Re
     if !counts.fits {
         return Reply::Refused { number: 15 };
     }
-    let count = 2 + 2 * counts.n + 2 * counts.m;
+    let count = 2 + 3 * counts.n + 2 * counts.m;
     if store.len() < count {
         return Reply::Refused { number: 15 };
     }
-    let stations = words::word(words, 0) as usize;
-    store_tree::write_store(work, &targets, counts.n, counts.m, stations, store);
+    store_tree::write_store(words, work, &targets, counts.n, counts.m, store);
     Reply::Done {
         count: count as u32,
     }

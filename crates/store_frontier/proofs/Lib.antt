@@ -1,2 +1,3 @@
-pub mod PassLaws
 pub mod FrontLaws
+pub mod OntoLaws
+pub mod PassLaws

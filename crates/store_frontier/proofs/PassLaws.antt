@@ -5,22 +5,22 @@ use mathlib.Core.List.{List, [], _∷_, _++_, Memᴰ·append-right, List·Memᴰ
 use Prim.Native.Nat.{ℕ, suc, _+_, _-_, _≤_, _<_, max}
 use native.Mathlib.Omega.{arith}
 use native.Mathlib.Numerals.{add-one}
-use borrow.Author.Tests.{lt-ltb, le-ltb}
 use lib.ListN.{length, getD, take, drop, set, replicate, take-append-drop, drop-of-length-le}
 use lib.Seq.{length-take-le, getD-take, drop-cons}
 use Rattle.lists.specs.Lists.{_∈_}
-use Rattle.timetable.specs.Timetable.{Stop}
-use Rattle.timetable.specs.Words.{stationCount, stopAt}
+use Rattle.timetable.specs.Timetable.{Stop, lastMinute}
+use Rattle.timetable.specs.Words.{stationCount, stopAt, isTimetable}
 use Rattle.connections.specs.Rides.{mayBoard}
 use Rattle.timetable.specs.Access.{stations-few}
-use Rattle.store_departures.specs.Order.{order, catch}
+use Rattle.store_departures.specs.Order.{order, catchBy}
 use Rattle.store_departures.specs.Rising.{minuteAt, Rising, Early, InTime, departures-rise, departures-early}
-use Rattle.store_stops.specs.Stopwise.{station, points, changePoints, nowhere, Goes}
+use Rattle.store_stops.specs.Stopwise.{station, arrive, stay, Goes}
+use Rattle.store_stops.specs.OpenWays.{Open}
+use Rattle.store_frontier.specs.Bounding.{Bounding}
 use Rattle.store_frontier.specs.Passed.{
   Limits,
   Passed,
-  ontoBound,
-  leaveBound,
+  LeaveBound,
   passed-none,
   passed-front,
   passed-more,
@@ -31,32 +31,8 @@ use Rattle.store_frontier.specs.Zeros.{ZeroTo, zero-each, zero-replicate
 use Rattle.store_stops.specs.Prospects.{Bounded}
 use Rattle.store_frontier.specs.Routes.{Routes}
 
-module _ (w first q : List ℕ) (j f : ℕ) (is-f : f ≡ getD first j 0) where
-  pub caught-inside : f < 65535 → ((getD first j 0 < nowhere) → getD first j 0 < length q) → f < length q
-  caught-inside h g = rw is-f (g (rw is-f at h))
-
-  module _ (s : Stop) (is-s : s ≡ stopAt w j) where
-    pub station-some : 1 ≤ station w j → 1 ≤ s .station
-    station-some h = rw is-s h
-
-    pub station-few : station w j ≤ stationCount w → stationCount w ≤ 64 → s .station ≤ 64
-    station-few h g = rw is-s (omega arith)
-
-    pub onto-some : (r u t : ℕ) → f < 65535 → u ≡ getD q f 0 → t ≡ changePoints w (s .station)
-        → r ≡ u - t → r ≡ ontoBound w first q j
-    unfolding ontoBound
-    onto-some r u t h is-u is-t is-r =
-        is-r
-        ∙ ap (λ k. u - k) (is-t ∙ ap (λ (z : Stop). changePoints w (z .station)) is-s)
-        ∙ ap (λ k. k - changePoints w (station w j)) (is-u ∙ ap (λ k. getD q k 0) is-f)
-        ∙ sym (rw (lt-ltb (getD first j 0) nowhere (rw is-f at h)))
-
-  pub onto-none : 65535 ≤ f → 0 ≡ ontoBound w first q j
-  unfolding ontoBound
-  onto-none h = rw (le-ltb (getD first j 0) nowhere (rw is-f at h))
-
-pub leave-is : (w first e q leaving : List ℕ) (i a x y b c p r : ℕ) (s : Stop)
-    → a ≡ ontoBound w first q (i + 1)
+pub leave-is : (w e q leaving : List ℕ) (i a x y b c p r : ℕ) (s : Stop)
+    → Bounding w q (i + 1) (Open w (i + 1)) a
     → x ≡ getD e (i + 1) 0
     → y ≡ getD leaving (i + 1) 0
     → b ≡ max x y
@@ -64,10 +40,13 @@ pub leave-is : (w first e q leaving : List ℕ) (i a x y b c p r : ℕ) (s : Sto
     → s ≡ stopAt w i
     → p ≡ s .points
     → r ≡ c - p
-    → r ≡ leaveBound w first e q leaving i
-unfolding leaveBound
-leave-is w first e q leaving i a x y b c p r s is-a is-x is-y is-b is-c is-s is-p is-r =
-    rw (is-r, is-p, is-s, is-c, is-a, is-b, is-x, is-y, add-one i)
+    → LeaveBound w e q leaving i r
+leave-is w e q leaving i a x y b c p r s bounds is-x is-y is-b is-c is-s is-p is-r =
+    record {
+      onto = a;
+      changing = subst (λ k. Bounding w q k (Open w k) a) (add-one i) bounds;
+      is = rw (is-r, is-p, is-s, is-c, is-b, is-x, is-y, add-one i);
+    }
 
 pub noted : (high l l′ : List ℕ) (i c y b g h : ℕ) → g ≡ getD high c 0 → y ≡ b → h ≡ max g y → l′ ≡ set l i h
     → l′ ≡ set l i (max (getD high c 0) b)
@@ -85,6 +64,9 @@ module _ (s : Stop) (b : ℕ) (o : Bool) (is : o ≡ mayBoard s) where
 module _ (w departures first : List ℕ) (n : ℕ) (r : Routes w departures n first) where
   pub words-long : 16384 ≤ length w
   words-long = r .long
+
+  pub accepted : isTimetable w ≡ true
+  accepted = r .accepted
 
   pub stations-most : stationCount w ≤ 64
   stations-most = stations-few w (r .accepted)
@@ -135,12 +117,11 @@ module _
     pub first-long : length first ≡ 2048
     first-long = r .long-first
 
-    pub next-caught : (q : List ℕ) → length q ≡ 2048
-        → (getD first (i + 1) 0 < nowhere) → getD first (i + 1) 0 < length q
-    next-caught q long h =
-        let is = ap (λ k. getD first k 0) (add-one i) ∙ r .caught i goes in
-        let c = r .ordered .caught i goes (omega (arith, is)) in
-        omega (arith, is, r .timely .few (catch w (suc i)) (c .goes), r .timely .stops)
+    pub next-timely : arrive w (i + 1) ≤ lastMinute
+    next-timely = rw (add-one i) (r .timely .minute i goes)
+
+    pub next-caught : getD first (i + 1) 0 ≡ catchBy w (stay w (station w (i + 1))) (i + 1)
+    next-caught = rw (add-one i) (r .caught i goes)
 
     pub inside : (v : List ℕ) → length v ≡ 2048 → i < length v
     inside v long = omega (arith, stop-within)
@@ -151,15 +132,15 @@ module _
 
       module _ (e q leaving high : List ℕ) (d : ℕ)
           (known : Passed w e d (drop (p + 1) (order w)) q leaving high) where
-        pub pass-more : (q′ leaving′ high′ : List ℕ) (b : ℕ) → b ≡ leaveBound w first e q leaving i
+        pub pass-more : (q′ leaving′ high′ : List ℕ) (b : ℕ) → LeaveBound w e q leaving i b
             → d ≤ minuteAt w departures p → length q ≡ 2048 → length leaving ≡ 2048 → length high ≡ 65
             → q′ ≡ set q i (max (getD high (s .station) 0) (cond (mayBoard s) b 0)) → leaving′ ≡ set leaving i b
             → high′ ≡ set high (s .station) (max (getD high (s .station) 0) (cond (mayBoard s) b 0))
             → Passed w e d (drop p (order w)) q′ leaving′ high′
         pass-more q′ leaving′ high′ b is-b timely long-q long-leaving long-high e-q e-leaving e-high =
             rw (e-q, e-leaving, e-high, is-s, left)
-            (passed-more w e first d (r .timely) (r .ordered) (r .caught) (take p (order w)) (drop (p + 1) (order w)) q
-            leaving high i parts known (rw (← is-i) at timely) b (cond (mayBoard (stopAt w i)) b 0)
+            (passed-more w e d (r .timely) (r .ordered) (take p (order w)) (drop (p + 1) (order w)) q leaving high i
+            parts known (rw (← is-i) at timely) b (cond (mayBoard (stopAt w i)) b 0)
             (max (getD high (station w i) 0) (cond (mayBoard (stopAt w i)) b 0)) is-b refl refl long-q long-leaving
             long-high (stations-few w (r .accepted)))
 
@@ -186,10 +167,10 @@ module _ (w departures first : List ℕ) (n : ℕ) (r : Routes w departures n fi
         k)
 
     pub passes-all : Limits w e d leaving
-    passes-all = passed-all w e first d (r .timely) (r .ordered) (r .caught) q leaving high all
+    passes-all = passed-all w e d (r .timely) (r .ordered) q leaving high all
 
-    pub passes-bounded : Bounded w e d first q
-    passes-bounded = passed-bounded w e first d (r .timely) (r .ordered) (r .caught) q leaving high all
+    pub passes-bounded : Bounded w e d (catchBy w) q
+    passes-bounded = passed-bounded w e d (r .timely) (r .ordered) q leaving high all
 
 -- one place after the other, the last first
 module _ (w e : List ℕ) (d begin p : ℕ) where

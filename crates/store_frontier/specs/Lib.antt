@@ -1,6 +1,7 @@
 pub mod Parts
 pub mod Ways
 pub mod Zeros
+pub mod Bounding
 pub mod Passed
 pub mod Routes
 pub mod Arrivals

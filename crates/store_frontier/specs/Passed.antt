@@ -18,35 +18,29 @@ use mathlib.Core.List.{Memᴰ·append-right, Memᴰ·cast}
 use Prim.Native.Nat.{ℕ, suc, _+_, _-_, _≤_, _<_, max}
 use native.Mathlib.Omega.{arith}
 use native.Mathlib.Decide.{ℕ-discrete, decLt}
-use borrow.Author.Tests.{lt-ltb, le-ltb}
-use lib.Dec.{T, ltb}
+use lib.Dec.{T}
 use lib.ListN.{length, getD, set}
 use lib.Seq.{getD-set-same, getD-set-other}
 use Rattle.lists.specs.Lists.{_∈_, Distinct}
 use Rattle.lists.specs.Members.{none, cons-cases, append-cases}
 use Rattle.timetable.specs.Words.{stationCount, stopAt}
 use Rattle.connections.specs.Rides.{mayBoard}
-use Rattle.store_stops.specs.Stopwise.{station, depart, points, changePoints, nowhere, Goes, Boards}
-use Rattle.store_stops.specs.Prospects.{Onward, OntoWell, Bounded}
+use Rattle.connections.specs.Connections.{Change}
+use Rattle.store_stops.specs.Stopwise.{station, depart, points, nowhere, Goes, Boards}
+use Rattle.store_stops.specs.OpenWays.{Open}
+use Rattle.store_stops.specs.Prospects.{Onto, Onward, OntoWell, Bounded}
 use Rattle.store_stops.specs.Settled.{Timely}
-use Rattle.store_departures.specs.Order.{order, catch, Waits, waits-for, boards-at, InOrder}
+use Rattle.store_departures.specs.Order.{order, catchBy, Waits, waits-for, boards-at, InOrder}
+use Rattle.store_frontier.specs.Bounding.{Bounding}
 use Rattle.store_frontier.specs.Parts.{standing, first-same, rest-same, distinct-rest}
 use Rattle.store_frontier.specs.Ways.{Ways, onward-ways}
 
--- what one who arrives at stop j can have paid, less than that, to end well after a change there: first has for each
--- arrival the departure that is caught
-unfoldable pub ontoBound : (w first q : List ℕ) (j : ℕ) → ℕ
-ontoBound w first q j =
-    cond (ltb (getD first j 0) nowhere) (getD q (getD first j 0) 0 - changePoints w (station w j)) 0
-
--- the same for one who leaves stop i
-unfoldable pub leaveBound : (w first e q leaving : List ℕ) (i : ℕ) → ℕ
-leaveBound w first e q leaving i =
-    max (ontoBound w first q (suc i)) (max (getD e (suc i) 0) (getD leaving (suc i) 0)) - points w i
-
--- the array has for each arrival the first departure that a change reaches
-abbrev pub Caught : (w first : List ℕ) → Type 0
-Caught w first = (i : ℕ) → Goes w i → getD first (suc i) 0 ≡ catch w (suc i)
+-- what one who leaves stop i can have paid, less than that, to end well: the most that changing at the next stop,
+-- ending and staying aboard there allow, less the points of the ride
+pub record LeaveBound (w e q leaving : List ℕ) (i b : ℕ) : Type 0 where
+  pub onto : ℕ
+  pub changing : Bounding w q (suc i) (Open w (suc i)) onto
+  pub is : b ≡ max onto (max (getD e (suc i) 0) (getD leaving (suc i) 0)) - points w i
 
 module _ (w e : List ℕ) (d : ℕ) where
   -- one who leaves stop i from minute d on ends well if they have paid less than word i
@@ -133,45 +127,47 @@ passed-front w e d (i ∷ front) l q leaving high early p =
     (passed-front w e d front l q leaving high (λ k m. early k (there m)) p)
 
 -- ---- changes
-module _ (w e first : List ℕ) (d : ℕ) (t : Timely w) (o : InOrder w) (is-first : Caught w first) where
-  module _ (i : ℕ) (goes : Goes w i) (timely : d ≤ depart w i) where
-    reached : (g : ℕ) → Waits w (suc i) g → depart w i < depart w g
+module _ (w e : List ℕ) (d : ℕ) (t : Timely w) (o : InOrder w) where
+  module _ (i : ℕ) (goes : Goes w i) (timely : d ≤ depart w i) (way : Change) where
+    reached : (g : ℕ) → Waits w way (suc i) g → depart w i < depart w g
     reached g h = omega (arith, t .before i goes, h .timely)
 
-    module _ (q us ys : List ℕ) (some : catch w (suc i) < nowhere)
-        (parts : order w ≡ us ++ (catch w (suc i) ∷ ys))
-        (bound : (x : ℕ) → (x < getD q (catch w (suc i)) 0)
-        ↔ Later w e d (catch w (suc i) ∷ ys) (station w (catch w (suc i))) x) where
+    -- what is caught this way and what is known of it
+    module _ (opened : Open w (suc i) way) (q us ys : List ℕ) (some : catchBy w way (suc i) < nowhere)
+        (parts : order w ≡ us ++ (catchBy w way (suc i) ∷ ys))
+        (bound : (x : ℕ) → (x < getD q (catchBy w way (suc i)) 0)
+        ↔ Later w e d (catchBy w way (suc i) ∷ ys) (station w (catchBy w way (suc i))) x) where
       abbrev f : ℕ
-      f = catch w (suc i)
+      f = catchBy w way (suc i)
 
-      there-too : (g : ℕ) → g ∈ f ∷ ys → station w g ≡ station w f → Waits w (suc i) g
+      there-too : (g : ℕ) → g ∈ f ∷ ys → station w g ≡ station w f → Waits w way (suc i) g
       there-too g m h =
           cons-cases
           m
-          (λ z. subst (Waits w (suc i)) (sym z) (o .caught i goes some))
-          (λ j. o .caught-behind i g us ys goes parts j (h ∙ o .caught i goes some .here))
+          (λ z. subst (Waits w way (suc i)) (sym z) (o .caught way i goes some))
+          (λ j. o .caught-behind way i g us ys goes parts j (h ∙ o .caught way i goes some .there))
 
-      pub caught-well : (x : ℕ) → (x + changePoints w (station w (suc i)) < getD q f 0) ↔ OntoWell w e (suc i) x
+      pub caught-well : (x : ℕ) → (x + way .points < getD q f 0) ↔ OntoWell w e way (suc i) x
       caught-well x = (to, from)
         where
-          to : x + changePoints w (station w (suc i)) < getD q f 0 → OntoWell w e (suc i) x
+          to : x + way .points < getD q f 0 → OntoWell w e way (suc i) x
           to h =
-              let r = bound (x + changePoints w (station w (suc i))) .0 h in
+              let r = bound (x + way .points) .0 h in
               record {
                 g = r .g;
-                catches = boards-at w (there-too (r .g) (r .listed) (r .here)) (r .boards);
+                catches =
+                    boards-at w (opened .listed) (opened .from) (there-too (r .g) (r .listed) (r .here)) (r .boards);
                 leaves = r .onward;
               }
 
-          from : OntoWell w e (suc i) x → x + changePoints w (station w (suc i)) < getD q f 0
+          from : OntoWell w e way (suc i) x → x + way .points < getD q f 0
           from h =
-              bound (x + changePoints w (station w (suc i))) .1
+              bound (x + way .points) .1
               (record {
                 g = h .g;
-                listed = o .caught-first i (h .g) us ys goes parts (waits-for w (h .catches));
+                listed = o .caught-first way i (h .g) us ys goes parts (waits-for w (h .catches));
                 boards = h .catches .boards;
-                here = h .catches .here ∙ sym (o .caught i goes some .here);
+                here = h .catches .to ∙ sym (o .caught way i goes some .there);
                 timely = omega (arith, reached (h .g) (waits-for w (h .catches)));
                 onward = h .leaves;
               })
@@ -181,26 +177,26 @@ module _ (w e first : List ℕ) (d : ℕ) (t : Timely w) (o : InOrder w) (is-fir
     pub passed-all : Limits w e d leaving
     passed-all i x g h = p .well i x (o .all i g) h
 
-    passed-there : (i x : ℕ) → Goes w i → d ≤ depart w i → catch w (suc i) < nowhere
-        → (x + changePoints w (station w (suc i)) < getD q (catch w (suc i)) 0) ↔ OntoWell w e (suc i) x
-    passed-there i x g h some =
-        let c = o .caught i g some in
-        let s = standing (o .all (catch w (suc i)) (c .goes)) in
-        caught-well i g h q (s .front) (s .back) some (s .whole)
-        (λ y.
-        p .behind (catch w (suc i)) y (s .front) (s .back) (s .whole)
-        (omega (arith, reached i g h (catch w (suc i)) c)))
+    passed-there : (way : Change) (i x : ℕ) → Open w (suc i) way → Goes w i → d ≤ depart w i
+        → catchBy w way (suc i) < nowhere
+        → (x + way .points < getD q (catchBy w way (suc i)) 0) ↔ OntoWell w e way (suc i) x
+    passed-there way i x opened g h some =
+        let f = catchBy w way (suc i) in
+        let c = o .caught way i g some in
+        let s = standing (o .all f (c .goes)) in
+        caught-well i g h way opened q (s .front) (s .back) some (s .whole)
+        (λ y. p .behind f y (s .front) (s .back) (s .whole) (omega (arith, reached i g h way f c)))
         x
 
-    pub passed-bounded : Bounded w e d first q
+    pub passed-bounded : Bounded w e d (catchBy w) q
     passed-bounded =
         record {
           there =
-              (λ i x g h some.
-              rw (is-first i g) (passed-there i x g h (rw (is-first i g) at some)));
+              (λ way i x listed from g h some.
+              passed-there way i x (record { listed = listed; from = from }) g h some);
           none =
-              (λ i x g h some o′.
-              o .caught-none i (o′ .g) g (rw (is-first i g) at some) (waits-for w (o′ .catches)));
+              (λ way i x listed from g h some o′.
+              o .caught-none way i (o′ .g) g some (waits-for w (o′ .catches)));
         }
 
   -- ---- one departure more
@@ -229,59 +225,68 @@ module _ (w e first : List ℕ) (d : ℕ) (t : Timely w) (o : InOrder w) (is-fir
             let late : depart w i < depart w (suc i) = omega (arith, t .before i goes, t .waits i goes g) in
             p .well (suc i) x (passed (suc i) g late) (omega arith)
 
-    changes-some : catch w (suc i) < nowhere
-        → (x : ℕ) → (x + changePoints w (station w (suc i)) < getD q (catch w (suc i)) 0) ↔ OntoWell w e (suc i) x
-    changes-some some x =
-        let f = catch w (suc i) in
-        let c = o .caught i goes some in
-        let late = reached i goes timely f c in
+    changes-some : (way : Change) → Open w (suc i) way → catchBy w way (suc i) < nowhere
+        → (x : ℕ) → (x + way .points < getD q (catchBy w way (suc i)) 0) ↔ OntoWell w e way (suc i) x
+    changes-some way opened some x =
+        let f = catchBy w way (suc i) in
+        let c = o .caught way i goes some in
+        let late = reached i goes timely way f c in
         let s = standing (passed f (c .goes) late) in
         let whole : order w ≡ (pre ++ (i ∷ s .front)) ++ (f ∷ s .back) =
         parts ∙ ap (λ m. pre ++ (i ∷ m)) (s .whole) ∙ sym (append-assoc pre (i ∷ s .front) (f ∷ s .back)) in
-        caught-well i goes timely q (pre ++ (i ∷ s .front)) (s .back) some whole
+        caught-well i goes timely way opened q (pre ++ (i ∷ s .front)) (s .back) some whole
         (λ y. p .behind f y (s .front) (s .back) (s .whole) (omega arith))
         x
 
-    changes : (x : ℕ) → (x < ontoBound w first q (suc i)) ↔ OntoWell w e (suc i) x
-    unfolding ontoBound
-    changes x =
-        rw (is-first i goes)
-        (elim (decLt (catch w (suc i)) nowhere) [
-          | yes some ↦
-              rw (lt-ltb (catch w (suc i)) nowhere some)
-              (let c = changes-some some x in (λ h. c .0 (omega arith), λ h. omega (arith, c .1 h)))
-          | no none ↦
-              rw (le-ltb (catch w (suc i)) nowhere (omega arith)) (
-                λ h. absurd (omega arith),
-                λ h. absurd (o .caught-none i (h .g) goes (omega arith) (waits-for w (h .catches))),
-              )
-        ])
+    module _ (b : ℕ) (is-b : LeaveBound w e q leaving i b) where
+      changes : (x : ℕ) → (x < is-b .onto) ↔ Onto w e (Onward w e) (suc i) x
+      changes x = (to, from)
+        where
+          to : x < is-b .onto → Onto w e (Onward w e) (suc i) x
+          to h =
+              let c = is-b .changing .exactly x .0 h in
+              record { way = c .way; onto = changes-some (c .way) (c .opened) (c .some) x .0 (c .below) }
 
-    leaves : (x : ℕ) → (x < leaveBound w first e q leaving i) ↔ Onward w e i x
-    unfolding leaveBound
-    leaves x = (λ h. ways .1 (to (omega arith)), λ h. from (ways .0 h))
-      where
-        ways : Onward w e i x ↔ Ways w e i x
-        ways = onward-ways w e i x
+          from : Onto w e (Onward w e) (suc i) x → x < is-b .onto
+          from h =
+              let c = h .onto .catches in
+              let opened : Open w (suc i) (h .way) = record { listed = c .listed; from = c .from } in
+              elim (decLt (catchBy w (h .way) (suc i)) nowhere) [
+                | yes some ↦
+                    is-b .changing .exactly x .1
+                    (record {
+                      way = h .way;
+                      opened = opened;
+                      some = some;
+                      below = changes-some (h .way) opened some x .1 (h .onto);
+                    })
+                | no none ↦
+                    absurd (o .caught-none (h .way) i (h .onto .g) goes (omega arith) (waits-for w c))
+              ]
 
-        to : x + points w i < max (ontoBound w first q (suc i)) (max (getD e (suc i) 0) (getD leaving (suc i) 0))
-            → Ways w e i x
-        to h =
-            elim (decLt (x + points w i) (getD e (suc i) 0)) [
-              | yes a ↦ inl a
-              | no a ↦
-                  elim (decLt (x + points w i) (getD leaving (suc i) 0)) [
-                    | yes b ↦ inr (inl (stays (x + points w i) .0 b))
-                    | no b ↦ inr (inr (changes (x + points w i) .0 (omega arith)))
-                  ]
-            ]
+      leaves : (x : ℕ) → (x < b) ↔ Onward w e i x
+      leaves x = (λ h. ways .1 (to (omega (arith, is-b .is))), λ h. from (ways .0 h))
+        where
+          ways : Onward w e i x ↔ Ways w e i x
+          ways = onward-ways w e i x
 
-        from : Ways w e i x → x < leaveBound w first e q leaving i
-        from (inl h) = omega arith
-        from (inr (inl h)) = omega (arith, stays (x + points w i) .1 h)
-        from (inr (inr h)) = omega (arith, changes (x + points w i) .1 h)
+          to : x + points w i < max (is-b .onto) (max (getD e (suc i) 0) (getD leaving (suc i) 0)) → Ways w e i x
+          to h =
+              elim (decLt (x + points w i) (getD e (suc i) 0)) [
+                | yes a ↦ inl a
+                | no a ↦
+                    elim (decLt (x + points w i) (getD leaving (suc i) 0)) [
+                      | yes b ↦ inr (inl (stays (x + points w i) .0 b))
+                      | no b ↦ inr (inr (changes (x + points w i) .0 (omega arith)))
+                    ]
+              ]
 
-    module _ (b y h : ℕ) (is-b : b ≡ leaveBound w first e q leaving i)
+          from : Ways w e i x → x < b
+          from (inl h) = omega (arith, is-b .is)
+          from (inr (inl h)) = omega (arith, is-b .is, stays (x + points w i) .1 h)
+          from (inr (inr h)) = omega (arith, is-b .is, changes (x + points w i) .1 h)
+
+    module _ (b y h : ℕ) (is-b : LeaveBound w e q leaving i b)
         (is-y : y ≡ cond (mayBoard (stopAt w i)) b 0)
         (is-h : h ≡ max (getD high (station w i) 0) y)
         (long-q : length q ≡ 2048) (long-leaving : length leaving ≡ 2048) (long-high : length high ≡ 65)
@@ -296,7 +301,7 @@ module _ (w e first : List ℕ) (d : ℕ) (t : Timely w) (o : InOrder w) (is-fir
       other k m z = once (Memᴰ·cast (sym z) m)
 
       known : (x : ℕ) → (x < b) ↔ Onward w e i x
-      known x = rw is-b (leaves x)
+      known = leaves b is-b
 
       now-well : (k x : ℕ) → k ∈ i ∷ l → d ≤ depart w k → (x < getD (set leaving i b) k 0) ↔ Onward w e k x
       now-well k x m g =

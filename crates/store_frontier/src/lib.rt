@@ -3,17 +3,21 @@ ghost use mathlib.Core.Path.{_≡_};
 ghost use mathlib.Core.Bool.{true, cond};
 ghost use Prim.Native.Nat.{_+_, _≤_, _<_, max};
 ghost use lib.ListN.{length, getD, set, drop};
-ghost use Rattle.timetable.specs.Words.{stationCount, isTimetable};
+ghost use Rattle.timetable.specs.Timetable.{lastMinute};
+ghost use Rattle.timetable.specs.Words.{stationCount, stopAt, walkCount, walksTo, isTimetable};
 ghost use Rattle.connections.specs.Rides.{mayBoard};
-ghost use Rattle.store_stops.specs.Stopwise.{station, arrive, nowhere};
+ghost use Rattle.store_stops.specs.Stopwise.{station, arrive, stay, nowhere};
+ghost use Rattle.store_stops.specs.OpenWays.{Open, ByWalk, WalkTo};
 ghost use Rattle.store_stops.specs.Prospects.{Allows, Bounded};
 ghost use Rattle.store_stops.specs.Settled.{Timely};
-ghost use Rattle.store_departures.specs.Order.{order as departures};
+ghost use Rattle.store_departures.specs.Order.{order as departures, catchBy};
+ghost use Rattle.store_departures.specs.Held.{Departures};
 ghost use Rattle.store_departures.specs.Rising.{minuteAt, InTime};
 ghost use Rattle.store_frontier.specs.Arrivals.{Arrivals, Held, Run};
 ghost use Rattle.store_frontier.specs.Front.{Least, MinuteEnd, markOf, Marked, LeftOut, Fronted};
 ghost use Rattle.store_frontier.specs.Allowing.{topOf, AllowsAhead, ClosedAt, Closed};
-ghost use Rattle.store_frontier.specs.Passed.{Limits, Passed, ontoBound, leaveBound};
+ghost use Rattle.store_frontier.specs.Bounding.{caughtBound, Bounding};
+ghost use Rattle.store_frontier.specs.Passed.{Limits, Passed, LeaveBound};
 ghost use Rattle.store_frontier.specs.Zeros.{ZeroTo};
 ghost use Rattle.store_frontier.specs.Routes.{Routes};
 use results::Points;
@@ -260,59 +264,118 @@ pub fn allow(words: &[u16], arrivals: &[u16], first: &[u32], source: usize, v: &
 
 // ---- who can still end well
 
-// One who arrives at stop j ends well after a change if they have paid less than this.
-fn onto_bound(words: &[u16], catch: &[u16], q: &[u32], j: usize) -> Points
-    requires { ⌜ (16384 ≤ length (now words))
-        × (stationCount (now words) ≤ 64)
-        × (j < 2048)
-        × (1 ≤ station (now words) j)
-        × (station (now words) j ≤ stationCount (now words))
-        × (length (now catch) ≡ 2048)
-        × ((getD (now catch) j 0 < nowhere) → getD (now catch) j 0 < length (now q)) ⌝ }
-    ensures { λ r. ⌜ r .0 ≡ ontoBound (now (words .entry)) (now (catch .entry)) (now (q .entry)) j ⌝ }
+// One who changes for so many points to departure f ends well if they have paid less than this.
+fn caught_bound(q: &[u32], f: usize, cost: Points) -> Points
+    requires { ⌜ ((f < nowhere) → f < length (now q)) ⌝ }
+    ensures { λ r. ⌜ r .0 ≡ caughtBound (now (q .entry)) f (cost .0) ⌝ }
 {
-    let f = words::word(catch, j) as usize;
     if f < NOWHERE {
-        let c = timetable::stop_at(words, j).station as usize;
-        return query_minutes::left_of(
-            query_minutes::points_at(q, f),
-            store_points::of_change(words, c),
-        );
+        return query_minutes::left_of(query_minutes::points_at(q, f), cost);
     }
     Points(0)
 }
 
-// One who leaves stop i ends well if they have paid less than this.
+// One who arrives at stop j ends well after a change by walk k if they have paid less than this.
+fn walk_bound(words: &[u16], chain: &[u16], first: &[u32], q: &[u32], k: usize, j: usize) -> Points
+    requires { ⌜ (16384 ≤ length (now words))
+        × (isTimetable (now words) ≡ true)
+        × Departures (now words) (now chain) (now first)
+        × (length (now q) ≡ 2048)
+        × (k < walkCount (now words))
+        × (j < 2048)
+        × (arrive (now words) j ≤ lastMinute) ⌝ }
+    ensures { λ r. ⌜ Bounding (now (words .entry)) (now (q .entry)) j (ByWalk (now (words .entry)) k) (r .0) ⌝ }
+{
+    let walk = timetable::walk_at(words, k);
+    let f = store_departures::catch_on_foot(words, chain, first, walk, j) as usize;
+    caught_bound(q, f, store_points::of_walk(walk))
+}
+
+// The same by any walk from station c.
+fn walks_bound(words: &[u16], chain: &[u16], first: &[u32], q: &[u32], c: usize, j: usize) -> Points
+    requires { ⌜ (16384 ≤ length (now words))
+        × (isTimetable (now words) ≡ true)
+        × Departures (now words) (now chain) (now first)
+        × (length (now q) ≡ 2048)
+        × (1 ≤ c)
+        × (c ≤ stationCount (now words))
+        × (j < 2048)
+        × (arrive (now words) j ≤ lastMinute) ⌝ }
+    ensures { λ r. ⌜ Bounding (now (words .entry)) (now (q .entry)) j
+        (WalkTo (now (words .entry)) c (walksTo (now (words .entry)) c)) (r .0) ⌝ }
+{
+    let end = timetable::walks_to(words, c);
+    let mut k = timetable::walks_to(words, c - 1);
+    let mut high = Points(0);
+    while k < end {
+        high = query_minutes::larger(high, walk_bound(words, chain, first, q, k, j));
+        k += 1;
+    }
+    high
+}
+
+// The same by any way of changing that is open there.
+fn onto_bound(
+    words: &[u16],
+    chain: &[u16],
+    first: &[u32],
+    catch: &[u16],
+    q: &[u32],
+    j: usize,
+) -> Points
+    requires { ⌜ (16384 ≤ length (now words))
+        × (isTimetable (now words) ≡ true)
+        × Departures (now words) (now chain) (now first)
+        × (j < 2048)
+        × (1 ≤ station (now words) j)
+        × (station (now words) j ≤ stationCount (now words))
+        × (arrive (now words) j ≤ lastMinute)
+        × (length (now catch) ≡ 2048)
+        × (getD (now catch) j 0 ≡ catchBy (now words) (stay (now words) (station (now words) j)) j)
+        × (length (now q) ≡ 2048) ⌝ }
+    ensures { λ r. ⌜ Bounding (now (words .entry)) (now (q .entry)) j (Open (now (words .entry)) j) (r .0) ⌝ }
+{
+    let c = timetable::stop_at(words, j).station as usize;
+    let f = words::word(catch, j) as usize;
+    let here = caught_bound(q, f, store_points::of_change(words, c));
+    query_minutes::larger(here, walks_bound(words, chain, first, q, c, j))
+}
+
+// One who leaves stop i, which is s, ends well if they have paid less than this.
 fn leave_bound(
     words: &[u16],
+    chain: &[u16],
+    first: &[u32],
     catch: &[u16],
     e: &[u32],
     q: &[u32],
     leaving: &[u32],
     i: usize,
+    s: Stop,
 ) -> Points
     requires { ⌜ (16384 ≤ length (now words))
-        × (stationCount (now words) ≤ 64)
+        × (isTimetable (now words) ≡ true)
+        × Departures (now words) (now chain) (now first)
         × (i + 1 < 2048)
         × (1 ≤ station (now words) (i + 1))
         × (station (now words) (i + 1) ≤ stationCount (now words))
+        × (arrive (now words) (i + 1) ≤ lastMinute)
         × (length (now catch) ≡ 2048)
+        × (getD (now catch) (i + 1) 0
+        ≡ catchBy (now words) (stay (now words) (station (now words) (i + 1))) (i + 1))
         × (length (now e) ≡ 2048)
+        × (length (now q) ≡ 2048)
         × (length (now leaving) ≡ 2048)
-        × ((getD (now catch) (i + 1) 0 < nowhere) → getD (now catch) (i + 1) 0 < length (now q)) ⌝ }
-    ensures { λ r. ⌜ r .0
-        ≡ leaveBound (now (words .entry)) (now (catch .entry)) (now (e .entry)) (now (q .entry))
-        (now (leaving .entry)) i ⌝ }
+        × (s ≡ stopAt (now words) i) ⌝ }
+    ensures { λ r. ⌜ LeaveBound (now (words .entry)) (now (e .entry)) (now (q .entry)) (now (leaving .entry)) i
+        (r .0) ⌝ }
 {
-    let onto = onto_bound(words, catch, q, i + 1);
+    let onto = onto_bound(words, chain, first, catch, q, i + 1);
     let here = query_minutes::larger(
         query_minutes::points_at(e, i + 1),
         query_minutes::points_at(leaving, i + 1),
     );
-    query_minutes::left_of(
-        query_minutes::larger(onto, here),
-        store_points::of_ride(timetable::stop_at(words, i)),
-    )
+    query_minutes::left_of(query_minutes::larger(onto, here), store_points::of_ride(s))
 }
 
 // One who boards at a stop ends well if they have paid less than one who leaves it; no one boards where it is closed.
@@ -353,6 +416,8 @@ fn pass(
     order: &[u16],
     n: usize,
     p: usize,
+    chain: &[u16],
+    first: &[u32],
     catch: &[u16],
     d: usize,
     e: &[u32],
@@ -361,6 +426,7 @@ fn pass(
     high: &mut [u32],
 )
     requires { ⌜ Routes (now words) (now order) n (now catch)
+        × Departures (now words) (now chain) (now first)
         × (p < n)
         × (d ≤ minuteAt (now words) (now order) p)
         × (length (now e) ≡ 2048)
@@ -376,7 +442,7 @@ fn pass(
 {
     let i = words::word(order, p) as usize;
     let stop = timetable::stop_at(words, i);
-    let bound = leave_bound(words, catch, e, q, leaving, i);
+    let bound = leave_bound(words, chain, first, catch, e, q, leaving, i, stop);
     note(i, stop, bound, q, leaving, high);
 }
 
@@ -386,6 +452,8 @@ fn pass_all(
     order: &[u16],
     n: usize,
     begin: usize,
+    chain: &[u16],
+    first: &[u32],
     catch: &[u16],
     d: usize,
     e: &[u32],
@@ -394,6 +462,7 @@ fn pass_all(
     high: &mut [u32],
 )
     requires { ⌜ Routes (now words) (now order) n (now catch)
+        × Departures (now words) (now chain) (now first)
         × (begin ≤ n)
         × InTime (now words) (now order) d begin n
         × (length (now e) ≡ 2048)
@@ -410,7 +479,20 @@ fn pass_all(
     let mut p = n;
     while begin < p {
         p -= 1;
-        pass(words, order, n, p, catch, d, e, q, leaving, high);
+        pass(
+            words,
+            order,
+            n,
+            p,
+            chain,
+            first,
+            catch,
+            d,
+            e,
+            q,
+            leaving,
+            high,
+        );
     }
 }
 
@@ -433,6 +515,8 @@ pub fn prospects(
     words: &[u16],
     order: &[u16],
     n: usize,
+    chain: &[u16],
+    first: &[u32],
     catch: &[u16],
     d: usize,
     e: &[u32],
@@ -440,16 +524,30 @@ pub fn prospects(
     leaving: &mut [u32],
 )
     requires { ⌜ Routes (now words) (now order) n (now catch)
+        × Departures (now words) (now chain) (now first)
         × (length (now e) ≡ 2048)
         × (length (now q) ≡ 2048)
         × (length (now leaving) ≡ 2048) ⌝ }
     ensures { λ _. ⌜ Limits (now (words .entry)) (now (e .entry)) d (now (leaving .exit)) ⌝ }
-    ensures { λ _. ⌜ Bounded (now (words .entry)) (now (e .entry)) d (now (catch .entry)) (now (q .exit)) ⌝ }
+    ensures { λ _. ⌜ Bounded (now (words .entry)) (now (e .entry)) d (catchBy (now (words .entry))) (now (q .exit)) ⌝ }
     ensures { λ _. ⌜ (length (now (q .exit)) ≡ 2048) × (length (now (leaving .exit)) ≡ 2048) ⌝ }
 {
     clear(leaving);
     let mut high = [0u32; 65];
     // The departures before minute d stand in front, and are left out.
     let begin = store_departures::first_from(words, order, 0, n, d);
-    pass_all(words, order, n, begin, catch, d, e, q, leaving, &mut high);
+    pass_all(
+        words,
+        order,
+        n,
+        begin,
+        chain,
+        first,
+        catch,
+        d,
+        e,
+        q,
+        leaving,
+        &mut high,
+    );
 }

@@ -7,13 +7,16 @@ ghost use mathlib.Core.Bool.{true};
 ghost use Prim.Native.Nat.{_≤_};
 ghost use lib.ListN.{length};
 ghost use Rattle.timetable.specs.Words.{stationCount, isTimetable};
-ghost use Rattle.store_marks.specs.Held.{Departures};
+ghost use Rattle.store_departures.specs.Held.{Departures};
 ghost use Rattle.store_frontier.specs.Routes.{Routes};
 ghost use Rattle.store_frontier.specs.Arrivals.{Arrivals};
 ghost use Rattle.stores.specs.Stored.{sequences};
 ghost use Rattle.store_growth.specs.Chunks.{Whole};
 use store_tree::Counts;
 use tree::STOPS_MOST;
+
+// There are at most so many slots.
+const SLOTS: usize = 320;
 
 // Stations count from 1, 64 at most, and the departures of each end where those of the next one begin.
 const BEGINS: usize = 66;
@@ -55,7 +58,53 @@ fn list_arrivals(words: &[u16], work: &mut [u32], arrivals: &mut [u16], begins: 
     store_departures::chain_arrivals(words, work, arrivals, begins);
 }
 
-// Plants and grows the tree, the departures having been listed. Returns the numbers of nodes and arcs, if they fit.
+// Plants and grows the tree, departures and arrivals having been listed. Returns the numbers of nodes and arcs, if they
+// fit.
+fn plant_tree(
+    words: &[u16],
+    order: &[u16],
+    count: usize,
+    chain: &[u16],
+    first: &[u32],
+    arrivals: &[u16],
+    begins: &[u32],
+    catch: &[u16],
+    source: usize,
+    work: &mut [u32],
+    targets: &mut [u8],
+) -> Counts
+    requires { ⌜ Routes (now words) (now order) count (now catch)
+        × Arrivals (now words) (now arrivals) (now begins)
+        × Departures (now words) (now chain) (now first)
+        × (1 ≤ source)
+        × (source ≤ stationCount (now words))
+        × (source ≤ 64)
+        × (length (now work) ≡ 16384)
+        × (length (now targets) ≡ 16384) ⌝ }
+    ensures { λ r. ⌜ Whole (now (words .entry)) (sequences (now (words .entry)) source) source (now (work .exit))
+        (now (targets .exit)) r ⌝ }
+{
+    let mut slots = [0u16; SLOTS];
+    let many = store_slots::list_slots(words, &mut slots);
+    store_tree::plant_root(work, source as u32);
+    tree::grow(
+        words,
+        order,
+        count,
+        chain,
+        first,
+        arrivals,
+        begins,
+        catch,
+        &slots[0..many],
+        source,
+        work,
+        targets,
+    )
+}
+
+// Lists the arrivals and grows the tree, the departures having been listed. Returns the numbers of nodes and arcs, if
+// they fit.
 fn grow_tree(
     words: &[u16],
     order: &[u16],
@@ -74,13 +123,13 @@ fn grow_tree(
         × (source ≤ 64)
         × (length (now work) ≡ 16384)
         × (length (now targets) ≡ 16384) ⌝ }
-    ensures { λ r. ⌜ Whole (sequences (now (words .entry)) source) source (now (work .exit)) (now (targets .exit)) r ⌝ }
+    ensures { λ r. ⌜ Whole (now (words .entry)) (sequences (now (words .entry)) source) source (now (work .exit))
+        (now (targets .exit)) r ⌝ }
 {
     let mut arrivals = [0u16; STOPS_MOST];
     let mut begins = [0u32; BEGINS];
     list_arrivals(words, work, &mut arrivals, &mut begins);
-    store_tree::plant_root(work, source as u32);
-    tree::grow(
+    plant_tree(
         words,
         order,
         count,
@@ -104,7 +153,8 @@ pub fn make_tree(words: &[u16], source: usize, work: &mut [u32], targets: &mut [
         × (source ≤ 64)
         × (length (now work) ≡ 16384)
         × (length (now targets) ≡ 16384) ⌝ }
-    ensures { λ r. ⌜ Whole (sequences (now (words .entry)) source) source (now (work .exit)) (now (targets .exit)) r ⌝ }
+    ensures { λ r. ⌜ Whole (now (words .entry)) (sequences (now (words .entry)) source) source (now (work .exit))
+        (now (targets .exit)) r ⌝ }
 {
     let mut order = [0u16; STOPS_MOST];
     let mut chain = [0u16; STOPS_MOST];

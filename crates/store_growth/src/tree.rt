@@ -1,23 +1,27 @@
 // The tree of the sequences, grown from its root: the nodes of a chunk are marked over all minutes, and then each takes
-// the arcs and kids that its marks tell.
+// the arcs and kids that its marks tell. The list is that of all slots.
+ghost use mathlib.Core.Path.{_≡_};
 ghost use Prim.Native.Nat.{_+_, _≤_, _<_};
 ghost use Rattle.timetable.specs.Words.{stationCount};
-ghost use Rattle.store_marks.specs.Held.{Departures};
+ghost use Rattle.store_departures.specs.Held.{Departures};
 ghost use Rattle.store_frontier.specs.Routes.{Routes};
 ghost use Rattle.store_frontier.specs.Arrivals.{Arrivals};
 ghost use Rattle.store_growth.specs.Chunks.{SomeChunk, AllReached, Reached, Whole};
 ghost use Rattle.store_tree.specs.Tree.{Grown};
 ghost use Rattle.stores.specs.Stored.{sequences};
+ghost use Rattle.store_slots.specs.Slots.{slots};
 use store_tree::Counts;
 
 // A timetable has at most so many stops.
 pub const STOPS_MOST: usize = timetable::STOPS_MOST as usize;
 
 // The arcs and kids of so many nodes are found in one go.
-const CHUNK: usize = 48;
+const CHUNK: usize = 96;
 
-// The flags of a chunk.
-const FLAGS: usize = 3072;
+// The flags of the arcs of a chunk, one for each station, and of its kids, one for each slot.
+const ARC_FLAGS: usize = 6144;
+
+const KID_FLAGS: usize = 30720;
 
 // Takes the nodes from lo up to hi by their flags. Returns the numbers of nodes and arcs then, if they fit.
 fn take_chunk(
@@ -29,16 +33,18 @@ fn take_chunk(
     ends: usize,
     arcs: &[u8],
     kids: &[u8],
+    list: &[u16],
 ) -> Counts
-    requires { ⌜ SomeChunk (now work) (now targets) nodes ends lo hi (now arcs) (now kids) ⌝ }
-    ensures { λ r. ⌜ AllReached (now (work .entry)) (now (targets .entry)) nodes ends lo hi (now (arcs .entry))
-        (now (kids .entry)) (now (work .exit)) (now (targets .exit)) r ⌝ }
+    requires { ⌜ SomeChunk (now list) (now work) (now targets) nodes ends lo hi (now arcs) (now kids) ⌝ }
+    ensures { λ r. ⌜ AllReached (now (list .entry)) (now (work .entry)) (now (targets .entry)) nodes ends lo hi
+        (now (arcs .entry)) (now (kids .entry)) (now (work .exit)) (now (targets .exit)) r ⌝ }
 {
     let mut n = nodes;
     let mut m = ends;
     let mut v = lo;
     while v < hi {
         let o = 64 * (v - lo);
+        let k = 320 * (v - lo);
         let taken = store_tree::take_node(
             work,
             targets,
@@ -46,7 +52,8 @@ fn take_chunk(
             n,
             m,
             &arcs[o..o + 64],
-            &kids[o..o + 64],
+            &kids[k..k + 320],
+            list,
         );
         if !taken.fits {
             return taken;
@@ -69,6 +76,7 @@ fn grow_chunk(
     arrivals: &[u16],
     begins: &[u32],
     catch: &[u16],
+    list: &[u16],
     source: usize,
     work: &mut [u32],
     targets: &mut [u8],
@@ -82,18 +90,19 @@ fn grow_chunk(
         × Departures (now words) (now chain) (now first)
         × (1 ≤ source)
         × (source ≤ stationCount (now words))
-        × Grown (sequences (now words) source) source (now work) (now targets) nodes ends lo
+        × Grown (now words) (sequences (now words) source) source (now work) (now targets) nodes ends lo
         × (lo ≤ hi)
         × (hi ≤ nodes + 1)
-        × (hi ≤ lo + 48) ⌝ }
-    ensures { λ r. ⌜ Reached (sequences (now (words .entry)) source) source (now (work .exit)) (now (targets .exit)) hi
-        r ⌝ }
+        × (hi ≤ lo + 96)
+        × (now list ≡ slots (now words)) ⌝ }
+    ensures { λ r. ⌜ Reached (now (words .entry)) (sequences (now (words .entry)) source) source (now (work .exit))
+        (now (targets .exit)) hi r ⌝ }
 {
     let mut v = [0u32; STOPS_MOST];
     let mut q = [0u32; STOPS_MOST];
     let mut x = [0u32; STOPS_MOST];
-    let mut arcs = [0u8; FLAGS];
-    let mut kids = [0u8; FLAGS];
+    let mut arcs = [0u8; ARC_FLAGS];
+    let mut kids = [0u8; KID_FLAGS];
     store_minutes::mark_chunk(
         words,
         order,
@@ -113,13 +122,13 @@ fn grow_chunk(
         &mut arcs,
         &mut kids,
     );
-    take_chunk(work, targets, lo, hi, nodes, ends, &arcs, &kids)
+    take_chunk(work, targets, lo, hi, nodes, ends, &arcs, &kids, list)
 }
 
 // Where the chunk ends that begins with node lo, the last node being n.
 fn chunk_end(lo: usize, n: usize) -> usize
     requires { ⌜ (lo ≤ n) × (n ≤ 16383) ⌝ }
-    ensures { λ r. ⌜ (lo < r) × (r ≤ n + 1) × (r ≤ lo + 48) ⌝ }
+    ensures { λ r. ⌜ (lo < r) × (r ≤ n + 1) × (r ≤ lo + 96) ⌝ }
 {
     if lo + CHUNK < n + 1 {
         return lo + CHUNK;
@@ -137,6 +146,7 @@ pub fn grow(
     arrivals: &[u16],
     begins: &[u32],
     catch: &[u16],
+    list: &[u16],
     source: usize,
     work: &mut [u32],
     targets: &mut [u8],
@@ -146,8 +156,10 @@ pub fn grow(
         × Departures (now words) (now chain) (now first)
         × (1 ≤ source)
         × (source ≤ stationCount (now words))
-        × Grown (sequences (now words) source) source (now work) (now targets) 0 0 0 ⌝ }
-    ensures { λ r. ⌜ Whole (sequences (now (words .entry)) source) source (now (work .exit)) (now (targets .exit)) r ⌝ }
+        × Grown (now words) (sequences (now words) source) source (now work) (now targets) 0 0 0
+        × (now list ≡ slots (now words)) ⌝ }
+    ensures { λ r. ⌜ Whole (now (words .entry)) (sequences (now (words .entry)) source) source (now (work .exit))
+        (now (targets .exit)) r ⌝ }
 {
     let mut n = 0;
     let mut m = 0;
@@ -163,6 +175,7 @@ pub fn grow(
             arrivals,
             begins,
             catch,
+            list,
             source,
             work,
             targets,

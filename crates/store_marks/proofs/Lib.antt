@@ -1,4 +1,5 @@
 pub mod WordLaws
 pub mod PartLaws
 pub mod RideLaws
+pub mod ArrivalLaws
 pub mod WholeLaws

@@ -14,18 +14,10 @@ use Rattle.store_stops.specs.Stopwise.{unreached, Goes}
 use Rattle.store_stops.specs.Paid.{Labelled}
 use Rattle.store_departures.specs.Order.{waiting}
 use Rattle.store_departures.specs.Parts.{waiting-out}
+use Rattle.store_departures.specs.Held.{Departures, goes-few, part-ordered, part-most, part-is, part-in}
 use Rattle.store_marks.specs.Arrays.{fill, fall}
-use Rattle.store_marks.specs.Walks.{rootLabel}
-use Rattle.store_marks.specs.Held.{
-  Departures,
-  Changes,
-  Inside,
-  goes-few,
-  part-ordered,
-  part-most,
-  part-is,
-  part-in,
-}
+use Rattle.store_marks.specs.Riding.{rootLabel}
+use Rattle.store_marks.specs.Held.{Inside}
 use Rattle.store_marks.specs.Stepping.{root-labelled}
 
 -- ---- the places of a station's departures
@@ -81,9 +73,6 @@ module _
 
       pub all-inside : (x : List ℕ) → length x ≡ 2048 → Inside chain begin end x
       all-inside x long k h g = stop-inside k h g (getD chain k 0) refl x long
-
-pub caught-room : (w caught : List ℕ) → Changes w caught → length caught ≡ 2048
-caught-room w caught changes = changes .caught-long
 
 -- ---- one of a part
 pub inside-word : (l : List ℕ) (begin end : ℕ) (x₀ x : List ℕ) → Inside l begin end x₀ → (k : ℕ) → begin ≤ k → k < end

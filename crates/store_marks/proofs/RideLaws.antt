@@ -6,33 +6,18 @@ use Prim.Native.Nat.{ℕ, suc, _+_, _-_, _*_, _^_, _≤_, _<_}
 use native.Mathlib.Numerals.{add-one}
 use native.Mathlib.Omega.{arith}
 use borrow.Author.Tests.{lt-ltb, le-ltb, eq-eqb, ne-eqb}
-use lib.Dec.{ltb, eqb, ltb→lt}
+use lib.Dec.{ltb, ltb→lt}
 use lib.ListN.{getD}
 use Rattle.lists.specs.Tests.{T-left, and-false}
 use Rattle.timetable.specs.Timetable.{Stop}
-use Rattle.timetable.specs.Words.{stationCount, stopAt, isTimetable}
-use Rattle.timetable.specs.Access.{stations-few}
+use Rattle.timetable.specs.Words.{stopAt, isTimetable}
 use Rattle.connections.specs.Rides.{mayBoard}
-use Rattle.store_stops.specs.Stopwise.{station, depart, points, changePoints, unreached, Goes}
+use Rattle.store_stops.specs.Stopwise.{depart, points, unreached, Goes}
 use Rattle.store_stops.specs.TimelyLaws.{timely}
-use Rattle.store_points.specs.Lowered.{lowered}
-use Rattle.store_marks.specs.Arrays.{raised}
-use Rattle.store_marks.specs.Walks.{
-  Visit,
-  visit,
-  onwardPoints,
-  goesOn,
-  visits,
-  comesBack,
-  labelAt,
-  boarding,
-  run,
-  offer,
-  flag,
-  endsWell,
-}
-use Rattle.store_marks.specs.Walks.{changesWell}
-use Rattle.store_marks.specs.Held.{goes-few}
+use Rattle.store_departures.specs.Held.{goes-few}
+use Rattle.store_marks.specs.Riding.{Visit, visit, onwardPoints, goesOn, visits, comesBack, labelAt}
+use Rattle.store_marks.specs.Riding.{boarding, run}
+use Rattle.store_marks.specs.Held.{Arrival}
 
 module _ (w : List ℕ) (c : ℕ) (x : List ℕ) (i : ℕ) (act : Visit → List ℕ → List ℕ) (s : List ℕ) where
   -- who cannot board arrives nowhere
@@ -69,20 +54,11 @@ module _ (w : List ℕ) (ok : isTimetable w ≡ true) (j : ℕ) (goes : Goes w j
     pub more-small : (z : ℕ) → z ≡ y + p → z < 4000000
     more-small z adds = omega (arith, more-most z adds, next-few)
 
-  next-same : station w (j + 1) ≡ station w (suc j)
-  next-same = ap (station w) (add-one j)
-
-  pub next-some : 1 ≤ station w (j + 1)
-  next-some = omega (arith, timely w ok .next-first j goes, next-same)
-
-  pub next-listed : station w (j + 1) ≤ stationCount w
-  next-listed = omega (arith, timely w ok .next-listed j goes, next-same)
-
 pub points-of : (w : List ℕ) (j p : ℕ) (t : Stop) → t ≡ stopAt w j → p ≡ t .points → p ≡ points w j
 points-of w j p t is e = e ∙ ap (λ (z : Stop). z .points) is
 
-pub cost-room : (w : List ℕ) → isTimetable w ≡ true → (e : ℕ) → e ≤ stationCount w → e ≤ 64
-cost-room w ok e listed = omega (arith, stations-few w ok)
+pub next-arrival : (w : List ℕ) (j : ℕ) → Goes w j → Arrival w (j + 1)
+next-arrival w j goes = record { i = j; goes = goes; is = sym (add-one j) }
 
 -- ---- what one has paid who boards
 module _ (w x : List ℕ) (i : ℕ) (s : Stop) (is : s ≡ stopAt w i) (b : Bool) (is-b : b ≡ mayBoard s) where
@@ -189,39 +165,3 @@ module _
 
     pub ride-on : (r ≡ 101 → ⊥) → whole ≡ run act (visits w c (2048 - (j + 1)) (j + 1) z) s′
     ride-on h = turn ∙ rw (rides-on w ok j goes c r next h)
-
--- ---- an arrival
-module _ (w : List ℕ) (j y : ℕ) (s : Stop) (is : s ≡ stopAt w j) where
-  pub offers : (caught x x′ : List ℕ) (c e cost sum : ℕ) → cost ≡ changePoints w e → sum ≡ y + cost
-      → x′ ≡ cond (eqb (s .station) e) (lowered (getD caught j 0) sum x) x
-      → x′ ≡ offer w caught c e (visit j y) x
-  unfolding offer
-  offers caught x x′ c e cost sum costs adds does =
-      does
-      ∙ ap (λ (z : Stop). cond (eqb (z .station) e) (lowered (getD caught j 0) sum x) x) is
-      ∙ ap (λ z. cond (eqb (station w j) e) (lowered (getD caught j 0) z x) x) (adds ∙ ap (λ z. y + z) costs)
-
-  pub flags-arc : (allowed l l′ : List ℕ) → l′ ≡ raised (ltb y (getD allowed j 0)) (s .station - 1) l
-      → l′ ≡ flag w (endsWell allowed) (visit j y) l
-  unfolding flag endsWell
-  flags-arc allowed l l′ does =
-      does ∙ ap (λ (z : Stop). raised (ltb y (getD allowed j 0)) (z .station - 1) l) is
-
-  pub flags-kid : (caught q l l′ : List ℕ)
-      → l′ ≡ raised (ltb (y + changePoints w (s .station)) (getD q (getD caught j 0) 0)) (s .station - 1) l
-      → l′ ≡ flag w (changesWell w caught q) (visit j y) l
-  unfolding flag changesWell
-  flags-kid caught q l l′ does =
-      does
-      ∙ ap
-      (λ (z : Stop). raised (ltb (y + changePoints w (z .station)) (getD q (getD caught j 0) 0)) (z .station - 1) l)
-      is
-
-  pub here-some : 1 ≤ station w j → 1 ≤ s .station
-  here-some h = omega (arith, ap (λ (z : Stop). z .station) is)
-
-  pub here-listed : station w j ≤ stationCount w → s .station ≤ stationCount w
-  here-listed h = omega (arith, ap (λ (z : Stop). z .station) is)
-
-  pub here-low : isTimetable w ≡ true → station w j ≤ stationCount w → s .station ≤ 64
-  here-low ok h = omega (arith, ap (λ (z : Stop). z .station) is, stations-few w ok)

@@ -1,25 +1,39 @@
--- All walks from a station, one after the other, and what they come to: the labels of a kid, those behind a path of
--- changes, and the marks of a node.
+-- All who board at a station, one after the other, and what comes of it: the labels behind one change more, those
+-- behind a path of changes, and the marks of a node.
 use mathlib.Core.Path.{_≡_, sym, ap, subst, _∙_}
-use mathlib.Core.Bool.{true}
+use mathlib.Core.Bool.{Bool, true, false, false≢true}
 use mathlib.Core.Logic.{_≢_}
-use mathlib.Core.List.{List, [], _∷_}
-use Prim.Native.Nat.{ℕ, _+_, _≤_, _<_}
+use mathlib.Core.List.{List, [], _∷_, _++_}
+use Prim.Native.Nat.{ℕ, suc, _+_, _-_, _≤_, _<_}
 use native.Mathlib.Numerals.{add-one}
 use native.Mathlib.Omega.{arith}
+use borrow.Author.Tests.{lt-ltb, le-ltb, eq-eqb, ne-eqb, eqb-true}
+use lib.Dec.{eqb}
 use lib.ListN.{length, getD}
 use lib.Seq.{slice, slice-cons, slice-empty}
-use Rattle.timetable.specs.Words.{stationCount, isTimetable}
-use Rattle.store_stops.specs.Stopwise.{unreached}
+use Rattle.lists.specs.Lists.{_∈_}
+use Rattle.timetable.specs.Timetable.{Walk}
+use Rattle.timetable.specs.Words.{stationCount, walksTo, walkCount, walkAt, isTimetable}
+use Rattle.timetable.specs.Access.{stations-few}
+use Rattle.timetable.specs.Walks.{walks-few, walks-rise}
+use Rattle.connections.specs.Connections.{Change, onFoot}
+use Rattle.store_stops.specs.Stopwise.{unreached, waysOf}
+use Rattle.store_stops.specs.Ways.{stay-way, foot-way}
 use Rattle.store_stops.specs.Paid.{Labelled}
 use Rattle.store_stops.specs.Prospects.{Ends, GoesOn}
+use Rattle.store_slots.specs.Slots.{transferAt}
+use Rattle.store_slots.specs.SlotLaws.{slot-small, slot-stations}
 use Rattle.store_departures.specs.Order.{waiting}
+use Rattle.store_departures.specs.Held.{Departures}
 use Rattle.store_marks.specs.Arrays.{fill, fall}
-use Rattle.store_marks.specs.Walks.{Visit, boarding, boardings, run, offer, rides, stepped, flag, endsWell}
-use Rattle.store_marks.specs.Walks.{changesWell}
-use Rattle.store_marks.specs.Held.{Departures, Changes}
-use Rattle.store_marks.specs.Stepping.{Steps, run-append, step-labelled, step-kept}
-use Rattle.store_marks.specs.Marking.{Marked, ArcsMarked, KidsMarked, arcs-marked, kids-marked}
+use Rattle.store_marks.specs.Riding.{Visit, boarding, boardings, run, offer, rides, ridesBy, stepped}
+use Rattle.store_marks.specs.Riding.{staying, stays, foots, flagArc, flagKids}
+use Rattle.store_marks.specs.Held.{Way}
+use Rattle.store_marks.specs.Ways.{leadsTo, Sought, NotBefore, RidesBetween, nor-this, sought-none}
+use Rattle.store_marks.specs.Ways.{sought-here, between}
+use Rattle.store_marks.specs.Stepping.{pair, pair-same, Leads, Steps, Stepped, run-append}
+use Rattle.store_marks.specs.Stepping.{step-labelled, step-kept}
+use Rattle.store_marks.specs.Marking.{Marked, Slotted, ArcsMarked, KidsMarked, arcs-marked, kids-marked}
 use Rattle.store_marks.specs.Paths.{
   changed,
   reached,
@@ -29,7 +43,7 @@ use Rattle.store_marks.specs.Paths.{
   reached-none,
   reached-more,
 }
-use Rattle.store_marks.specs.Paths.{boards-reached}
+use Rattle.store_marks.specs.Paths.{Onward, LabelledTo, boards-reached}
 use Rattle.store_marks.proofs.PartLaws.{part}
 
 next : (l : List ℕ) (k end g : ℕ) → g ≡ getD l k 0 → k < end → end ≤ length l
@@ -50,35 +64,34 @@ module _
     (from : begin ≡ getD first c 0)
     (to : end ≡ getD first (c + 1) 0)
   where
-    pub rides-start : (caught x : List ℕ) (e : ℕ)
-        → rides w caught c e (waiting w c) x ≡ rides w caught c e (slice begin end chain) x
-    rides-start caught x e =
-        ap (λ l. rides w caught c e l x) (sym (part w chain first ok held c listed begin end from to))
+    pub rides-start : (way : Change) (x : List ℕ)
+        → rides w c way (waiting w c) x ≡ rides w c way (slice begin end chain) x
+    rides-start way x = ap (λ l. rides w c way l x) (sym (part w chain first ok held c listed begin end from to))
 
-    pub walks-start : (act : Visit → List ℕ → List ℕ) (x s : List ℕ)
+    pub boards-start : (act : Visit → List ℕ → List ℕ) (x s : List ℕ)
         → run act (boardings w c x (waiting w c)) s ≡ run act (boardings w c x (slice begin end chain)) s
-    walks-start act x s =
+    boards-start act x s =
         ap (λ l. run act (boardings w c x l) s) (sym (part w chain first ok held c listed begin end from to))
 
 -- one of them is taken
-pub rides-on : (w chain caught whole x x′ : List ℕ) (c e k end g : ℕ)
-    → whole ≡ rides w caught c e (slice k end chain) x
-    → x′ ≡ run (offer w caught c e) (boarding w c x g) x
+pub rides-on : (w chain whole x x′ : List ℕ) (way : Change) (c k end g : ℕ)
+    → whole ≡ rides w c way (slice k end chain) x
+    → x′ ≡ run (offer w way) (boarding w c x g) x
     → g ≡ getD chain k 0 → k < end → end ≤ length chain
-    → whole ≡ rides w caught c e (slice (k + 1) end chain) x′
+    → whole ≡ rides w c way (slice (k + 1) end chain) x′
 unfolding rides
-rides-on w chain caught whole x x′ c e k end g left does is more room =
+rides-on w chain whole x x′ way c k end g left does is more room =
     left
-    ∙ ap (λ l. rides w caught c e l x) (next chain k end g is more room)
-    ∙ ap (rides w caught c e (slice (k + 1) end chain)) (sym does)
+    ∙ ap (λ l. rides w c way l x) (next chain k end g is more room)
+    ∙ ap (rides w c way (slice (k + 1) end chain)) (sym does)
 
-pub walks-on : (act : Visit → List ℕ → List ℕ) (w chain whole x s s′ : List ℕ) (c k end g : ℕ)
+pub boards-on : (act : Visit → List ℕ → List ℕ) (w chain whole x s s′ : List ℕ) (c k end g : ℕ)
     → whole ≡ run act (boardings w c x (slice k end chain)) s
     → s′ ≡ run act (boarding w c x g) s
     → g ≡ getD chain k 0 → k < end → end ≤ length chain
     → whole ≡ run act (boardings w c x (slice (k + 1) end chain)) s′
 unfolding boardings
-walks-on act w chain whole x s s′ c k end g left does is more room =
+boards-on act w chain whole x s s′ c k end g left does is more room =
     left
     ∙ ap (λ l. run act (boardings w c x l) s) (next chain k end g is more room)
     ∙ run-append act (boarding w c x g) (boardings w c x (slice (k + 1) end chain)) s
@@ -90,117 +103,239 @@ module _ (w chain : List ℕ) (c k end : ℕ) (inside : k ≤ end) (done : end �
       let e : k ≡ end = omega arith in
       ap (λ i. slice i end chain) e ∙ slice-empty end chain
 
-  pub rides-done : (caught whole x : List ℕ) (e : ℕ) → whole ≡ rides w caught c e (slice k end chain) x → x ≡ whole
+  pub rides-done : (whole x : List ℕ) (way : Change) → whole ≡ rides w c way (slice k end chain) x → x ≡ whole
   unfolding rides
-  rides-done caught whole x e left = sym (left ∙ ap (λ l. rides w caught c e l x) over)
+  rides-done whole x way left = sym (left ∙ ap (λ l. rides w c way l x) over)
 
-  module _ (ok : isTimetable w ≡ true) (x old new : List ℕ) (long : length old ≡ 64) where
-    walks-done : (act : Visit → List ℕ → List ℕ) (whole : List ℕ)
+  module _ (ok : isTimetable w ≡ true) (x old new : List ℕ) where
+    boards-done : (act : Visit → List ℕ → List ℕ) (whole : List ℕ)
         → whole ≡ run act (boardings w c x (slice k end chain)) new → new ≡ whole
     unfolding run boardings
-    walks-done act whole left = sym (left ∙ ap (λ l. run act (boardings w c x l) new) over)
+    boards-done act whole left = sym (left ∙ ap (λ l. run act (boardings w c x l) new) over)
 
     module _ (allowed : List ℕ) where
-      pub marks-arcs :
-          run (flag w (endsWell allowed)) (boardings w c x (waiting w c)) old
-          ≡ run (flag w (endsWell allowed)) (boardings w c x (slice k end chain)) new
+      pub marks-arcs : length old ≡ 64
+          → run (flagArc w allowed) (boardings w c x (waiting w c)) old
+          ≡ run (flagArc w allowed) (boardings w c x (slice k end chain)) new
           → ArcsMarked w c x allowed old new
-      marks-arcs left =
+      marks-arcs long left =
           record {
             marked = λ a d rev there-c labels.
-                subst (Marked (Ends w a d allowed rev) old) (sym (walks-done (flag w (endsWell allowed)) _ left))
+                subst (Marked 64 (λ k. Ends w a d allowed rev (suc k)) old)
+                (sym (boards-done (flagArc w allowed) _ left))
                 (arcs-marked w ok a d rev c there-c x labels allowed old long);
           }
 
-      pub marks-kids : (caught q : List ℕ) → length q ≡ 2048
-          → run (flag w (changesWell w caught q)) (boardings w c x (waiting w c)) old
-          ≡ run (flag w (changesWell w caught q)) (boardings w c x (slice k end chain)) new
-          → KidsMarked w c x allowed caught q old new
-      marks-kids caught q few left =
+      pub marks-kids : length old ≡ 320 → (q : List ℕ) → length q ≡ 2048
+          → run (flagKids w q) (boardings w c x (waiting w c)) old
+          ≡ run (flagKids w q) (boardings w c x (slice k end chain)) new
+          → KidsMarked w c x allowed q old new
+      marks-kids long q few left =
           record {
             marked = λ a d rev there-c labels bounded.
-                subst (Marked (GoesOn w a d allowed rev) old)
-                (sym (walks-done (flag w (changesWell w caught q)) _ left))
-                (kids-marked w ok a d rev c there-c x labels allowed caught q few bounded old long);
+                subst (Marked 320 (Slotted w (GoesOn w a d allowed rev)) old)
+                (sym (boards-done (flagKids w q) _ left))
+                (kids-marked w ok a d rev c there-c x labels allowed q few bounded old long);
           }
 
--- ---- the labels of a kid
+-- ---- the ways of one change
+module _ (w : List ℕ) (ok : isTimetable w ≡ true) where
+  pub own-held : (y : ℕ) (way : Walk) → 1 ≤ y → y ≤ stationCount w → way ≡ staying w y → Way w true way
+  own-held y way some listed is =
+      record {
+        listed = subst (λ (v : Walk). onFoot v ∈ waysOf w) (sym is) (stay-way w ok y some listed);
+        stays = λ e. is ∙ ap (staying w) (sym (ap (λ (v : Walk). v .from) is));
+      }
+
+  module _ (y : ℕ) (listed : y ≤ stationCount w) where
+    pub station-low : y ≤ 64
+    station-low = omega (arith, stations-few w ok)
+
+    pub station-before : y - 1 ≤ 64
+    station-before = omega (arith, station-low)
+
+    module _ (k end : ℕ) (is : end ≡ walksTo w y) (inside : k < end) where
+      walk-listed : k < walksTo w (stationCount w)
+      walk-listed = omega (arith, walks-rise w ok y (stationCount w) listed (omega arith))
+
+      pub walk-room : k < 256
+      walk-room = omega (arith, walk-listed, walks-few w ok)
+
+      pub walk-held : (way : Walk) → way ≡ walkAt w k → Way w false way
+      walk-held way at =
+          record {
+            listed = subst (λ (v : Walk). onFoot v ∈ waysOf w) (sym at) (foot-way w ok k walk-listed);
+            stays = λ e. absurd (false≢true e);
+          }
+
+    pub walks-begin : (k end : ℕ) → k ≡ walksTo w (y - 1) → end ≡ walksTo w y → k ≤ end
+    walks-begin k end from to = omega (arith, walks-rise w ok (y - 1) y (omega arith) listed)
+
+pub walk-leads : (w : List ℕ) (k e : ℕ) (v : Walk) → v ≡ walkAt w k → eqb (v .to) e ≡ leadsTo w k e
+unfolding leadsTo
+walk-leads w k e v is = ap (λ (z : Walk). eqb (z .to) e) is
+
+-- word 0 has the number of stations
+module _ (w : List ℕ) (n : ℕ) (is : n ≡ getD w 0 0) where
+  pub count-low : isTimetable w ≡ true → n ≤ 64
+  count-low ok = omega (arith, stations-few w ok)
+
+  pub all-walks : (r : ℕ) → r ≡ walksTo w n → r ≡ walkCount w
+  all-walks r e = e ∙ ap (walksTo w) is
+
+-- the walk between two stations is looked for
+module _ (w : List ℕ) (y e k : ℕ) (b : Bool) (leads : b ≡ leadsTo w k e) (so-far : NotBefore w y e k) where
+  pub nor-next : b ≡ false → NotBefore w y e (k + 1)
+  unfolding leadsTo
+  nor-next is = nor-this w y e k so-far (λ q. false≢true (sym is ∙ leads ∙ eq-eqb ((walkAt w k) .to) e q))
+
+  pub found-here : isTimetable w ≡ true → 1 ≤ y → y ≤ stationCount w → (end : ℕ) → end ≡ walksTo w y
+      → walksTo w (y - 1) ≤ k → k < end → b ≡ true → Sought w y e k
+  unfolding leadsTo
+  found-here ok some listed end is begun inside passes =
+      sought-here w y e ok some listed k so-far begun (omega arith)
+      (eqb-true ((walkAt w k) .to) e (sym leads ∙ passes))
+
+pub found-none : (w : List ℕ) → isTimetable w ≡ true → (y e : ℕ) → 1 ≤ y → y ≤ stationCount w → (k end : ℕ)
+    → end ≡ walksTo w y → walksTo w (y - 1) ≤ k → k ≤ end → end ≤ k → NotBefore w y e k → Sought w y e end
+found-none w ok y e some listed k end is begun inside past so-far =
+    let same : k ≡ end = omega arith in
+    subst (Sought w y e) same (sought-none w y e ok some listed k (same ∙ is) so-far begun)
+
+module _ (w : List ℕ) (c y : ℕ) (x : List ℕ) where
+  pub own-rides : (e : ℕ) (way : Walk) (x′ : List ℕ) → y ≡ e → way ≡ staying w y
+      → x′ ≡ rides w c (onFoot way) (waiting w c) x → x′ ≡ ridesBy w c (stays w y e) x
+  unfolding stays ridesBy
+  own-rides e way x′ here is does =
+      does ∙ ap (λ (v : Walk). rides w c (onFoot v) (waiting w c) x) is ∙ rw (eq-eqb y e here)
+
+  pub own-not : (e : ℕ) → (y ≡ e → ⊥) → x ≡ ridesBy w c (stays w y e) x
+  unfolding stays ridesBy
+  own-not e other = rw (ne-eqb y e other)
+
+  module _ (k end : ℕ) (is : end ≡ walksTo w y) where
+    pub walk-rides : (way : Walk) (x′ : List ℕ) → k < end → way ≡ walkAt w k
+        → x′ ≡ rides w c (onFoot way) (waiting w c) x → x′ ≡ ridesBy w c (foots w y k) x
+    unfolding foots ridesBy
+    walk-rides way x′ inside at does =
+        does
+        ∙ ap (λ (v : Walk). rides w c (onFoot v) (waiting w c) x) at
+        ∙ rw (lt-ltb k (walksTo w y) (rw is at inside))
+
+    pub walk-not : end ≤ k → x ≡ ridesBy w c (foots w y k) x
+    unfolding foots ridesBy
+    walk-not past = rw (le-ltb k (walksTo w y) (rw is at past))
+
+-- ---- the labels behind one change more
 module _
-    (w chain first caught : List ℕ)
+    (w chain first : List ℕ)
     (ok : isTimetable w ≡ true)
     (held : Departures w chain first)
-    (changes : Changes w caught)
-    (c e : ℕ)
-    (apart : c ≢ e)
-    (listed : e ≤ stationCount w)
+    (c y e : ℕ)
+    (leads : Leads w c y e)
     (begin end : ℕ)
     (from : begin ≡ getD first e 0)
     (to : end ≡ getD first (e + 1) 0)
     (x₀ x₁ x₂ x₃ : List ℕ)
     (long : length x₀ ≡ 2048)
     (cleared : x₁ ≡ fill (λ g. unreached) (slice begin end chain) x₀)
-    (ridden : x₂ ≡ rides w caught c e (waiting w c) x₁)
+    (ridden : RidesBetween w c y e x₁ x₂)
     (settled : x₃ ≡ fall unreached (slice begin end chain) x₂)
   where
-    is-stepped : x₃ ≡ stepped w caught c e x₀
+    abbrev ways : List Change
+    ways = stays w y e ++ foots w y (ridden .k)
+
+    is-stepped : x₃ ≡ stepped w c ways e x₀
     unfolding stepped
     is-stepped =
-        let p = part w chain first ok held e listed begin end from to in
+        let p = part w chain first ok held e (leads .listed) begin end from to in
         settled
         ∙ ap (λ l. fall unreached l x₂) p
-        ∙ ap (fall unreached (waiting w e)) (ridden
-        ∙ ap (rides w caught c e (waiting w c)) (cleared ∙ ap (λ l. fill (λ g. unreached) l x₀) p))
+        ∙ ap (fall unreached (waiting w e)) (ridden .is
+        ∙ ap (ridesBy w c ways) (cleared ∙ ap (λ l. fill (λ g. unreached) l x₀) p))
 
-    pub steps : Steps w c e x₀ x₃
+    pub steps : Steps w c (pair y e) x₀ x₃
     steps =
+        let ways-are = between w y e ok (leads .first) (leads .last) (ridden .k) (ridden .sought) in
         record {
           next = λ a d rev there-c labels.
-              subst (Labelled w a d (e ∷ rev) e) (sym is-stepped)
-              (step-labelled w ok caught changes c e apart x₀ long a d rev there-c labels);
+              subst (Labelled w a d (pair y e ∷ rev) e) (sym is-stepped)
+              (step-labelled w ok c (pair y e) (leads .apart) ways ways-are x₀ long a d rev there-c labels);
           kept = λ a d rev labels.
               subst (Labelled w a d rev c) (sym is-stepped)
-              (step-kept w ok caught changes c e apart x₀ long a d rev labels);
+              (step-kept w ok c (pair y e) (leads .apart) ways ways-are x₀ long a d rev labels);
         }
 
+-- ---- the change of a slot
+module _ (w : List ℕ) (c s : ℕ) (onward : Onward w c s) where
+  pub slot-room : isTimetable w ≡ true → s < 320
+  slot-room ok = slot-small w ok s (onward .listed)
+
+  pub slot-leads : isTimetable w ≡ true → (y e : ℕ) → y ≡ (transferAt w s) .alighted → e ≡ (transferAt w s) .boarded
+      → Leads w c y e
+  slot-leads ok y e alights boards =
+      let t = slot-stations w ok s (onward .listed) in
+      record {
+        first = omega (arith, t .alighted-first);
+        last = omega (arith, t .alighted-last);
+        listed = omega (arith, t .boarded-last);
+        apart = λ q. onward .apart (q ∙ boards);
+      }
+
+  pub slot-boards : isTimetable w ≡ true → (e : ℕ) → e ≡ (transferAt w s) .boarded → e ≤ stationCount w
+  slot-boards ok e boards = omega (arith, slot-stations w ok s (onward .listed) .boarded-last)
+
+pub slot-stepped : (w : List ℕ) (c s y e : ℕ) (x x′ : List ℕ) → y ≡ (transferAt w s) .alighted
+    → e ≡ (transferAt w s) .boarded → Steps w c (pair y e) x x′ → Stepped w c s e x x′
+slot-stepped w c s y e x x′ alights boards step =
+    let same : pair y e ≡ transferAt w s = pair-same alights boards in
+    record { steps = subst (λ t. Steps w c t x x′) same step; boards = boards }
+
+-- the word read is the slot
+module _ (w : List ℕ) (c : ℕ) (path : List ℕ) (m s : ℕ) (slot : s ≡ getD path m 0) where
+  pub slot-onward : Onward w c (getD path m 0) → Onward w c s
+  slot-onward h = subst (Onward w c) (sym slot) h
+
+  pub slot-read : (e : ℕ) (x x′ : List ℕ) → Stepped w c s e x x′ → Stepped w c (getD path m 0) e x x′
+  slot-read e x x′ h = subst (λ z. Stepped w c z e x x′) slot h
+
 -- ---- a path of changes
-module _ (w : List ℕ) (a : ℕ) (path : List ℕ) where
-  pub path-start : (d : ℕ) (x : List ℕ) → Labelled w a d [] a x → Labelled w a d (changed 0 path) a x
-  path-start d x labels = subst (λ rev. Labelled w a d rev a x) (sym (changed-none path)) labels
+module _ (w : List ℕ) (a d : ℕ) (path : List ℕ) where
+  pub path-start : (x : List ℕ) → Labelled w a d [] a x → LabelledTo w a d path 0 a x
+  path-start x labels =
+      record {
+        there = sym (reached-none w path a);
+        labels = subst (λ rev. Labelled w a d rev a x) (sym (changed-none w path)) labels;
+      }
 
-  pub path-begins : a ≡ reached a path 0
-  path-begins = sym (reached-none path a)
-
-  pub path-on : (d c e : ℕ) (x x′ : List ℕ) (m k : ℕ) → Steps w c e x x′ → Labelled w a d (changed m path) c x
-      → c ≡ reached a path m → e ≡ getD path m 0 → Path w a path k → m < k
-      → Labelled w a d (changed (m + 1) path) e x′
-  path-on d c e x x′ m k step labels there-c at is more =
-      let inside : m < length path = omega (arith, is .long) in
-      let rev : e ∷ changed m path ≡ changed (m + 1) path =
-      ap (λ z. z ∷ changed m path) at ∙ sym (changed-more path m inside)
-      ∙ ap (λ i. changed i path) (sym (add-one m)) in
-      subst (λ r. Labelled w a d r e x′) rev
-      (step .next a d (changed m path) (boards-reached path a m (omega arith) ∙ sym there-c) labels)
-
-  pub path-done : (m k c d : ℕ) (x : List ℕ) → m ≤ k → k ≤ m → c ≡ reached a path m
-      → Labelled w a d (changed m path) c x → Labelled w a d (changed k path) (reached a path k) x
-  path-done m k c d x h g there-c labels =
+  pub path-done : (m k c : ℕ) (x : List ℕ) → m ≤ k → k ≤ m → LabelledTo w a d path m c x
+      → Labelled w a d (changed w k path) (reached w a path k) x
+  path-done m k c x h g at =
       let e : m ≡ k = omega arith in
-      subst (λ i. Labelled w a d (changed i path) (reached a path i) x) e
-      (subst (λ z. Labelled w a d (changed m path) z x) there-c labels)
+      subst (λ i. Labelled w a d (changed w i path) (reached w a path i) x) e
+      (subst (λ z. Labelled w a d (changed w m path) z x) (at .there) (at .labels))
 
-  module _ (k : ℕ) (is : Path w a path k) (m : ℕ) (more : m < k) where
-    pub path-inside : m < length path
-    path-inside = omega (arith, is .long)
+  module _ (m c : ℕ) (x : List ℕ) (at : LabelledTo w a d path m c x) (k : ℕ) (is : Path w a path k) (more : m < k) where
+    inside : m < length path
+    inside = omega (arith, is .long)
 
-    module _ (e : ℕ) (at : e ≡ getD path m 0) where
-      pub change-some : 1 ≤ e
-      change-some = omega (arith, is .first m more)
+    pub path-onward : Onward w c (getD path m 0)
+    path-onward = subst (λ z. Onward w z (getD path m 0)) (sym (at .there)) (is .onward m more)
 
-      pub change-listed : e ≤ stationCount w
-      change-listed = omega (arith, is .listed m more)
+    pub path-on : (e : ℕ) (x′ : List ℕ) → Stepped w c (getD path m 0) e x x′ → LabelledTo w a d path (m + 1) e x′
+    path-on e x′ step =
+        let t = transferAt w (getD path m 0) in
+        let rev : t ∷ changed w m path ≡ changed w (m + 1) path =
+        sym (changed-more w path m inside) ∙ ap (λ i. changed w i path) (sym (add-one m)) in
+        record {
+          there = step .boards ∙ sym (reached-more w path a m) ∙ ap (reached w a path) (sym (add-one m));
+          labels =
+              subst (λ z. Labelled w a d (changed w (m + 1) path) z x′) (sym (step .boards))
+              (subst (λ r. Labelled w a d r (t .boarded) x′) rev
+              (step .steps .next a d (changed w m path)
+              (boards-reached w path a m (omega (arith, inside)) ∙ sym (at .there))
+              (at .labels)));
+        }
 
-      pub change-apart : (c : ℕ) → c ≡ reached a path m → c ≢ e
-      change-apart c there-c q = is .apart m more (sym there-c ∙ q ∙ at)
-
-      pub reached-on : e ≡ reached a path (m + 1)
-      reached-on = at ∙ sym (reached-more path a m) ∙ ap (reached a path) (sym (add-one m))
+pub path-inside : (w : List ℕ) (a : ℕ) (path : List ℕ) (k m : ℕ) → Path w a path k → m < k → m < length path
+path-inside w a path k m is more = omega (arith, is .long)

@@ -1,29 +1,17 @@
--- The arrays that hold the order of departures: station by station, where each station's departures begin, and for each
--- arrival the departure caught.
-use mathlib.Core.Path.{_≡_, sym, ap, subst, _∙_}
-use mathlib.Core.Bool.{true}
-use mathlib.Core.List.{List, List·Memᴰ·head as here, List·Memᴰ·tail as there}
-use Prim.Native.Nat.{ℕ, zero, suc, _+_, _-_, _≤_, _<_}
-use native.Mathlib.Omega.{arith}
-use lib.Dec.{ltb}
-use lib.ListN.{length, getD, take, drop}
-use lib.Seq.{slice, slice-cons, take-take}
+-- What code holds of changes: for each arrival the departure caught by a change at its station, and a way of changing.
+use mathlib.Core.Path.{_≡_}
+use mathlib.Core.Bool.{Bool, true}
+use mathlib.Core.List.{List}
+use Prim.Native.Nat.{ℕ, suc, _≤_, _<_}
+use lib.ListN.{length, getD}
 use Rattle.lists.specs.Lists.{_∈_}
-use Rattle.lists.specs.Members.{filter-few}
-use Rattle.timetable.specs.Words.{isTimetable}
-use Rattle.store_stops.specs.Stopwise.{station, Goes}
-use Rattle.store_stops.specs.TimelyLaws.{timely}
-use Rattle.store_departures.specs.Order.{beginOf, order, chain, waiting, catch}
-use Rattle.store_departures.specs.Parts.{chain-part, begin-next, chain-length, order-length, leaving-few}
+use Rattle.timetable.specs.Timetable.{Walk}
+use Rattle.connections.specs.Connections.{onFoot}
+use Rattle.store_stops.specs.Stopwise.{waysOf, Goes}
+use Rattle.store_departures.specs.Order.{catch}
+use Rattle.store_marks.specs.Riding.{staying}
 
--- the departures of station m stand at places first[m] up to first[m + 1] of the chain
-pub record Departures (w chained first : List ℕ) : Type 0 where
-  pub chain-long : length chained ≡ 2048
-  pub first-long : length first ≡ 66
-  pub chain-is : take (length (chain w)) chained ≡ chain w
-  pub first-is : (m : ℕ) → m ≤ 65 → getD first m 0 ≡ beginOf (station w) m (order w)
-
--- the departure caught after each arrival
+-- the departure caught after each arrival by a change at its station
 pub record Changes (w caught : List ℕ) : Type 0 where
   pub caught-long : length caught ≡ 2048
   pub caught-is : (i : ℕ) → Goes w i → getD caught (suc i) 0 ≡ catch w (suc i)
@@ -32,70 +20,13 @@ pub record Changes (w caught : List ℕ) : Type 0 where
 abbrev pub Inside : (l : List ℕ) (begin end : ℕ) (x : List ℕ) → Type 0
 Inside l begin end x = (k : ℕ) → begin ≤ k → k < end → getD l k 0 < length x
 
--- what stands at one of the places of a part is in it
-slice-in : (l : List ℕ) (m b t : ℕ) → b + m < t → t ≤ length l → getD l (b + m) 0 ∈ slice b t l
-slice-in l zero b t h g =
-    let e : b + 0 ≡ b = omega arith in
-    rw (slice-cons b t l 0 (omega arith) g) (here (ap (λ k. getD l k 0) e))
-slice-in l (suc m) b t h g =
-    let e : suc b + m ≡ b + suc m = omega arith in
-    rw (slice-cons b t l 0 (omega arith) g)
-    (there (subst (λ k. getD l k 0 ∈ slice (suc b) t l) e (slice-in l m (suc b) t (omega arith) g)))
+-- a trip arrives at stop j
+pub record Arrival (w : List ℕ) (j : ℕ) : Type 0 where
+  pub i : ℕ
+  pub goes : Goes w i
+  pub is : suc i ≡ j
 
-module _ (w : List ℕ) (yes : isTimetable w ≡ true) where
-  -- a stop that is left again is one of 2,048
-  pub goes-few : (i : ℕ) → Goes w i → suc i < 2048
-  goes-few i g = omega (arith, timely w yes .few i g, timely w yes .stops)
-
-  begin-most : (m : ℕ) → beginOf (station w) m (order w) ≤ length (chain w)
-  unfolding beginOf
-  begin-most m =
-      omega (
-        arith,
-        filter-few (λ i. ltb (station w i) m) (order w),
-        chain-length w yes,
-        order-length w yes,
-      )
-
-  module _ (chained first : List ℕ) (held : Departures w chained first) (c : ℕ) (few : c ≤ 64) where
-    -- those of a station
-    pub part-ordered : getD first c 0 ≤ getD first (c + 1) 0
-    part-ordered =
-        omega (
-          arith,
-          held .first-is c (omega arith),
-          held .first-is (c + 1) (omega arith),
-          begin-next (station w) (order w) c,
-        )
-
-    pub part-most : getD first (c + 1) 0 ≤ 2048
-    part-most =
-        let e = ap length (held .chain-is) in
-        omega (
-          arith,
-          held .first-is (c + 1) (omega arith),
-          begin-most (c + 1),
-          chain-length w yes,
-          leaving-few w yes,
-          timely w yes .stops,
-        )
-
-    pub part-is : slice (getD first c 0) (getD first (c + 1) 0) chained ≡ waiting w c
-    part-is =
-        let b = held .first-is c (omega arith) in
-        let e = held .first-is (c + 1) (omega arith) in
-        let inside = begin-most (c + 1) in
-        ap (λ k. drop (getD first c 0) k)
-        (sym (take-take (getD first (c + 1) 0) (length (chain w)) chained (omega arith))
-        ∙ ap (take (getD first (c + 1) 0)) (held .chain-is))
-        ∙ ap (λ k. slice k (getD first (c + 1) 0) (chain w)) b
-        ∙ ap (λ k. slice (beginOf (station w) c (order w)) k (chain w)) e
-        ∙ chain-part w c few
-
-    pub part-in : (k : ℕ) → getD first c 0 ≤ k → k < getD first (c + 1) 0 → getD chained k 0 ∈ waiting w c
-    part-in k h g =
-        let b = getD first c 0 in
-        let e : b + (k - b) ≡ k = omega arith in
-        subst (λ r. getD chained k 0 ∈ r) part-is
-        (subst (λ i. getD chained i 0 ∈ slice b (getD first (c + 1) 0) chained) e
-        (slice-in chained (k - b) b (getD first (c + 1) 0) (omega arith) (omega (arith, part-most, held .chain-long))))
+-- a way of changing of the timetable, which is told if it is one at a station itself
+pub record Way (w : List ℕ) (own : Bool) (way : Walk) : Type 0 where
+  pub listed : onFoot way ∈ waysOf w
+  pub stays : own ≡ true → way ≡ staying w (way .from)

@@ -1,7 +1,8 @@
 pub mod Arrays
-pub mod Walks
+pub mod Riding
 pub mod Held
 pub mod Reaching
 pub mod Stepping
+pub mod Ways
 pub mod Marking
 pub mod Paths

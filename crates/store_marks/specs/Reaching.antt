@@ -1,6 +1,6 @@
--- What the walks from the labels of a station come to: each of their arrivals is one of a rider, and no rider arrives
--- for less. A walk may end where the trip comes back to the station of boarding and one can board again, since who can
--- board at a station can board there later, too, for the same.
+-- What riding on from the labels of a station comes to: each arrival is one of a rider, and no rider arrives for less.
+-- One may get off where the trip comes back to the station of boarding and one can board again, since who can board at
+-- a station can board there later, too, for the same.
 use mathlib.Core.Path.{_≡_, refl, sym, ap, subst, _∙_}
 use mathlib.Core.Bool.{Bool, true, false, cond, not}
 use mathlib.Core.List.{List, [], _∷_, List·Memᴰ·head as here, List·Memᴰ·tail as there}
@@ -15,6 +15,7 @@ use Rattle.lists.specs.Tests.{T-left, T-right, T-true}
 use Rattle.lists.specs.Members.{none, cons-cases, concatMap-in, concatMap-out}
 use Rattle.timetable.specs.Words.{stopAt, isTimetable}
 use Rattle.connections.specs.Rides.{mayBoard}
+use Rattle.connections.specs.Connections.{Transfer}
 use Rattle.store_stops.specs.Stopwise.{station, depart, points, unreached, Goes, Boards, Ridden, ridden}
 use Rattle.store_stops.specs.Paid.{Paid, Arrived, Labelled}
 use Rattle.store_stops.specs.Settled.{Timely}
@@ -25,22 +26,22 @@ use Rattle.store_stops.specs.PaidBounds.{paid-most}
 use Rattle.store_stops.specs.Visits.{departs-later, paid-later}
 use Rattle.store_departures.specs.Order.{waiting}
 use Rattle.store_departures.specs.Parts.{waiting-in, waiting-out}
-use Rattle.store_marks.specs.Walks.{Visit, visit, comesBack, labelAt, goesOn, visits, boarding, boardings}
-use Rattle.store_marks.specs.Held.{goes-few}
+use Rattle.store_departures.specs.Held.{goes-few}
+use Rattle.store_marks.specs.Riding.{Visit, visit, comesBack, labelAt, goesOn, visits, boarding, boardings}
 
--- the station where one boards who changed at these stations, the last one first
-abbrev pub boardsAt : (a : ℕ) (rev : List ℕ) → ℕ
+-- the station where one boards who changed so, the last change first
+abbrev pub boardsAt : (a : ℕ) (rev : List Transfer) → ℕ
 boardsAt a [] = a
-boardsAt a (c ∷ rev) = c
+boardsAt a (c ∷ rev) = c .boarded
 
 module _ (w : List ℕ) (a d : ℕ) where
-  pub paid-there : (rev : List ℕ) (g p : ℕ) → Paid w a d rev g p → station w g ≡ boardsAt a rev
+  pub paid-there : (rev : List Transfer) (g p : ℕ) → Paid w a d rev g p → station w g ≡ boardsAt a rev
   paid-there [] g p h = h .1
-  paid-there (c ∷ rev) g p h = h .catches .here ∙ h .here
+  paid-there (c ∷ rev) g p h = h .there
 
-  paid-boards : (rev : List ℕ) (g p : ℕ) → Paid w a d rev g p → Boards w g
+  paid-boards : (rev : List Transfer) (g p : ℕ) → Paid w a d rev g p → Boards w g
   paid-boards [] g p h = h .0
-  paid-boards (c ∷ rev) g p h = h .catches .boards
+  paid-boards (c ∷ rev) g p h = h .catches .catches .boards
 
 -- a stop to which a trip comes back is of the station, and open
 back-there : (w : List ℕ) (j c : ℕ) → comesBack (stopAt w j) c ≡ true → (station w j ≡ c) × T (mayBoard (stopAt w j))
@@ -54,7 +55,7 @@ back-there w j c e =
 pub visit-same : {j i y z : ℕ} → j ≡ i → y ≡ z → visit j y ≡ visit i z
 visit-same e f = cc (e, f)
 
--- ---- the arrivals of a walk
+-- ---- the arrivals of one who rides on
 module _ (w : List ℕ) (sure : Timely w) (c : ℕ) where
   -- a property of arrivals that riding on keeps
   module _ (P : ℕ → ℕ → Type 0) (on : (j y : ℕ) → Goes w j → P j y → P (suc j) (y + points w j)) where
@@ -119,7 +120,7 @@ module _ (w : List ℕ) (sure : Timely w) (c : ℕ) where
           (there
           (subst (λ u. u ∈ visits w c n (suc b) (y + points w b)) (visit-same (omega arith) (omega arith)) ih))
 
--- ---- the arrivals of all walks from a station
+-- ---- the arrivals of all who board at a station
 module _ (w : List ℕ) (ok : isTimetable w ≡ true) (c : ℕ) (x : List ℕ) where
   abbrev sure : Timely w
   sure = timely w ok
@@ -149,12 +150,7 @@ module _ (w : List ℕ) (ok : isTimetable w ≡ true) (c : ℕ) (x : List ℕ) w
           visits-all w sure c P on (2048 - i) i (labelAt w x i) g (h (ltb→lt (labelAt w x i) unreached (rw e tt))) v m
       go false e m = none m
 
-  -- each is at a stop behind one that is left
-  pub boarding-stops : (i : ℕ) → Goes w i → (v : Visit) → v ∈ boarding w c x i → (k : ℕ) × Goes w k × (suc k ≡ v .stop)
-  boarding-stops i g =
-      boarding-out (λ j y. (k : ℕ) × Goes w k × (suc k ≡ j)) (λ j y goes h. (j, goes, refl)) i g (λ h. (i, g, refl))
-
-  -- a ride that does not come back to c is all walked
+  -- a ride that does not come back to c is made to its end
   boarding-in : (m b : ℕ) → labelAt w x b < unreached → Ridden w b (suc m) → Clear w sure c b m
       → visit (b + suc m) (labelAt w x b + ridden w b (suc m)) ∈ boarding w c x b
   unfolding boarding
@@ -162,7 +158,7 @@ module _ (w : List ℕ) (ok : isTimetable w ≡ true) (c : ℕ) (x : List ℕ) w
       let few = goes-few w ok (b + m) (r m (omega arith)) in
       rw (lt-ltb (labelAt w x b) unreached h) (visits-in w sure c m (2048 - b) b (labelAt w x b) (omega arith) r clear)
 
-  module _ (a d : ℕ) (rev : List ℕ) (labels : Labelled w a d rev c x) where
+  module _ (a d : ℕ) (rev : List Transfer) (labels : Labelled w a d rev c x) where
     label-paid : (i : ℕ) → Goes w i → station w i ≡ c → labelAt w x i < unreached → Paid w a d rev i (labelAt w x i)
     label-paid i g at h =
         let opens = label-open i h in
@@ -272,7 +268,7 @@ module _ (w : List ℕ) (ok : isTimetable w ≡ true) (c : ℕ) (x : List ℕ) w
                   cast (again j (p + ridden w i (suc k)) s (record { goes = goes; opens = back .1 }) (back .0))
               by false e = cast (on j (p + ridden w i (suc k)) s goes e)
 
-      -- no one arrives for less than some walk does
+      -- no one arrives for less than one of these
       pub record Least (j p : ℕ) : Type 0 where
         pub paid : ℕ
         pub listed : visit j paid ∈ boardings w c x (waiting w c)

@@ -1,10 +1,10 @@
--- From the labels at one station to those at the next, by the walks: a label is the least that some arrival offers to
--- the departure it catches or to one before.
+-- From the labels at one station to those at the next: a label is the least that some arrival offers, by some way of
+-- changing, to the departure it catches or to one before.
 use mathlib.Core.Path.{_≡_, refl, sym, ap, subst, _∙_}
 use mathlib.Core.Bool.{Bool, true, false}
 use mathlib.Core.Logic.{_≢_, _⊎_, inl, inr}
 use mathlib.Core.List.{List, [], _∷_, _++_, List·Memᴰ·head as here, List·Memᴰ·tail as there}
-use Prim.Native.Nat.{ℕ, suc, _+_, _≤_, _<_, min}
+use Prim.Native.Nat.{ℕ, _+_, _≤_, _<_, min}
 use native.Mathlib.Decide.{ℕ-discrete}
 use native.Mathlib.Omega.{arith}
 use borrow.Author.Tests.{lt-ltb, le-ltb, eq-eqb, ne-eqb}
@@ -13,15 +13,16 @@ use lib.ListN.{length, getD}
 use Rattle.lists.specs.Lists.{_∈_, endWith, firstOf}
 use Rattle.lists.specs.Tests.{either, T-true}
 use Rattle.lists.specs.Members.{none, cons-cases}
-use Rattle.timetable.specs.Words.{stopAt, isTimetable}
+use Rattle.timetable.specs.Words.{stationCount, stopAt, isTimetable}
 use Rattle.connections.specs.Rides.{mayAlight}
-use Rattle.store_stops.specs.Stopwise.{station, depart, changePoints, unreached, nowhere, ready, Goes, Boards}
-use Rattle.store_stops.specs.Stopwise.{Catches}
+use Rattle.connections.specs.Connections.{Change, Transfer, transfer}
+use Rattle.store_stops.specs.Stopwise.{station, depart, unreached, nowhere, ready, waysOf, Goes, Boards, CatchesBy}
 use Rattle.store_stops.specs.Paid.{Paid, Labelled}
-use Rattle.store_stops.specs.LeastSettled.{arrived-behind}
-use Rattle.store_departures.specs.Order.{firstOr, waiting, soonest, catch, Waits}
+use Rattle.store_slots.specs.Slots.{transferAt}
+use Rattle.store_departures.specs.Order.{firstOr, waiting, catchBy, Waits}
 use Rattle.store_departures.specs.InOrderLaws.{caught-there}
 use Rattle.store_departures.specs.Parts.{waiting-in, waiting-out, waiting-behind, waiting-distinct}
+use Rattle.store_departures.specs.Held.{goes-few}
 use Rattle.store_points.specs.Lowered.{lowered, lowered-length, lowered-else, lowered-here}
 use Rattle.store_marks.specs.Arrays.{
   fill,
@@ -36,16 +37,37 @@ use Rattle.store_marks.specs.Arrays.{
 }
 use Rattle.store_marks.specs.Arrays.{Behind}
 use Rattle.store_marks.specs.Arrays.{behind-later, behind-in, From, fall-from}
-use Rattle.store_marks.specs.Walks.{Visit, visit, labelAt, boarding, boardings, run, rootLabel, offer}
-use Rattle.store_marks.specs.Walks.{rides, stepped}
-use Rattle.store_marks.specs.Held.{Changes, goes-few}
-use Rattle.store_marks.specs.Reaching.{boardsAt, boarding-stops, boardings-arrived, boardings-least}
+use Rattle.store_marks.specs.Riding.{Visit, visit, labelAt, boarding, boardings, run, rootLabel, offer}
+use Rattle.store_marks.specs.Riding.{rides, ridesBy, stepped}
+use Rattle.store_marks.specs.Reaching.{boardsAt, boardings-arrived, boardings-least}
 
--- from labels at station c to labels at station e: whatever the changes before were, if x has the labels at c behind
--- them, y has those at e behind them and a change at e, and still those at c
-pub record Steps (w : List ℕ) (c e : ℕ) (x y : List ℕ) : Type 0 where
-  pub next : (a d : ℕ) (rev : List ℕ) → boardsAt a rev ≡ c → Labelled w a d rev c x → Labelled w a d (e ∷ rev) e y
-  pub kept : (a d : ℕ) (rev : List ℕ) → Labelled w a d rev c x → Labelled w a d rev c y
+-- the stations of a change
+abbrev pub pair : (y x : ℕ) → Transfer
+pair y x = record { alighted = y; boarded = x }
+
+-- stations of a change, for one who boarded at station c and does not board there again
+pub record Leads (w : List ℕ) (c y e : ℕ) : Type 0 where
+  pub first : 1 ≤ y
+  pub last : y ≤ stationCount w
+  pub listed : e ≤ stationCount w
+  pub apart : c ≢ e
+
+-- from labels at station c to labels behind a change: whatever the changes before were, if x has the labels at c behind
+-- them, y has those behind them and this one, where it boards, and still those at c
+pub record Steps (w : List ℕ) (c : ℕ) (t : Transfer) (x y : List ℕ) : Type 0 where
+  pub next : (a d : ℕ) (rev : List Transfer) → boardsAt a rev ≡ c → Labelled w a d rev c x
+      → Labelled w a d (t ∷ rev) (t .boarded) y
+  pub kept : (a d : ℕ) (rev : List Transfer) → Labelled w a d rev c x → Labelled w a d rev c y
+
+-- where the change is that of a slot, and one boards at station e then
+pub record Stepped (w : List ℕ) (c slot e : ℕ) (x y : List ℕ) : Type 0 where
+  pub steps : Steps w c (transferAt w slot) x y
+  pub boards : e ≡ (transferAt w slot) .boarded
+
+-- these are the ways of making a change
+pub record Between (w : List ℕ) (t : Transfer) (ways : List Change) : Type 0 where
+  pub only : (way : Change) → way ∈ ways → (way ∈ waysOf w) × (transfer way ≡ t)
+  pub all : (way : Change) → way ∈ waysOf w → transfer way ≡ t → way ∈ ways
 
 pub run-append : (act : Visit → List ℕ → List ℕ) (l m : List Visit) (s : List ℕ)
     → run act (l ++ m) s ≡ run act m (run act l s)
@@ -54,42 +76,42 @@ run-append act [] m s = refl
 run-append act (v ∷ l) m s = run-append act l m (act v s)
 
 -- ---- what offers leave
-module _ (w caught : List ℕ) (c e : ℕ) where
+module _ (w : List ℕ) (way : Change) where
   abbrev act : Visit → List ℕ → List ℕ
-  act = offer w caught c e
+  act = offer w way
 
   abbrev to : Visit → ℕ
-  to v = getD caught (v .stop) 0
+  to v = catchBy w way (v .stop)
 
   abbrev cost : Visit → ℕ
-  cost v = v .paid + changePoints w e
+  cost v = v .paid + way .points
 
-  offer-there : (v : Visit) (x : List ℕ) → station w (v .stop) ≡ e → act v x ≡ lowered (to v) (cost v) x
+  offer-there : (v : Visit) (x : List ℕ) → station w (v .stop) ≡ way .from → act v x ≡ lowered (to v) (cost v) x
   unfolding offer
-  offer-there v x h = rw (eq-eqb (station w (v .stop)) e h)
+  offer-there v x h = rw (eq-eqb (station w (v .stop)) (way .from) h)
 
-  offer-elsewhere : (v : Visit) (x : List ℕ) → station w (v .stop) ≢ e → act v x ≡ x
+  offer-elsewhere : (v : Visit) (x : List ℕ) → station w (v .stop) ≢ way .from → act v x ≡ x
   unfolding offer
-  offer-elsewhere v x h = rw (ne-eqb (station w (v .stop)) e h)
+  offer-elsewhere v x h = rw (ne-eqb (station w (v .stop)) (way .from) h)
 
-  pub offer-length : (v : Visit) (x : List ℕ) → length (act v x) ≡ length x
+  offer-length : (v : Visit) (x : List ℕ) → length (act v x) ≡ length x
   offer-length v x =
-      elim (ℕ-discrete (station w (v .stop)) e) [
+      elim (ℕ-discrete (station w (v .stop)) (way .from)) [
         | yes h ↦ ap length (offer-there v x h) ∙ lowered-length x (to v) (cost v)
         | no h ↦ ap length (offer-elsewhere v x h)
       ]
 
   -- an offer to departure g
   record Offers (v : Visit) (g : ℕ) : Type 0 where
-    there-e : station w (v .stop) ≡ e
+    begins : station w (v .stop) ≡ way .from
     is : to v ≡ g
 
   offer-other : (v : Visit) (x : List ℕ) (g : ℕ) → ¬ Offers v g → getD (act v x) g 0 ≡ getD x g 0
   offer-other v x g none =
-      elim (ℕ-discrete (station w (v .stop)) e) [
+      elim (ℕ-discrete (station w (v .stop)) (way .from)) [
         | yes h ↦
             ap (λ l. getD l g 0) (offer-there v x h)
-            ∙ lowered-else x (to v) (cost v) g (λ q. none (record { there-e = h; is = sym q }))
+            ∙ lowered-else x (to v) (cost v) g (λ q. none (record { begins = h; is = sym q }))
         | no h ↦ ap (λ l. getD l g 0) (offer-elsewhere v x h)
       ]
 
@@ -97,18 +119,18 @@ module _ (w caught : List ℕ) (c e : ℕ) where
       → getD (act v x) g 0 ≡ min (getD x g 0) (cost v)
   offer-here v x g o h =
       subst (λ k. k < length x → getD (act v x) k 0 ≡ min (getD x k 0) (cost v)) (o .is)
-      (λ k. ap (λ l. getD l (to v) 0) (offer-there v x (o .there-e)) ∙ lowered-here x (to v) (cost v))
+      (λ k. ap (λ l. getD l (to v) 0) (offer-there v x (o .begins)) ∙ lowered-here x (to v) (cost v))
       h
 
   offers-or : (v : Visit) (g : ℕ) → Offers v g ⊎ (¬ Offers v g)
   offers-or v g =
-      elim (ℕ-discrete (station w (v .stop)) e) [
+      elim (ℕ-discrete (station w (v .stop)) (way .from)) [
         | yes h ↦
             elim (ℕ-discrete (to v) g) [
-              | yes k ↦ inl (record { there-e = h; is = k })
+              | yes k ↦ inl (record { begins = h; is = k })
               | no k ↦ inr (λ o. k (o .is))
             ]
-        | no h ↦ inr (λ o. h (o .there-e))
+        | no h ↦ inr (λ o. h (o .begins))
       ]
 
   offer-falls : (v : Visit) (x : List ℕ) (g : ℕ) → g < length x → getD (act v x) g 0 ≤ getD x g 0
@@ -118,7 +140,7 @@ module _ (w caught : List ℕ) (c e : ℕ) where
         | inr o ↦ omega (arith, offer-other v x g o)
       ]
 
-  pub run-length : (l : List Visit) (x : List ℕ) → length (run act l x) ≡ length x
+  run-length : (l : List Visit) (x : List ℕ) → length (run act l x) ≡ length x
   unfolding run
   run-length [] x = refl
   run-length (v ∷ l) x = run-length l (act v x) ∙ offer-length v x
@@ -191,6 +213,72 @@ module _ (w caught : List ℕ) (c e : ℕ) where
   run-other (v ∷ l) x g h =
       run-other l (act v x) g (λ u m. h u (there m)) ∙ offer-other v x g (h v (here refl))
 
+-- ---- and what those by several ways leave, one way after the other
+module _ (w : List ℕ) (all : List Visit) where
+  unfoldable offersBy : List Change → List ℕ → List ℕ
+  offersBy [] x = x
+  offersBy (way ∷ ways) x = offersBy ways (run (offer w way) all x)
+
+  by-length : (ways : List Change) (x : List ℕ) → length (offersBy ways x) ≡ length x
+  unfolding offersBy
+  by-length [] x = refl
+  by-length (way ∷ ways) x = by-length ways (run (offer w way) all x) ∙ run-length w way all x
+
+  by-falls : (ways : List Change) (x : List ℕ) (g : ℕ) → g < length x → getD (offersBy ways x) g 0 ≤ getD x g 0
+  unfolding offersBy
+  by-falls [] x g h = omega arith
+  by-falls (way ∷ ways) x g h =
+      omega (
+        arith,
+        by-falls ways (run (offer w way) all x) g (omega (arith, run-length w way all x)),
+        run-falls w way all x g h,
+      )
+
+  by-least : (ways : List Change) (x : List ℕ) (way : Change) (v : Visit) (g : ℕ) → g < length x → way ∈ ways
+      → v ∈ all → Offers w way v g → getD (offersBy ways x) g 0 ≤ cost w way v
+  unfolding offersBy
+  by-least [] x way v g h i m o = none i
+  by-least (u ∷ ways) x way v g h i m o = go (by-least ways (run (offer w u) all x) way v g inside)
+    where
+      inside : g < length (run (offer w u) all x)
+      inside = omega (arith, run-length w u all x)
+
+      go : (way ∈ ways → v ∈ all → Offers w way v g
+          → getD (offersBy ways (run (offer w u) all x)) g 0 ≤ cost w way v)
+          → getD (offersBy ways (run (offer w u) all x)) g 0 ≤ cost w way v
+      go ih =
+          cons-cases i
+          (λ q.
+          let first = run-least w way all x v g h m o in
+          let same = ap (λ z. getD (run (offer w z) all x) g 0) q in
+          omega (arith, by-falls ways (run (offer w u) all x) g inside))
+          (λ k. ih k m o)
+
+  record OfferedBy (ways : List Change) (g p : ℕ) : Type 0 where
+    way : Change
+    listed : way ∈ ways
+    offered : Offered w way all g p
+
+  by-from : (ways : List Change) (x : List ℕ) (g : ℕ) → g < length x
+      → (getD (offersBy ways x) g 0 ≡ getD x g 0) ⊎ OfferedBy ways g (getD (offersBy ways x) g 0)
+  unfolding offersBy
+  by-from [] x g h = inl refl
+  by-from (way ∷ ways) x g h =
+      elim (by-from ways (run (offer w way) all x) g (omega (arith, run-length w way all x))) [
+        | inl q ↦
+            elim (run-from w way all x g h) [
+              | inl r ↦ inl (q ∙ r)
+              | inr r ↦
+                  inr
+                  (record {
+                    way = way;
+                    listed = here refl;
+                    offered = subst (Offered w way all g) (sym q) r;
+                  })
+            ]
+        | inr o ↦ inr (record { way = o .way; listed = there (o .listed); offered = o .offered })
+      ]
+
 -- ---- the first that passes a test stands before all others that do
 first-behind : (dflt : ℕ) (p : ℕ → Bool) (l : List ℕ) (g : ℕ) → g ∈ l → T (p g)
     → Behind l (firstOr dflt (firstOf p l)) g
@@ -207,13 +295,13 @@ first-behind dflt p (k ∷ l) g m t = go (p k) refl (first-behind dflt p l g)
 
 module _ (w : List ℕ) (ok : isTimetable w ≡ true) where
   -- whoever can be boarded after an arrival stands behind the departure caught
-  pub catch-behind : (j g : ℕ) → Catches w j g → Behind (waiting w (station w j)) (catch w j) g
-  unfolding catch soonest
-  catch-behind j g h =
+  catch-behind : (way : Change) (j g : ℕ) → CatchesBy w way j g → Behind (waiting w (way .to)) (catchBy w way j) g
+  unfolding catchBy
+  catch-behind way j g h =
       rw (T-true (mayAlight (stopAt w j)) (h .alights))
-      (first-behind nowhere (λ k. leb (ready w j) (depart w k)) (waiting w (station w j)) g
-      (subst (λ s. g ∈ waiting w s) (h .here) (waiting-in w ok g (h .boards .goes)))
-      (le→leb (ready w j) (depart w g) (h .timely)))
+      (first-behind nowhere (λ k. leb (ready w j way) (depart w k)) (waiting w (way .to)) g
+      (subst (λ s. g ∈ waiting w s) (h .to) (waiting-in w ok g (h .boards .goes)))
+      (le→leb (ready w j way) (depart w g) (h .timely)))
 
   behind-departs : (s f g : ℕ) → Behind (waiting w s) f g → depart w f ≤ depart w g
   behind-departs s f g b =
@@ -261,7 +349,7 @@ module _ (w : List ℕ) (ok : isTimetable w ≡ true) (x : List ℕ) (long : len
       }
 
 -- ---- the labels of the next station
-labelled-same : (w : List ℕ) (a d : ℕ) (rev : List ℕ) (c : ℕ) (x y : List ℕ)
+labelled-same : (w : List ℕ) (a d : ℕ) (rev : List Transfer) (c : ℕ) (x y : List ℕ)
     → ((g : ℕ) → Goes w g → station w g ≡ c → getD y g 0 ≡ getD x g 0) → Labelled w a d rev c x → Labelled w a d rev c y
 labelled-same w a d rev c x y same labels =
     record {
@@ -279,72 +367,101 @@ boardings-same w c x y [] h = refl
 boardings-same w c x y (i ∷ l) h =
     rw (h i (here refl)) (ap (λ r. boarding w c x i ++ r) (boardings-same w c x y l (λ k m. h k (there m))))
 
-module _
-    (w : List ℕ)
-    (ok : isTimetable w ≡ true)
-    (caught : List ℕ)
-    (changes : Changes w caught)
-    (c e : ℕ)
-    (apart : c ≢ e)
-  where
-    -- after an arrival that offers departure g one can wait for it
-    offers-wait : (v : Visit) (g : ℕ) → (k : ℕ) × Goes w k × (suc k ≡ v .stop) → Goes w g → Offers w caught c e v g
-        → Waits w (v .stop) g
-    offers-wait v g s goes o =
-        let k = s .0 in
-        let there-g = changes .caught-is k (s .1) in
-        let is : catch w (suc k) ≡ g = sym there-g ∙ ap (λ j. getD caught j 0) (s .2) ∙ o .is in
-        let few = goes-few w ok g goes in
-        subst (λ j. Waits w j g) (s .2)
-        (subst (Waits w (suc k)) is (caught-there w ok (suc k) (omega arith)))
+pub pair-same : {y z x u : ℕ} → y ≡ z → x ≡ u → pair y x ≡ pair z u
+pair-same e f = cc (e, f)
 
-    -- the labels at c stand while walks from c make offers at e
-    ride-kept : (x : List ℕ) (i g : ℕ) → Goes w i → Goes w g → station w g ≡ c
-        → getD (run (offer w caught c e) (boarding w c x i) x) g 0 ≡ getD x g 0
-    ride-kept x i g from goes at =
-        run-other w caught c e (boarding w c x i) x g
-        (λ v m o.
-        let k = offers-wait v g (boarding-stops w ok c x i from v m) goes o in
-        apart (sym at ∙ k .here ∙ o .there-e))
+module _ (w : List ℕ) (ok : isTimetable w ≡ true) (c : ℕ) where
+  -- after an arrival that offers departure g one can wait for it
+  offers-wait : (way : Change) (v : Visit) (g : ℕ) → Goes w g → Offers w way v g → Waits w way (v .stop) g
+  offers-wait way v g goes o =
+      let few = goes-few w ok g goes in
+      let is = o .is in
+      subst (Waits w way (v .stop)) is (caught-there w ok way (v .stop) (omega arith))
 
-    rides-kept : (l x : List ℕ) → ((i : ℕ) → i ∈ l → Goes w i × (station w i ≡ c)) → (g : ℕ) → Goes w g
-        → station w g ≡ c → getD (rides w caught c e l x) g 0 ≡ getD x g 0
-    unfolding rides
-    rides-kept [] x h g goes at = refl
-    rides-kept (i ∷ l) x h g goes at =
-        rides-kept l (run (offer w caught c e) (boarding w c x i) x) (λ k m. h k (there m)) g goes at
-        ∙ ride-kept x i g (h i (here refl) .0) goes at
+  -- the labels at c stand while those who board there make offers elsewhere
+  module _ (way : Change) (apart : c ≢ way .to) where
+    run-kept : (l : List Visit) (x : List ℕ) (g : ℕ) → Goes w g → station w g ≡ c
+        → getD (run (offer w way) l x) g 0 ≡ getD x g 0
+    run-kept l x g goes at =
+        run-other w way l x g (λ v m o. apart (sym at ∙ offers-wait way v g goes o .there))
 
-    -- all walks at once
+    -- so all ride at once
     rides-run : (l x : List ℕ) → ((i : ℕ) → i ∈ l → Goes w i × (station w i ≡ c))
-        → rides w caught c e l x ≡ run (offer w caught c e) (boardings w c x l) x
+        → rides w c way l x ≡ run (offer w way) (boardings w c x l) x
     unfolding rides run boardings
     rides-run [] x h = refl
     rides-run (i ∷ l) x h =
-        let act = offer w caught c e in
+        let act = offer w way in
         let x′ = run act (boarding w c x i) x in
         let kept : (k : ℕ) → k ∈ l → getD x′ k 0 ≡ getD x k 0 =
-        (λ k m. ride-kept x i k (h i (here refl) .0) (h k (there m) .0) (h k (there m) .1)) in
+        (λ k m. run-kept (boarding w c x i) x k (h k (there m) .0) (h k (there m) .1)) in
         rides-run l x′ (λ k m. h k (there m))
         ∙ ap (λ r. run act r x′) (boardings-same w c x x′ l kept)
         ∙ sym (run-append act (boarding w c x i) (boardings w c x l) x)
 
-    module _ (x₀ : List ℕ) (long₀ : length x₀ ≡ 2048) where
+  abbrev Elsewhere : List Change → Type 0
+  Elsewhere ways = (way : Change) → way ∈ ways → c ≢ way .to
+
+  by-kept : (ways : List Change) → Elsewhere ways → (l : List Visit) (x : List ℕ) (g : ℕ) → Goes w g → station w g ≡ c
+      → getD (offersBy w l ways x) g 0 ≡ getD x g 0
+  unfolding offersBy
+  by-kept [] h l x g goes at = refl
+  by-kept (way ∷ ways) h l x g goes at =
+      by-kept ways (λ u m. h u (there m)) l (run (offer w way) l x) g goes at
+      ∙ run-kept way (h way (here refl)) l x g goes at
+
+  by-run : (ways : List Change) → Elsewhere ways → (x : List ℕ)
+      → ridesBy w c ways x ≡ offersBy w (boardings w c x (waiting w c)) ways x
+  unfolding ridesBy offersBy
+  by-run [] h x = refl
+  by-run (way ∷ ways) h x =
+      let all = boardings w c x (waiting w c) in
+      let x′ = run (offer w way) all x in
+      let out : (i : ℕ) → i ∈ waiting w c → Goes w i × (station w i ≡ c) = (λ i m. waiting-out w c i m) in
+      ap (ridesBy w c ways) (rides-run way (h way (here refl)) (waiting w c) x out)
+      ∙ by-run ways (λ u m. h u (there m)) x′
+      ∙ ap (λ l. offersBy w l ways x′)
+      (boardings-same w c x x′ (waiting w c)
+      (λ k m. run-kept way (h way (here refl)) all x k (out k m .0) (out k m .1)))
+
+  module _
+      (t : Transfer)
+      (apart : c ≢ t .boarded)
+      (ways : List Change)
+      (between : Between w t ways)
+      (x₀ : List ℕ)
+      (long₀ : length x₀ ≡ 2048)
+    where
+      abbrev e : ℕ
+      e = t .boarded
+
+      begins-at : (way : Change) → way ∈ ways → way .from ≡ t .alighted
+      begins-at way m = ap (λ (z : Transfer). z .alighted) (between .only way m .1)
+
+      leads-to : (way : Change) → way ∈ ways → way .to ≡ e
+      leads-to way m = ap (λ (z : Transfer). z .boarded) (between .only way m .1)
+
+      elsewhere : Elsewhere ways
+      elsewhere way m q = apart (q ∙ leads-to way m)
+
       abbrev start : List ℕ
       start = fill (λ g. unreached) (waiting w e) x₀
 
-      abbrev offered : List ℕ
-      offered = run (offer w caught c e) (boardings w c start (waiting w c)) start
+      abbrev all : List Visit
+      all = boardings w c start (waiting w c)
 
-      stepped-is : stepped w caught c e x₀ ≡ fall unreached (waiting w e) offered
+      abbrev offered : List ℕ
+      offered = offersBy w all ways start
+
+      stepped-is : stepped w c ways e x₀ ≡ fall unreached (waiting w e) offered
       unfolding stepped
-      stepped-is = ap (fall unreached (waiting w e)) (rides-run (waiting w c) start (λ i. waiting-out w c i))
+      stepped-is = ap (fall unreached (waiting w e)) (by-run ways elsewhere start)
 
       start-long : length start ≡ 2048
       start-long = fill-length (λ g. unreached) (waiting w e) x₀ ∙ long₀
 
       offered-long : length offered ≡ 2048
-      offered-long = run-length w caught c e (boardings w c start (waiting w c)) start ∙ start-long
+      offered-long = by-length w all ways start ∙ start-long
 
       start-word : (f : ℕ) → f ∈ waiting w e → getD start f 0 ≡ unreached
       start-word f m = fill-in (λ g. unreached) (waiting w e) x₀ f (waiting-within w ok x₀ long₀ e f m) m
@@ -354,22 +471,21 @@ module _
           fill-out (λ g. unreached) (waiting w e) x₀ g (λ m. apart (sym at ∙ waiting-out w e g m .1))
 
       -- only departures of e have got other labels
-      stepped-kept : (g : ℕ) → Goes w g → station w g ≡ c → getD (stepped w caught c e x₀) g 0 ≡ getD x₀ g 0
-      unfolding stepped
+      stepped-kept : (g : ℕ) → Goes w g → station w g ≡ c → getD (stepped w c ways e x₀) g 0 ≡ getD x₀ g 0
       stepped-kept g goes at =
-          fall-out (waiting w e) unreached (rides w caught c e (waiting w c) start) g
-          (λ m. apart (sym at ∙ waiting-out w e g m .1))
-          ∙ rides-kept (waiting w c) start (λ i. waiting-out w c i) g goes at
+          ap (λ l. getD l g 0) stepped-is
+          ∙ fall-out (waiting w e) unreached offered g (λ m. apart (sym at ∙ waiting-out w e g m .1))
+          ∙ by-kept ways elsewhere all start g goes at
           ∙ start-kept g goes at
 
-      pub step-kept : (a d : ℕ) (rev : List ℕ) → Labelled w a d rev c x₀
-          → Labelled w a d rev c (stepped w caught c e x₀)
-      step-kept a d rev labels = labelled-same w a d rev c x₀ (stepped w caught c e x₀) stepped-kept labels
+      pub step-kept : (a d : ℕ) (rev : List Transfer) → Labelled w a d rev c x₀
+          → Labelled w a d rev c (stepped w c ways e x₀)
+      step-kept a d rev labels = labelled-same w a d rev c x₀ (stepped w c ways e x₀) stepped-kept labels
 
       within : Within (waiting w e) offered
       within = waiting-within w ok offered offered-long e
 
-      module _ (a d : ℕ) (rev : List ℕ) (there-c : boardsAt a rev ≡ c) (labels₀ : Labelled w a d rev c x₀) where
+      module _ (a d : ℕ) (rev : List Transfer) (there-c : boardsAt a rev ≡ c) (labels₀ : Labelled w a d rev c x₀) where
         labels : Labelled w a d rev c start
         labels = labelled-same w a d rev c x₀ start start-kept labels₀
 
@@ -381,66 +497,81 @@ module _
 
         -- an offer to a departure is one to those behind it
         offer-paid : (f g p : ℕ) → Behind (waiting w e) f g → Boards w g → station w g ≡ e
-            → Offered w caught c e (boardings w c start (waiting w c)) f p → Paid w a d (e ∷ rev) g p
-        offer-paid f g p b boards at o =
+            → OfferedBy w all ways f p → Paid w a d (t ∷ rev) g p
+        offer-paid f g p b boards at r =
+            let way = r .way in
+            let o = r .offered in
             let v = o .v in
             let rode = boardings-arrived w ok c start a d rev labels v (o .listed) in
             let f-goes = waiting-out w e f (behind-in (waiting w e) f g b) .0 in
-            let k = offers-wait v f (arrived-behind w a d rev (v .stop) (v .paid) rode) f-goes (o .offers) in
+            let k = offers-wait way v f f-goes (o .offers) in
             let late = behind-departs w ok e f g b in
             record {
               at = v .stop;
               before = v .paid;
+              price = way .points;
               rode = rode;
-              here = o .offers .there-e;
+              here = o .offers .begins ∙ begins-at way (r .listed);
+              there = at;
               catches =
                   record {
-                    alights = k .alights;
-                    boards = boards;
-                    here = at ∙ sym (o .offers .there-e);
-                    timely = omega (arith, k .timely);
+                    way = way;
+                    catches =
+                        record {
+                          listed = between .only way (r .listed) .0;
+                          alights = k .alights;
+                          boards = boards;
+                          from = o .offers .begins;
+                          to = at ∙ sym (leads-to way (r .listed));
+                          timely = omega (arith, k .timely);
+                        };
+                    price = refl;
                   };
               total = o .is;
             }
 
-        attained : (g : ℕ) → Boards w g → station w g ≡ e → last g < unreached → Paid w a d (e ∷ rev) g (last g)
+        attained : (g : ℕ) → Boards w g → station w g ≡ e → last g < unreached → Paid w a d (t ∷ rev) g (last g)
         attained g boards at h =
             elim
             (fall-from (waiting w e) unreached offered g (waiting-distinct w ok e) within
             (e-waits g (boards .goes) at)) [
               | inl q ↦ absurd (omega arith)
-              | inr r ↦ subst (Paid w a d (e ∷ rev) g) (sym (r .is)) (from r)
+              | inr r ↦ subst (Paid w a d (t ∷ rev) g) (sym (r .is)) (from r)
             ]
           where
-            from : (r : From (waiting w e) offered g (last g)) → Paid w a d (e ∷ rev) g (getD offered (r .f) 0)
+            from : (r : From (waiting w e) offered g (last g)) → Paid w a d (t ∷ rev) g (getD offered (r .f) 0)
             from r =
                 let m = behind-in (waiting w e) (r .f) g (r .behind) in
                 let few = waiting-within w ok start start-long e (r .f) m in
                 let is = r .is in
-                elim (run-from w caught c e (boardings w c start (waiting w c)) start (r .f) few) [
+                elim (by-from w all ways start (r .f) few) [
                   | inl q ↦ absurd (omega (arith, start-word (r .f) m))
                   | inr o ↦ offer-paid (r .f) g (getD offered (r .f) 0) (r .behind) boards at o
                 ]
 
-        below : (g p : ℕ) → Boards w g → station w g ≡ e → Paid w a d (e ∷ rev) g p → last g ≤ p
+        below : (g p : ℕ) → Boards w g → station w g ≡ e → Paid w a d (t ∷ rev) g p → last g ≤ p
         below g p boards at h =
             let j = h .at in
-            let s = arrived-behind w a d rev j (h .before) (h .rode) in
             let l = boardings-least w ok c start a d rev labels there-c j (h .before) (h .rode) in
-            let f = catch w j in
-            let b = subst (λ s. Behind (waiting w s) f g) (h .here) (catch-behind w ok j g (h .catches)) in
-            let is = subst (λ j. getD caught j 0 ≡ catch w j) (s .2) (changes .caught-is (s .0) (s .1)) in
+            let way = h .catches .way in
+            let by = h .catches .catches in
+            let f = catchBy w way j in
+            let leads : way .to ≡ e = sym (by .to) ∙ h .there in
+            let is : transfer way ≡ t = pair-same (sym (by .from) ∙ h .here) leads in
+            let m = between .all way (by .listed) is in
+            let b = subst (λ s. Behind (waiting w s) f g) leads (catch-behind w ok way j g by) in
             let few = waiting-within w ok start start-long e f (behind-in (waiting w e) f g b) in
             omega (
               arith,
               fall-below (waiting w e) unreached offered f g (waiting-distinct w ok e) within b,
-              run-least w caught c e (boardings w c start (waiting w c)) start (visit j (l .paid)) f few (l .listed)
-                  (record { there-e = h .here; is = is }),
+              by-least w all ways start way (visit j (l .paid)) f few m (l .listed)
+                  (record { begins = by .from; is = refl }),
               l .least,
               h .total,
+              h .catches .price,
             )
 
-        pub step-labelled : Labelled w a d (e ∷ rev) e (stepped w caught c e x₀)
+        pub step-labelled : Labelled w a d (t ∷ rev) e (stepped w c ways e x₀)
         step-labelled =
             rw stepped-is
             (record {

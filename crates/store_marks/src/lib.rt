@@ -1,21 +1,22 @@
-// The labels of a node, for one minute: for each departure of the node's station the least that riders along the node's
-// changes have paid who can board there. And the node's marks: the stations where such riders end well, and those where
-// they change and can still end well.
+// The labels of a node, for one minute: for each departure of the station that the node boards at the least that riders
+// along the node's changes have paid who can board there. And the node's marks: the stations where such riders end
+// well, and the changes after which they can still end well.
 ghost use mathlib.Core.Path.{_≡_};
-ghost use mathlib.Core.Bool.{true, cond};
-ghost use mathlib.Core.Logic.{_≢_};
+ghost use mathlib.Core.Bool.{true};
 ghost use mathlib.Core.List.{[]};
 ghost use Prim.Native.Nat.{_+_, _-_, _≤_, _<_};
-ghost use lib.Dec.{ltb, eqb};
+ghost use lib.Dec.{ltb};
 ghost use lib.ListN.{length, getD};
 ghost use lib.Seq.{slice};
-ghost use Rattle.timetable.specs.Words.{stationCount, stopAt, isTimetable};
-ghost use Rattle.store_stops.specs.Stopwise.{station, changePoints, unreached, Goes};
+ghost use Rattle.timetable.specs.Words.{stationCount, walkCount, walkAt, stopAt, isTimetable};
+ghost use Rattle.connections.specs.Connections.{onFoot};
+ghost use Rattle.store_stops.specs.Stopwise.{station, stay, unreached, Goes};
 ghost use Rattle.store_stops.specs.Paid.{Labelled};
-ghost use Rattle.store_departures.specs.Order.{waiting};
-ghost use Rattle.store_points.specs.Lowered.{lowered};
+ghost use Rattle.store_slots.specs.Slots.{hereSlot, walkSlot, walksFrom};
+ghost use Rattle.store_departures.specs.Order.{waiting, catchBy};
+ghost use Rattle.store_departures.specs.Held.{Departures};
 ghost use Rattle.store_marks.specs.Arrays.{fill, fall, raised};
-ghost use Rattle.store_marks.specs.Walks.{
+ghost use Rattle.store_marks.specs.Riding.{
   comesBack,
   labelAt,
   onwardPoints,
@@ -26,17 +27,26 @@ ghost use Rattle.store_marks.specs.Walks.{
   rootLabel,
   offer as offerOf,
   rides,
-  flag,
-  endsWell,
-  changesWell,
+  ridesBy,
+  staying,
+  stays,
+  foots,
+  raiseTry,
+  raiseAll,
+  changeTry,
+  walkTries,
+  flagArc,
+  flagKids,
 };
-ghost use Rattle.store_marks.specs.Held.{Departures, Changes, Inside};
-ghost use Rattle.store_marks.specs.Stepping.{Steps};
+ghost use Rattle.store_marks.specs.Held.{Changes, Inside, Arrival, Way};
+ghost use Rattle.store_marks.specs.Ways.{leadsTo, Sought, RidesBetween};
+ghost use Rattle.store_marks.specs.Stepping.{pair, Leads, Steps, Stepped};
 ghost use Rattle.store_marks.specs.Marking.{ArcsMarked, KidsMarked};
-ghost use Rattle.store_marks.specs.Paths.{changed, reached, Path};
+ghost use Rattle.store_marks.specs.Paths.{Onward, changed, reached, Path};
 use results::Points;
 use store_points::UNREACHED;
 use timetable::Stop;
+use timetable::Walk;
 
 // More than any ride from a stop to the next costs.
 const NO_MORE: Points = Points(101);
@@ -102,15 +112,65 @@ fn clear(chain: &[u16], begin: usize, end: usize, x: &mut [u32])
     }
 }
 
-// Who arrives at stop j, at station b, can change there for v if b is e.
-fn offer(catch: &[u16], e: usize, b: usize, j: usize, v: Points, x: &mut [u32])
-    requires { ⌜ j < length (now catch) ⌝ }
-    ensures { λ _. ⌜ now (x .exit)
-        ≡ cond (eqb b e) (lowered (getD (now (catch .entry)) j 0) (v .0) (now (x .entry))) (now (x .entry)) ⌝ }
+// The change at station y itself.
+fn own_way(words: &[u16], y: usize) -> Walk
+    requires { ⌜ (16384 ≤ length (now words)) × (1 ≤ y) × (y ≤ 64) ⌝ }
+    ensures { λ r. ⌜ r ≡ staying (now (words .entry)) y ⌝ }
+{
+    let s = timetable::station_at(words, y - 1);
+    Walk {
+        from: y as u32,
+        to: y as u32,
+        minutes: s.minutes,
+        points: s.points,
+    }
+}
+
+// The departure that a way of changing reaches after the arrival at stop j; for a change at the station itself it
+// stands in catch.
+fn caught_at(
+    words: &[u16],
+    chain: &[u16],
+    first: &[u32],
+    catch: &[u16],
+    own: bool,
+    way: Walk,
+    j: usize,
+) -> usize
+    requires { ⌜ (16384 ≤ length (now words)) × (isTimetable (now words) ≡ true) ⌝ }
+    requires { ⌜ Departures (now words) (now chain) (now first) × Changes (now words) (now catch) ⌝ }
+    requires { ⌜ Way (now words) own way × Arrival (now words) j × (station (now words) j ≡ way .from) ⌝ }
+    ensures { λ r. ⌜ r ≡ catchBy (now (words .entry)) (onFoot way) j ⌝ }
+{
+    if own {
+        return words::word(catch, j) as usize;
+    }
+    store_departures::catch_on_foot(words, chain, first, way, j) as usize
+}
+
+// One who arrives at stop j, at station b, having paid y, can change there, if that is where the way begins.
+fn offer(
+    words: &[u16],
+    chain: &[u16],
+    first: &[u32],
+    catch: &[u16],
+    own: bool,
+    way: Walk,
+    b: usize,
+    j: usize,
+    y: Points,
+    x: &mut [u32],
+)
+    requires { ⌜ (16384 ≤ length (now words)) × (isTimetable (now words) ≡ true) ⌝ }
+    requires { ⌜ Departures (now words) (now chain) (now first) × Changes (now words) (now catch) ⌝ }
+    requires { ⌜ Way (now words) own way × Arrival (now words) j × (b ≡ station (now words) j) ⌝ }
+    requires { ⌜ y .0 < 4000000 ⌝ }
+    ensures { λ _. ⌜ now (x .exit) ≡ offerOf (now (words .entry)) (onFoot way) (visit j (y .0)) (now (x .entry)) ⌝ }
     ensures { λ _. ⌜ length (now (x .exit)) ≡ length (now (x .entry)) ⌝ }
 {
-    if b == e {
-        store_points::lower(x, words::word(catch, j) as usize, v);
+    if b == way.from as usize {
+        let g = caught_at(words, chain, first, catch, own, way, j);
+        store_points::lower(x, g, query_minutes::sum(y, store_points::of_walk(way)));
     }
 }
 
@@ -138,63 +198,74 @@ fn onward(s: Stop, c: usize) -> Points
     store_points::of_ride(s)
 }
 
-// One who boarded at station c arrives at stop j, having paid y, and can change at station e, which costs so much.
-// Returns the points of the ride onward.
+// One who boarded at station c arrives at stop j, having paid y, and can change so. Returns the points of the ride
+// onward.
 fn ride_turn(
     words: &[u16],
+    chain: &[u16],
+    first: &[u32],
     catch: &[u16],
+    own: bool,
+    way: Walk,
     c: usize,
-    e: usize,
-    cost: Points,
     j: usize,
     y: Points,
     x: &mut [u32],
 ) -> Points
-    requires { ⌜ (16384 ≤ length (now words)) × (isTimetable (now words) ≡ true) × (j < 2048) ⌝ }
-    requires { ⌜ (cost .0 ≡ changePoints (now words) e) × (cost .0 ≤ 1000) × (y .0 < 4000000) ⌝ }
-    requires { ⌜ (length (now catch) ≡ 2048) × (length (now x) ≡ 2048) ⌝ }
-    ensures { λ _. ⌜ now (x .exit)
-        ≡ offerOf (now (words .entry)) (now (catch .entry)) c e (visit j (y .0)) (now (x .entry)) ⌝ }
+    requires { ⌜ (16384 ≤ length (now words)) × (isTimetable (now words) ≡ true) ⌝ }
+    requires { ⌜ Departures (now words) (now chain) (now first) × Changes (now words) (now catch) ⌝ }
+    requires { ⌜ Way (now words) own way × Arrival (now words) j × (y .0 < 4000000) ⌝ }
+    requires { ⌜ length (now x) ≡ 2048 ⌝ }
+    ensures { λ _. ⌜ now (x .exit) ≡ offerOf (now (words .entry)) (onFoot way) (visit j (y .0)) (now (x .entry)) ⌝ }
     ensures { λ r. ⌜ r .0 ≡ onwardPoints (stopAt (now (words .entry)) j) c ⌝ }
     ensures { λ _. ⌜ length (now (x .exit)) ≡ 2048 ⌝ }
 {
     let s = timetable::stop_at(words, j);
     offer(
+        words,
+        chain,
+        first,
         catch,
-        e,
+        own,
+        way,
         s.station as usize,
         j,
-        query_minutes::sum(y, cost),
+        y,
         x,
     );
     onward(s, c)
 }
 
 // One who boards at stop i, at station c, having paid so much, rides on until the trip ends or comes back to c, and can
-// change at station e.
-fn ride_on(words: &[u16], catch: &[u16], c: usize, e: usize, i: usize, paid: Points, x: &mut [u32])
-    requires { ⌜ (16384 ≤ length (now words))
-        × (isTimetable (now words) ≡ true)
-        × Goes (now words) i
-        × (i < 2048)
-        × (paid .0 < unreached)
-        × (1 ≤ e)
-        × (e ≤ stationCount (now words))
-        × (length (now catch) ≡ 2048)
-        × (length (now x) ≡ 2048) ⌝ }
+// change so on the way.
+fn ride_on(
+    words: &[u16],
+    chain: &[u16],
+    first: &[u32],
+    catch: &[u16],
+    own: bool,
+    way: Walk,
+    c: usize,
+    i: usize,
+    paid: Points,
+    x: &mut [u32],
+)
+    requires { ⌜ (16384 ≤ length (now words)) × (isTimetable (now words) ≡ true) ⌝ }
+    requires { ⌜ Departures (now words) (now chain) (now first) × Changes (now words) (now catch) ⌝ }
+    requires { ⌜ Way (now words) own way × Goes (now words) i × (i < 2048) × (paid .0 < unreached) ⌝ }
+    requires { ⌜ length (now x) ≡ 2048 ⌝ }
     ensures { λ _. ⌜ now (x .exit)
-        ≡ run (offerOf (now (words .entry)) (now (catch .entry)) c e)
+        ≡ run (offerOf (now (words .entry)) (onFoot way))
         (visits (now (words .entry)) c (2048 - i) i (paid .0)) (now (x .entry)) ⌝ }
     ensures { λ _. ⌜ length (now (x .exit)) ≡ 2048 ⌝ }
 {
-    let cost = store_points::of_change(words, e);
     let mut y = paid;
     let mut ride = store_points::of_ride(timetable::stop_at(words, i));
     let mut j = i;
     loop {
         y = query_minutes::sum(y, ride);
         j += 1;
-        ride = ride_turn(words, catch, c, e, cost, j, y, x);
+        ride = ride_turn(words, chain, first, catch, own, way, c, j, y, x);
         if query_minutes::same(ride, NO_MORE) {
             return;
         }
@@ -213,13 +284,24 @@ fn label_at(words: &[u16], x: &[u32], i: usize) -> Points
     UNREACHED
 }
 
-// Who can board at stop i, at station c, rides on and can change at station e.
-fn ride_to(words: &[u16], catch: &[u16], c: usize, e: usize, i: usize, x: &mut [u32])
-    requires { ⌜ (16384 ≤ length (now words)) × (isTimetable (now words) ≡ true) × Goes (now words) i ⌝ }
-    requires { ⌜ (1 ≤ e) × (e ≤ stationCount (now words)) × (i < 2048) ⌝ }
-    requires { ⌜ (length (now catch) ≡ 2048) × (length (now x) ≡ 2048) ⌝ }
+// Who can board at stop i, at station c, rides on and can change so.
+fn ride_to(
+    words: &[u16],
+    chain: &[u16],
+    first: &[u32],
+    catch: &[u16],
+    own: bool,
+    way: Walk,
+    c: usize,
+    i: usize,
+    x: &mut [u32],
+)
+    requires { ⌜ (16384 ≤ length (now words)) × (isTimetable (now words) ≡ true) ⌝ }
+    requires { ⌜ Departures (now words) (now chain) (now first) × Changes (now words) (now catch) ⌝ }
+    requires { ⌜ Way (now words) own way × Goes (now words) i × (i < 2048) ⌝ }
+    requires { ⌜ length (now x) ≡ 2048 ⌝ }
     ensures { λ _. ⌜ now (x .exit)
-        ≡ run (offerOf (now (words .entry)) (now (catch .entry)) c e)
+        ≡ run (offerOf (now (words .entry)) (onFoot way))
         (boarding (now (words .entry)) c (now (x .entry)) i) (now (x .entry)) ⌝ }
     ensures { λ _. ⌜ length (now (x .exit)) ≡ 2048 ⌝ }
 {
@@ -227,7 +309,7 @@ fn ride_to(words: &[u16], catch: &[u16], c: usize, e: usize, i: usize, x: &mut [
     if query_minutes::at_least(paid, UNREACHED) {
         return;
     }
-    ride_on(words, catch, c, e, i, paid, x);
+    ride_on(words, chain, first, catch, own, way, c, i, paid, x);
 }
 
 // All who board at station c.
@@ -236,24 +318,140 @@ fn ride_all(
     chain: &[u16],
     first: &[u32],
     catch: &[u16],
+    own: bool,
+    way: Walk,
     c: usize,
-    e: usize,
     x: &mut [u32],
 )
     requires { ⌜ (16384 ≤ length (now words)) × (isTimetable (now words) ≡ true) ⌝ }
-    requires { ⌜ Departures (now words) (now chain) (now first) × (length (now catch) ≡ 2048) ⌝ }
-    requires { ⌜ (c ≤ stationCount (now words)) × (1 ≤ e) × (e ≤ stationCount (now words)) ⌝ }
+    requires { ⌜ Departures (now words) (now chain) (now first) × Changes (now words) (now catch) ⌝ }
+    requires { ⌜ Way (now words) own way × (c ≤ stationCount (now words)) ⌝ }
     requires { ⌜ length (now x) ≡ 2048 ⌝ }
     ensures { λ _. ⌜ now (x .exit)
-        ≡ rides (now (words .entry)) (now (catch .entry)) c e (waiting (now (words .entry)) c) (now (x .entry)) ⌝ }
+        ≡ rides (now (words .entry)) c (onFoot way) (waiting (now (words .entry)) c) (now (x .entry)) ⌝ }
     ensures { λ _. ⌜ length (now (x .exit)) ≡ 2048 ⌝ }
 {
     let mut k = begin_of(first, c);
     let end = begin_of(first, c + 1);
     while k < end {
-        ride_to(words, catch, c, e, words::word(chain, k) as usize, x);
+        ride_to(
+            words,
+            chain,
+            first,
+            catch,
+            own,
+            way,
+            c,
+            words::word(chain, k) as usize,
+            x,
+        );
         k += 1;
     }
+}
+
+// All who board at station c and change at station y itself, if one boards there again.
+fn ride_own(
+    words: &[u16],
+    chain: &[u16],
+    first: &[u32],
+    catch: &[u16],
+    c: usize,
+    y: usize,
+    e: usize,
+    x: &mut [u32],
+)
+    requires { ⌜ (16384 ≤ length (now words)) × (isTimetable (now words) ≡ true) ⌝ }
+    requires { ⌜ Departures (now words) (now chain) (now first) × Changes (now words) (now catch) ⌝ }
+    requires { ⌜ (c ≤ stationCount (now words)) × (1 ≤ y) × (y ≤ stationCount (now words)) ⌝ }
+    requires { ⌜ length (now x) ≡ 2048 ⌝ }
+    ensures { λ _. ⌜ now (x .exit)
+        ≡ ridesBy (now (words .entry)) c (stays (now (words .entry)) y e) (now (x .entry)) ⌝ }
+    ensures { λ _. ⌜ length (now (x .exit)) ≡ 2048 ⌝ }
+{
+    if y == e {
+        ride_all(words, chain, first, catch, true, own_way(words, y), c, x);
+    }
+}
+
+// Whether walk k leads to station e.
+fn leads_to(words: &[u16], k: usize, e: usize) -> bool
+    requires { ⌜ (16384 ≤ length (now words)) × (isTimetable (now words) ≡ true) × (k < 256) ⌝ }
+    ensures { λ r. ⌜ r ≡ leadsTo (now (words .entry)) k e ⌝ }
+{
+    timetable::walk_at(words, k).to as usize == e
+}
+
+// The walk from station y to station e; the number of walks from stations up to y if there is none.
+fn walk_between(words: &[u16], y: usize, e: usize) -> usize
+    requires { ⌜ (16384 ≤ length (now words)) × (isTimetable (now words) ≡ true) ⌝ }
+    requires { ⌜ (1 ≤ y) × (y ≤ stationCount (now words)) ⌝ }
+    ensures { λ r. ⌜ Sought (now (words .entry)) y e r ⌝ }
+{
+    let end = timetable::walks_to(words, y);
+    let mut k = timetable::walks_to(words, y - 1);
+    while k < end {
+        if leads_to(words, k, e) {
+            return k;
+        }
+        k += 1;
+    }
+    end
+}
+
+// All who board at station c and change by walk k, if it is one of those from station y.
+fn ride_walk(
+    words: &[u16],
+    chain: &[u16],
+    first: &[u32],
+    catch: &[u16],
+    c: usize,
+    y: usize,
+    k: usize,
+    x: &mut [u32],
+)
+    requires { ⌜ (16384 ≤ length (now words)) × (isTimetable (now words) ≡ true) ⌝ }
+    requires { ⌜ Departures (now words) (now chain) (now first) × Changes (now words) (now catch) ⌝ }
+    requires { ⌜ (c ≤ stationCount (now words)) × (1 ≤ y) × (y ≤ stationCount (now words)) ⌝ }
+    requires { ⌜ length (now x) ≡ 2048 ⌝ }
+    ensures { λ _. ⌜ now (x .exit)
+        ≡ ridesBy (now (words .entry)) c (foots (now (words .entry)) y k) (now (x .entry)) ⌝ }
+    ensures { λ _. ⌜ length (now (x .exit)) ≡ 2048 ⌝ }
+{
+    if k < timetable::walks_to(words, y) {
+        ride_all(
+            words,
+            chain,
+            first,
+            catch,
+            false,
+            timetable::walk_at(words, k),
+            c,
+            x,
+        );
+    }
+}
+
+// All who board at station c and change from station y to station e, in every way.
+fn ride_ways(
+    words: &[u16],
+    chain: &[u16],
+    first: &[u32],
+    catch: &[u16],
+    c: usize,
+    y: usize,
+    e: usize,
+    x: &mut [u32],
+)
+    requires { ⌜ (16384 ≤ length (now words)) × (isTimetable (now words) ≡ true) ⌝ }
+    requires { ⌜ Departures (now words) (now chain) (now first) × Changes (now words) (now catch) ⌝ }
+    requires { ⌜ (c ≤ stationCount (now words)) × (1 ≤ y) × (y ≤ stationCount (now words)) ⌝ }
+    requires { ⌜ length (now x) ≡ 2048 ⌝ }
+    ensures { λ _. ⌜ RidesBetween (now (words .entry)) c y e (now (x .entry)) (now (x .exit)) ⌝ }
+    ensures { λ _. ⌜ length (now (x .exit)) ≡ 2048 ⌝ }
+{
+    let k = walk_between(words, y, e);
+    ride_own(words, chain, first, catch, c, y, e, x);
+    ride_walk(words, chain, first, catch, c, y, k, x);
 }
 
 // Who can board at one of the places begin up to end can board at those after it.
@@ -272,28 +470,76 @@ fn settle(chain: &[u16], begin: usize, end: usize, x: &mut [u32])
     }
 }
 
-// From the labels at station c to those at station e, one change later; those at c stay.
+// From the labels at station c to those at station e, behind one change more, from station y to e; those at c stay.
+fn step_between(
+    words: &[u16],
+    chain: &[u16],
+    first: &[u32],
+    catch: &[u16],
+    c: usize,
+    y: usize,
+    e: usize,
+    x: &mut [u32],
+)
+    requires { ⌜ Leads (now words) c y e × (length (now x) ≡ 2048) ⌝ }
+    requires { ⌜ (16384 ≤ length (now words)) × (isTimetable (now words) ≡ true) ⌝ }
+    requires { ⌜ Departures (now words) (now chain) (now first) × Changes (now words) (now catch) ⌝ }
+    requires { ⌜ c ≤ stationCount (now words) ⌝ }
+    ensures { λ _. ⌜ Steps (now (words .entry)) c (pair y e) (now (x .entry)) (now (x .exit)) ⌝ }
+    ensures { λ _. ⌜ length (now (x .exit)) ≡ 2048 ⌝ }
+{
+    let begin = begin_of(first, e);
+    let end = begin_of(first, e + 1);
+    clear(chain, begin, end, x);
+    ride_ways(words, chain, first, catch, c, y, e, x);
+    settle(chain, begin, end, x);
+}
+
+// From the labels at station c to those behind one change more, that of the slot; those at c stay. Returns the station
+// where one boards after the change.
 pub fn label_step(
     words: &[u16],
     chain: &[u16],
     first: &[u32],
     catch: &[u16],
     c: usize,
-    e: usize,
+    slot: usize,
     x: &mut [u32],
-)
+) -> usize
     requires { ⌜ (16384 ≤ length (now words)) × (isTimetable (now words) ≡ true) ⌝ }
     requires { ⌜ Departures (now words) (now chain) (now first) × Changes (now words) (now catch) ⌝ }
-    requires { ⌜ (c ≤ stationCount (now words)) × (1 ≤ e) × (e ≤ stationCount (now words)) × (c ≢ e) ⌝ }
+    requires { ⌜ (c ≤ stationCount (now words)) × Onward (now words) c slot ⌝ }
     requires { ⌜ length (now x) ≡ 2048 ⌝ }
-    ensures { λ _. ⌜ Steps (now (words .entry)) c e (now (x .entry)) (now (x .exit)) ⌝ }
-    ensures { λ _. ⌜ length (now (x .exit)) ≡ 2048 ⌝ }
+    ensures { λ r. ⌜ Stepped (now (words .entry)) c slot r (now (x .entry)) (now (x .exit)) ⌝ }
+    ensures { λ r. ⌜ (r ≤ stationCount (now (words .entry))) × (length (now (x .exit)) ≡ 2048) ⌝ }
 {
-    let begin = begin_of(first, e);
-    let end = begin_of(first, e + 1);
-    clear(chain, begin, end, x);
-    ride_all(words, chain, first, catch, c, e, x);
-    settle(chain, begin, end, x);
+    let t = store_slots::transfer_at(words, slot);
+    let e = t.boarded as usize;
+    step_between(words, chain, first, catch, c, t.alighted as usize, e, x);
+    e
+}
+
+// The same for the change at place m of a path, which has the slots of its changes.
+fn step_along(
+    words: &[u16],
+    chain: &[u16],
+    first: &[u32],
+    catch: &[u16],
+    path: &[u16],
+    m: usize,
+    c: usize,
+    x: &mut [u32],
+) -> usize
+    requires { ⌜ (16384 ≤ length (now words)) × (isTimetable (now words) ≡ true) ⌝ }
+    requires { ⌜ Departures (now words) (now chain) (now first) × Changes (now words) (now catch) ⌝ }
+    requires { ⌜ (c ≤ stationCount (now words)) × Onward (now words) c (getD (now path) m 0) ⌝ }
+    requires { ⌜ (m < length (now path)) × (length (now x) ≡ 2048) ⌝ }
+    ensures { λ r. ⌜ Stepped (now (words .entry)) c (getD (now (path .entry)) m 0) r
+        (now (x .entry)) (now (x .exit)) ⌝ }
+    ensures { λ r. ⌜ (r ≤ stationCount (now (words .entry))) × (length (now (x .exit)) ≡ 2048) ⌝ }
+{
+    let slot = words::word(path, m) as usize;
+    label_step(words, chain, first, catch, c, slot, x)
 }
 
 // The labels after the first k changes of a path.
@@ -312,31 +558,29 @@ pub fn label_path(
     requires { ⌜ Departures (now words) (now chain) (now first) × Changes (now words) (now catch) ⌝ }
     requires { ⌜ (source ≤ stationCount (now words)) × Path (now words) source (now path) k ⌝ }
     requires { ⌜ length (now x) ≡ 2048 ⌝ }
-    ensures { λ _. ⌜ Labelled (now (words .entry)) source d (changed k (now (path .entry)))
-        (reached source (now (path .entry)) k) (now (x .exit)) ⌝ }
+    ensures { λ _. ⌜ Labelled (now (words .entry)) source d (changed (now (words .entry)) k (now (path .entry)))
+        (reached (now (words .entry)) source (now (path .entry)) k) (now (x .exit)) ⌝ }
     ensures { λ _. ⌜ length (now (x .exit)) ≡ 2048 ⌝ }
 {
     label_root(words, chain, first, source, d, x);
     let mut c = source;
     let mut m = 0;
     while m < k {
-        let e = words::word(path, m) as usize;
-        label_step(words, chain, first, catch, c, e, x);
-        c = e;
+        c = step_along(words, chain, first, catch, path, m, c, x);
         m += 1;
     }
 }
 
 // ---- the marks of a node
 
-// Raises the flag of station b if less than the bound was paid.
-fn raise(flags: &mut [u8], b: usize, paid: Points, bound: Points)
-    requires { ⌜ (1 ≤ b) × (b ≤ 64) × (length (now flags) ≡ 64) ⌝ }
-    ensures { λ _. ⌜ now (flags .exit) ≡ raised (ltb (paid .0) (bound .0)) (b - 1) (now (flags .entry)) ⌝ }
-    ensures { λ _. ⌜ length (now (flags .exit)) ≡ 64 ⌝ }
+// Raises the flag at place k if less than the bound was paid.
+fn raise(flags: &mut [u8], k: usize, paid: Points, bound: Points)
+    requires { ⌜ k < length (now flags) ⌝ }
+    ensures { λ _. ⌜ now (flags .exit) ≡ raised (ltb (paid .0) (bound .0)) k (now (flags .entry)) ⌝ }
+    ensures { λ _. ⌜ length (now (flags .exit)) ≡ length (now (flags .entry)) ⌝ }
 {
     if query_minutes::less(paid, bound) {
-        flags[b - 1] = 1;
+        flags[k] = 1;
     }
 }
 
@@ -350,10 +594,119 @@ fn peek(q: &[u32], f: usize) -> Points
     Points(0)
 }
 
+// One who arrives at stop j, at station b, having paid y, changes at the station itself.
+fn mark_own(words: &[u16], catch: &[u16], q: &[u32], b: usize, j: usize, y: Points, kids: &mut [u8])
+    requires { ⌜ (16384 ≤ length (now words)) × (isTimetable (now words) ≡ true) ⌝ }
+    requires { ⌜ Changes (now words) (now catch) × Arrival (now words) j × (b ≡ station (now words) j) ⌝ }
+    requires { ⌜ (y .0 < 4000000) × (length (now kids) ≡ 320) ⌝ }
+    ensures { λ _. ⌜ now (kids .exit)
+        ≡ raiseTry (changeTry (now (words .entry)) (now (q .entry)) (visit j (y .0))
+        (stay (now (words .entry)) (station (now (words .entry)) j)) (hereSlot (station (now (words .entry)) j)))
+        (now (kids .entry)) ⌝ }
+    ensures { λ _. ⌜ length (now (kids .exit)) ≡ length (now (kids .entry)) ⌝ }
+{
+    let paid = query_minutes::sum(y, store_points::of_change(words, b));
+    raise(kids, b - 1, paid, peek(q, words::word(catch, j) as usize));
+}
+
+// One who arrives at stop j, having paid y, changes by walk k.
+fn mark_walk(
+    words: &[u16],
+    chain: &[u16],
+    first: &[u32],
+    q: &[u32],
+    k: usize,
+    j: usize,
+    y: Points,
+    kids: &mut [u8],
+)
+    requires { ⌜ (16384 ≤ length (now words)) × (isTimetable (now words) ≡ true) ⌝ }
+    requires { ⌜ Departures (now words) (now chain) (now first) × Arrival (now words) j ⌝ }
+    requires { ⌜ (k < walkCount (now words)) × (y .0 < 4000000) × (length (now kids) ≡ 320) ⌝ }
+    ensures { λ _. ⌜ now (kids .exit)
+        ≡ raiseTry (changeTry (now (words .entry)) (now (q .entry)) (visit j (y .0))
+        (onFoot (walkAt (now (words .entry)) k)) (walkSlot (now (words .entry)) k)) (now (kids .entry)) ⌝ }
+    ensures { λ _. ⌜ length (now (kids .exit)) ≡ length (now (kids .entry)) ⌝ }
+{
+    let walk = timetable::walk_at(words, k);
+    let g = store_departures::catch_on_foot(words, chain, first, walk, j) as usize;
+    let paid = query_minutes::sum(y, store_points::of_walk(walk));
+    raise(kids, store_slots::walk_slot(words, k), paid, peek(q, g));
+}
+
+// And by each walk from station b.
+fn mark_walks(
+    words: &[u16],
+    chain: &[u16],
+    first: &[u32],
+    q: &[u32],
+    b: usize,
+    j: usize,
+    y: Points,
+    kids: &mut [u8],
+)
+    requires { ⌜ (16384 ≤ length (now words)) × (isTimetable (now words) ≡ true) ⌝ }
+    requires { ⌜ Departures (now words) (now chain) (now first) × Arrival (now words) j ⌝ }
+    requires { ⌜ (b ≡ station (now words) j) × (y .0 < 4000000) × (length (now kids) ≡ 320) ⌝ }
+    ensures { λ _. ⌜ now (kids .exit)
+        ≡ raiseAll (walkTries (now (words .entry)) (now (q .entry)) (visit j (y .0))
+        (walksFrom (now (words .entry)) b)) (now (kids .entry)) ⌝ }
+    ensures { λ _. ⌜ length (now (kids .exit)) ≡ 320 ⌝ }
+{
+    let mut k = timetable::walks_to(words, b - 1);
+    let end = timetable::walks_to(words, b);
+    while k < end {
+        mark_walk(words, chain, first, q, k, j, y, kids);
+        k += 1;
+    }
+}
+
+// One who arrives at stop j, at station b, having paid y, changes in every way. Where there are no walks at all, none
+// is looked for.
+fn mark_changes(
+    words: &[u16],
+    chain: &[u16],
+    first: &[u32],
+    catch: &[u16],
+    walks: usize,
+    q: &[u32],
+    b: usize,
+    j: usize,
+    y: Points,
+    kids: &mut [u8],
+)
+    requires { ⌜ (16384 ≤ length (now words)) × (isTimetable (now words) ≡ true) ⌝ }
+    requires { ⌜ Departures (now words) (now chain) (now first) × Changes (now words) (now catch) ⌝ }
+    requires { ⌜ (walks ≡ walkCount (now words)) × Arrival (now words) j × (b ≡ station (now words) j) ⌝ }
+    requires { ⌜ (y .0 < 4000000) × (length (now kids) ≡ 320) ⌝ }
+    ensures { λ _. ⌜ now (kids .exit)
+        ≡ flagKids (now (words .entry)) (now (q .entry)) (visit j (y .0)) (now (kids .entry)) ⌝ }
+    ensures { λ _. ⌜ length (now (kids .exit)) ≡ 320 ⌝ }
+{
+    mark_own(words, catch, q, b, j, y, kids);
+    if walks != 0 {
+        mark_walks(words, chain, first, q, b, j, y, kids);
+    }
+}
+
+// One who arrives at stop j, at station b, having paid y, stays there.
+fn mark_end(words: &[u16], allowed: &[u32], b: usize, j: usize, y: Points, arcs: &mut [u8])
+    requires { ⌜ (isTimetable (now words) ≡ true) × Arrival (now words) j × (b ≡ station (now words) j) ⌝ }
+    requires { ⌜ (length (now allowed) ≡ 2048) × (length (now arcs) ≡ 64) ⌝ }
+    ensures { λ _. ⌜ now (arcs .exit)
+        ≡ flagArc (now (words .entry)) (now (allowed .entry)) (visit j (y .0)) (now (arcs .entry)) ⌝ }
+    ensures { λ _. ⌜ length (now (arcs .exit)) ≡ 64 ⌝ }
+{
+    raise(arcs, b - 1, y, query_minutes::points_at(allowed, j));
+}
+
 // The arrival at stop j, at station b, of one who has paid y.
 fn mark_arrival(
     words: &[u16],
+    chain: &[u16],
+    first: &[u32],
     catch: &[u16],
+    walks: usize,
     allowed: &[u32],
     q: &[u32],
     b: usize,
@@ -362,27 +715,28 @@ fn mark_arrival(
     arcs: &mut [u8],
     kids: &mut [u8],
 )
-    requires { ⌜ (16384 ≤ length (now words)) × (isTimetable (now words) ≡ true) × (1 ≤ b) × (b ≤ 64) ⌝ }
-    requires { ⌜ (length (now catch) ≡ 2048) × (length (now allowed) ≡ 2048) × (j < 2048) ⌝ }
-    requires { ⌜ (b ≤ stationCount (now words)) × (y .0 < 4000000) ⌝ }
-    requires { ⌜ (length (now arcs) ≡ 64) × (length (now kids) ≡ 64) ⌝ }
+    requires { ⌜ (16384 ≤ length (now words)) × (isTimetable (now words) ≡ true) ⌝ }
+    requires { ⌜ Departures (now words) (now chain) (now first) × Changes (now words) (now catch) ⌝ }
+    requires { ⌜ (walks ≡ walkCount (now words)) × (length (now allowed) ≡ 2048) ⌝ }
+    requires { ⌜ Arrival (now words) j × (b ≡ station (now words) j) × (y .0 < 4000000) ⌝ }
+    requires { ⌜ (length (now arcs) ≡ 64) × (length (now kids) ≡ 320) ⌝ }
     ensures { λ _. ⌜ now (arcs .exit)
-        ≡ raised (ltb (y .0) (getD (now (allowed .entry)) j 0)) (b - 1) (now (arcs .entry)) ⌝ }
+        ≡ flagArc (now (words .entry)) (now (allowed .entry)) (visit j (y .0)) (now (arcs .entry)) ⌝ }
     ensures { λ _. ⌜ now (kids .exit)
-        ≡ raised
-        (ltb (y .0 + changePoints (now (words .entry)) b) (getD (now (q .entry)) (getD (now (catch .entry)) j 0) 0))
-        (b - 1) (now (kids .entry)) ⌝ }
-    ensures { λ _. ⌜ (length (now (arcs .exit)) ≡ 64) × (length (now (kids .exit)) ≡ 64) ⌝ }
+        ≡ flagKids (now (words .entry)) (now (q .entry)) (visit j (y .0)) (now (kids .entry)) ⌝ }
+    ensures { λ _. ⌜ (length (now (arcs .exit)) ≡ 64) × (length (now (kids .exit)) ≡ 320) ⌝ }
 {
-    raise(arcs, b, y, query_minutes::points_at(allowed, j));
-    let changed = query_minutes::sum(y, store_points::of_change(words, b));
-    raise(kids, b, changed, peek(q, words::word(catch, j) as usize));
+    mark_end(words, allowed, b, j, y, arcs);
+    mark_changes(words, chain, first, catch, walks, q, b, j, y, kids);
 }
 
 // One who boarded at station c arrives at stop j, having paid y. Returns the points of the ride onward.
 fn mark_turn(
     words: &[u16],
+    chain: &[u16],
+    first: &[u32],
     catch: &[u16],
+    walks: usize,
     allowed: &[u32],
     q: &[u32],
     c: usize,
@@ -391,22 +745,25 @@ fn mark_turn(
     arcs: &mut [u8],
     kids: &mut [u8],
 ) -> Points
-    requires { ⌜ (16384 ≤ length (now words)) × (isTimetable (now words) ≡ true) × (j < 2048) × (y .0 < 4000000) ⌝ }
-    requires { ⌜ (1 ≤ station (now words) j) × (station (now words) j ≤ stationCount (now words)) ⌝ }
-    requires { ⌜ (length (now catch) ≡ 2048) × (length (now allowed) ≡ 2048) ⌝ }
-    requires { ⌜ (length (now arcs) ≡ 64) × (length (now kids) ≡ 64) ⌝ }
+    requires { ⌜ (16384 ≤ length (now words)) × (isTimetable (now words) ≡ true) ⌝ }
+    requires { ⌜ Departures (now words) (now chain) (now first) × Changes (now words) (now catch) ⌝ }
+    requires { ⌜ (walks ≡ walkCount (now words)) × (length (now allowed) ≡ 2048) ⌝ }
+    requires { ⌜ Arrival (now words) j × (y .0 < 4000000) ⌝ }
+    requires { ⌜ (length (now arcs) ≡ 64) × (length (now kids) ≡ 320) ⌝ }
     ensures { λ _. ⌜ now (arcs .exit)
-        ≡ flag (now (words .entry)) (endsWell (now (allowed .entry))) (visit j (y .0)) (now (arcs .entry)) ⌝ }
+        ≡ flagArc (now (words .entry)) (now (allowed .entry)) (visit j (y .0)) (now (arcs .entry)) ⌝ }
     ensures { λ _. ⌜ now (kids .exit)
-        ≡ flag (now (words .entry)) (changesWell (now (words .entry)) (now (catch .entry)) (now (q .entry)))
-        (visit j (y .0)) (now (kids .entry)) ⌝ }
+        ≡ flagKids (now (words .entry)) (now (q .entry)) (visit j (y .0)) (now (kids .entry)) ⌝ }
     ensures { λ r. ⌜ r .0 ≡ onwardPoints (stopAt (now (words .entry)) j) c ⌝ }
-    ensures { λ _. ⌜ (length (now (arcs .exit)) ≡ 64) × (length (now (kids .exit)) ≡ 64) ⌝ }
+    ensures { λ _. ⌜ (length (now (arcs .exit)) ≡ 64) × (length (now (kids .exit)) ≡ 320) ⌝ }
 {
     let s = timetable::stop_at(words, j);
     mark_arrival(
         words,
+        chain,
+        first,
         catch,
+        walks,
         allowed,
         q,
         s.station as usize,
@@ -421,7 +778,10 @@ fn mark_turn(
 // One who boards at stop i, at station c, having paid so much, rides on until the trip ends or comes back to c.
 fn mark_on(
     words: &[u16],
+    chain: &[u16],
+    first: &[u32],
     catch: &[u16],
+    walks: usize,
     allowed: &[u32],
     q: &[u32],
     c: usize,
@@ -430,23 +790,18 @@ fn mark_on(
     arcs: &mut [u8],
     kids: &mut [u8],
 )
-    requires { ⌜ (16384 ≤ length (now words))
-        × (isTimetable (now words) ≡ true)
-        × Goes (now words) i
-        × (i < 2048)
-        × (paid .0 < unreached)
-        × (length (now catch) ≡ 2048)
-        × (length (now allowed) ≡ 2048)
-        × (length (now arcs) ≡ 64)
-        × (length (now kids) ≡ 64) ⌝ }
+    requires { ⌜ (16384 ≤ length (now words)) × (isTimetable (now words) ≡ true) ⌝ }
+    requires { ⌜ Departures (now words) (now chain) (now first) × Changes (now words) (now catch) ⌝ }
+    requires { ⌜ (walks ≡ walkCount (now words)) × (length (now allowed) ≡ 2048) ⌝ }
+    requires { ⌜ Goes (now words) i × (i < 2048) × (paid .0 < unreached) ⌝ }
+    requires { ⌜ (length (now arcs) ≡ 64) × (length (now kids) ≡ 320) ⌝ }
     ensures { λ _. ⌜ now (arcs .exit)
-        ≡ run (flag (now (words .entry)) (endsWell (now (allowed .entry))))
+        ≡ run (flagArc (now (words .entry)) (now (allowed .entry)))
         (visits (now (words .entry)) c (2048 - i) i (paid .0)) (now (arcs .entry)) ⌝ }
     ensures { λ _. ⌜ now (kids .exit)
-        ≡ run
-        (flag (now (words .entry)) (changesWell (now (words .entry)) (now (catch .entry)) (now (q .entry))))
+        ≡ run (flagKids (now (words .entry)) (now (q .entry)))
         (visits (now (words .entry)) c (2048 - i) i (paid .0)) (now (kids .entry)) ⌝ }
-    ensures { λ _. ⌜ (length (now (arcs .exit)) ≡ 64) × (length (now (kids .exit)) ≡ 64) ⌝ }
+    ensures { λ _. ⌜ (length (now (arcs .exit)) ≡ 64) × (length (now (kids .exit)) ≡ 320) ⌝ }
 {
     let mut y = paid;
     let mut ride = store_points::of_ride(timetable::stop_at(words, i));
@@ -454,7 +809,20 @@ fn mark_on(
     loop {
         y = query_minutes::sum(y, ride);
         j += 1;
-        ride = mark_turn(words, catch, allowed, q, c, j, y, arcs, kids);
+        ride = mark_turn(
+            words,
+            chain,
+            first,
+            catch,
+            walks,
+            allowed,
+            q,
+            c,
+            j,
+            y,
+            arcs,
+            kids,
+        );
         if query_minutes::same(ride, NO_MORE) {
             return;
         }
@@ -464,7 +832,10 @@ fn mark_on(
 // Who can board at stop i, at station c, with labels x, rides on.
 fn mark_ride(
     words: &[u16],
+    chain: &[u16],
+    first: &[u32],
     catch: &[u16],
+    walks: usize,
     allowed: &[u32],
     q: &[u32],
     x: &[u32],
@@ -473,27 +844,49 @@ fn mark_ride(
     arcs: &mut [u8],
     kids: &mut [u8],
 )
-    requires { ⌜ (16384 ≤ length (now words)) × (isTimetable (now words) ≡ true) × Goes (now words) i ⌝ }
-    requires { ⌜ (length (now catch) ≡ 2048) × (length (now allowed) ≡ 2048) × (length (now x) ≡ 2048) ⌝ }
-    requires { ⌜ (i < 2048) × (length (now arcs) ≡ 64) × (length (now kids) ≡ 64) ⌝ }
+    requires { ⌜ (16384 ≤ length (now words)) × (isTimetable (now words) ≡ true) ⌝ }
+    requires { ⌜ Departures (now words) (now chain) (now first) × Changes (now words) (now catch) ⌝ }
+    requires { ⌜ (walks ≡ walkCount (now words)) × (length (now allowed) ≡ 2048) ⌝ }
+    requires { ⌜ Goes (now words) i × (i < 2048) × (length (now x) ≡ 2048) ⌝ }
+    requires { ⌜ (length (now arcs) ≡ 64) × (length (now kids) ≡ 320) ⌝ }
     ensures { λ _. ⌜ now (arcs .exit)
-        ≡ run (flag (now (words .entry)) (endsWell (now (allowed .entry))))
+        ≡ run (flagArc (now (words .entry)) (now (allowed .entry)))
         (boarding (now (words .entry)) c (now (x .entry)) i) (now (arcs .entry)) ⌝ }
     ensures { λ _. ⌜ now (kids .exit)
-        ≡ run
-        (flag (now (words .entry)) (changesWell (now (words .entry)) (now (catch .entry)) (now (q .entry))))
+        ≡ run (flagKids (now (words .entry)) (now (q .entry)))
         (boarding (now (words .entry)) c (now (x .entry)) i) (now (kids .entry)) ⌝ }
-    ensures { λ _. ⌜ (length (now (arcs .exit)) ≡ 64) × (length (now (kids .exit)) ≡ 64) ⌝ }
+    ensures { λ _. ⌜ (length (now (arcs .exit)) ≡ 64) × (length (now (kids .exit)) ≡ 320) ⌝ }
 {
     let paid = label_at(words, x, i);
     if query_minutes::at_least(paid, UNREACHED) {
         return;
     }
-    mark_on(words, catch, allowed, q, c, i, paid, arcs, kids);
+    mark_on(
+        words,
+        chain,
+        first,
+        catch,
+        walks,
+        allowed,
+        q,
+        c,
+        i,
+        paid,
+        arcs,
+        kids,
+    );
+}
+
+// How many walks there are.
+fn walk_count(words: &[u16]) -> usize
+    requires { ⌜ (16384 ≤ length (now words)) × (isTimetable (now words) ≡ true) ⌝ }
+    ensures { λ r. ⌜ r ≡ walkCount (now (words .entry)) ⌝ }
+{
+    timetable::walks_to(words, words::word(words, 0) as usize)
 }
 
 // Raises in arcs the flag of each station where a rider who boards at station c, with labels x, ends well, and in kids
-// that of each where a rider changes and can still end well.
+// that of each change after which such a rider can still end well, by its slot.
 pub fn mark(
     words: &[u16],
     chain: &[u16],
@@ -507,21 +900,25 @@ pub fn mark(
     kids: &mut [u8],
 )
     requires { ⌜ (16384 ≤ length (now words)) × (isTimetable (now words) ≡ true) ⌝ }
-    requires { ⌜ Departures (now words) (now chain) (now first) × (length (now catch) ≡ 2048) ⌝ }
+    requires { ⌜ Departures (now words) (now chain) (now first) × Changes (now words) (now catch) ⌝ }
     requires { ⌜ (length (now allowed) ≡ 2048) × (length (now q) ≡ 2048) × (length (now x) ≡ 2048) ⌝ }
-    requires { ⌜ (c ≤ stationCount (now words)) × (length (now arcs) ≡ 64) × (length (now kids) ≡ 64) ⌝ }
+    requires { ⌜ (c ≤ stationCount (now words)) × (length (now arcs) ≡ 64) × (length (now kids) ≡ 320) ⌝ }
     ensures { λ _. ⌜ ArcsMarked (now (words .entry)) c (now (x .entry)) (now (allowed .entry))
         (now (arcs .entry)) (now (arcs .exit)) ⌝ }
     ensures { λ _. ⌜ KidsMarked (now (words .entry)) c (now (x .entry)) (now (allowed .entry))
-        (now (catch .entry)) (now (q .entry)) (now (kids .entry)) (now (kids .exit)) ⌝ }
-    ensures { λ _. ⌜ (length (now (arcs .exit)) ≡ 64) × (length (now (kids .exit)) ≡ 64) ⌝ }
+        (now (q .entry)) (now (kids .entry)) (now (kids .exit)) ⌝ }
+    ensures { λ _. ⌜ (length (now (arcs .exit)) ≡ 64) × (length (now (kids .exit)) ≡ 320) ⌝ }
 {
+    let walks = walk_count(words);
     let mut k = begin_of(first, c);
     let end = begin_of(first, c + 1);
     while k < end {
         mark_ride(
             words,
+            chain,
+            first,
             catch,
+            walks,
             allowed,
             q,
             x,

@@ -4,6 +4,7 @@ use mathlib.Core.List.{List}
 use Prim.Native.Nat.{ℕ}
 use Rattle.store_stops.specs.Prospects.{Allows, Bounded}
 use Rattle.store_stops.specs.Settled.{Settled}
+use Rattle.store_departures.specs.Order.{catchBy}
 use Rattle.store_frontier.specs.Routes.{Routes}
 use Rattle.store_nodes.specs.Standing.{Judged, judged}
 
@@ -17,6 +18,6 @@ pub allowed-at : (w : List ℕ) (a d : ℕ) (v allowed : List ℕ) → Settled w
 allowed-at w a d v allowed s l = record { least = v; settled = s; allows = l }
 
 pub judged-at : (w listed : List ℕ) (n a d : ℕ) (allowed caught q : List ℕ) → Routes w listed n caught
-    → AllowedAt w a d allowed → Bounded w allowed d caught q → Judged w a d allowed caught q
+    → AllowedAt w a d allowed → Bounded w allowed d (catchBy w) q → Judged w a d allowed q
 judged-at w listed n a d allowed caught q r s b =
     judged w listed n a d (s .least) allowed caught q r (s .settled) (s .allows) b

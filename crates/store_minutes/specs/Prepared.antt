@@ -18,6 +18,7 @@ use Rattle.store_departures.specs.Order.{beginOf, order, chain, arrivals, stati
 use Rattle.store_departures.specs.Keys.{Begins}
 use Rattle.store_departures.specs.Legs.{byArrival}
 use Rattle.store_departures.specs.Catches.{Caught}
+use Rattle.store_departures.specs.Held.{Departures}
 use Rattle.store_departures.specs.InOrderLaws.{in-order}
 use Rattle.store_departures.specs.Parts.{
   begin-next,
@@ -32,7 +33,7 @@ use Rattle.store_departures.specs.Parts.{arriving-distinct, arriving-behind, le
 use Rattle.store_penalties.specs.Arranged.{Arranged}
 use Rattle.store_frontier.specs.Arrivals.{Arrivals, part}
 use Rattle.store_frontier.specs.Routes.{Routes}
-use Rattle.store_marks.specs.Held.{Departures, Changes}
+use Rattle.store_marks.specs.Held.{Changes}
 
 -- ---- the departures by minute
 pub chain-front : (w chained old : List ℕ) → chained ≡ put 0 (chain w) old → take (length (chain w)) chained ≡ chain w

@@ -5,7 +5,7 @@ ghost use Prim.Native.Nat.{_+_, _≤_, _<_};
 ghost use lib.ListN.{length, getD};
 ghost use Rattle.timetable.specs.Words.{stationCount, isTimetable};
 ghost use Rattle.store_stops.specs.Stopwise.{depart};
-ghost use Rattle.store_marks.specs.Held.{Departures};
+ghost use Rattle.store_departures.specs.Held.{Departures};
 ghost use Rattle.store_frontier.specs.Routes.{Routes};
 ghost use Rattle.store_frontier.specs.Arrivals.{Arrivals};
 ghost use Rattle.store_nodes.specs.Standing.{StandingTo, Judged, ArcsAt, KidsAt};
@@ -21,6 +21,8 @@ fn allow_at(
     words: &[u16],
     order: &[u16],
     n: usize,
+    chain: &[u16],
+    first: &[u32],
     arrivals: &[u16],
     begins: &[u32],
     catch: &[u16],
@@ -31,13 +33,14 @@ fn allow_at(
 )
     requires { ⌜ Routes (now words) (now order) n (now catch)
         × Arrivals (now words) (now arrivals) (now begins)
+        × Departures (now words) (now chain) (now first)
         × (length (now v) ≡ 2048)
         × (length (now q) ≡ 2048) ⌝ }
     ensures { λ _. ⌜ AllowedAt (now (words .entry)) source d (now (v .exit))
         × (length (now (v .exit)) ≡ 2048)
         × (length (now (q .exit)) ≡ 2048) ⌝ }
 {
-    store_penalties::least_penalties(words, order, n, catch, source, d, v, q);
+    store_penalties::least_penalties(words, order, n, chain, first, catch, source, d, v, q);
     store_frontier::allow(words, arrivals, begins, source, v);
 }
 
@@ -46,6 +49,8 @@ fn judge(
     words: &[u16],
     order: &[u16],
     n: usize,
+    chain: &[u16],
+    first: &[u32],
     arrivals: &[u16],
     begins: &[u32],
     catch: &[u16],
@@ -57,16 +62,30 @@ fn judge(
 )
     requires { ⌜ Routes (now words) (now order) n (now catch)
         × Arrivals (now words) (now arrivals) (now begins)
+        × Departures (now words) (now chain) (now first)
         × (length (now v) ≡ 2048)
         × (length (now q) ≡ 2048)
         × (length (now x) ≡ 2048) ⌝ }
-    ensures { λ _. ⌜ Judged (now (words .entry)) source d (now (v .exit)) (now (catch .entry)) (now (q .exit))
+    ensures { λ _. ⌜ Judged (now (words .entry)) source d (now (v .exit)) (now (q .exit))
         × (length (now (v .exit)) ≡ 2048)
         × (length (now (q .exit)) ≡ 2048)
         × (length (now (x .exit)) ≡ 2048) ⌝ }
 {
-    allow_at(words, order, n, arrivals, begins, catch, source, d, v, q);
-    store_frontier::prospects(words, order, n, catch, d, v, q, x);
+    allow_at(
+        words,
+        order,
+        n,
+        chain,
+        first,
+        arrivals,
+        begins,
+        catch,
+        source,
+        d,
+        v,
+        q,
+    );
+    store_frontier::prospects(words, order, n, chain, first, catch, d, v, q, x);
 }
 
 // Raises the flags of the nodes from lo up to hi for minute d. What v, q and x hold is of no further use.
@@ -97,21 +116,35 @@ fn mark_minute(
         × (source ≤ stationCount (now words))
         × StandingTo (now words) source (now work) hi
         × (lo ≤ hi)
-        × (hi ≤ lo + 48)
+        × (hi ≤ lo + 96)
         × (length (now v) ≡ 2048)
         × (length (now q) ≡ 2048)
         × (length (now x) ≡ 2048)
-        × (length (now arcs) ≡ 3072)
-        × (length (now kids) ≡ 3072) ⌝ }
-    ensures { λ _. ⌜ Raised (ArcsAt (now (words .entry)) source d) lo hi (now (arcs .entry)) (now (arcs .exit))
-        × Raised (KidsAt (now (words .entry)) source d) lo hi (now (kids .entry)) (now (kids .exit))
+        × (length (now arcs) ≡ 6144)
+        × (length (now kids) ≡ 30720) ⌝ }
+    ensures { λ _. ⌜ Raised 64 (ArcsAt (now (words .entry)) source d) lo hi (now (arcs .entry)) (now (arcs .exit))
+        × Raised 320 (KidsAt (now (words .entry)) source d) lo hi (now (kids .entry)) (now (kids .exit))
         × (length (now (v .exit)) ≡ 2048)
         × (length (now (q .exit)) ≡ 2048)
         × (length (now (x .exit)) ≡ 2048)
-        × (length (now (arcs .exit)) ≡ 3072)
-        × (length (now (kids .exit)) ≡ 3072) ⌝ }
+        × (length (now (arcs .exit)) ≡ 6144)
+        × (length (now (kids .exit)) ≡ 30720) ⌝ }
 {
-    judge(words, order, n, arrivals, begins, catch, source, d, v, q, x);
+    judge(
+        words,
+        order,
+        n,
+        chain,
+        first,
+        arrivals,
+        begins,
+        catch,
+        source,
+        d,
+        v,
+        q,
+        x,
+    );
     store_nodes::mark_nodes(
         words,
         chain,
@@ -170,12 +203,12 @@ fn mark_departure(
         × (source ≤ stationCount (now words))
         × StandingTo (now words) source (now work) hi
         × (lo ≤ hi)
-        × (hi ≤ lo + 48)
+        × (hi ≤ lo + 96)
         × (length (now v) ≡ 2048)
         × (length (now q) ≡ 2048)
         × (length (now x) ≡ 2048)
-        × (length (now arcs) ≡ 3072)
-        × (length (now kids) ≡ 3072)
+        × (length (now arcs) ≡ 6144)
+        × (length (now kids) ≡ 30720)
         × (getD (now first) source 0 ≤ p)
         × (p < getD (now first) (source + 1) 0)
         × Sought (now words) source (now chain) (getD (now first) source 0) p last lo hi (now arcs) (now kids) ⌝ }
@@ -184,8 +217,8 @@ fn mark_departure(
         × (length (now (v .exit)) ≡ 2048)
         × (length (now (q .exit)) ≡ 2048)
         × (length (now (x .exit)) ≡ 2048)
-        × (length (now (arcs .exit)) ≡ 3072)
-        × (length (now (kids .exit)) ≡ 3072) ⌝ }
+        × (length (now (arcs .exit)) ≡ 6144)
+        × (length (now (kids .exit)) ≡ 30720) ⌝ }
 {
     let d = minute_at(words, chain, p);
     if d == last {
@@ -261,20 +294,20 @@ fn mark_departures(
         × (source ≤ stationCount (now words))
         × StandingTo (now words) source (now work) hi
         × (lo ≤ hi)
-        × (hi ≤ lo + 48)
+        × (hi ≤ lo + 96)
         × (length (now v) ≡ 2048)
         × (length (now q) ≡ 2048)
         × (length (now x) ≡ 2048)
-        × (length (now arcs) ≡ 3072)
-        × (length (now kids) ≡ 3072)
+        × (length (now arcs) ≡ 6144)
+        × (length (now kids) ≡ 30720)
         × Sought (now words) source (now chain) (getD (now first) source 0) (getD (now first) source 0) 2880 lo hi
         (now arcs) (now kids) ⌝ }
     ensures { λ _. ⌜ Chunked (now (words .entry)) source lo hi (now (arcs .exit)) (now (kids .exit))
         × (length (now (v .exit)) ≡ 2048)
         × (length (now (q .exit)) ≡ 2048)
         × (length (now (x .exit)) ≡ 2048)
-        × (length (now (arcs .exit)) ≡ 3072)
-        × (length (now (kids .exit)) ≡ 3072) ⌝ }
+        × (length (now (arcs .exit)) ≡ 6144)
+        × (length (now (kids .exit)) ≡ 30720) ⌝ }
 {
     let end = place_at(first, source + 1);
     let mut p = place_at(first, source);
@@ -332,18 +365,18 @@ pub fn mark_chunk(
         × (source ≤ stationCount (now words))
         × StandingTo (now words) source (now work) hi
         × (lo ≤ hi)
-        × (hi ≤ lo + 48)
+        × (hi ≤ lo + 96)
         × (length (now v) ≡ 2048)
         × (length (now q) ≡ 2048)
         × (length (now x) ≡ 2048)
-        × (length (now arcs) ≡ 3072)
-        × (length (now kids) ≡ 3072) ⌝ }
+        × (length (now arcs) ≡ 6144)
+        × (length (now kids) ≡ 30720) ⌝ }
     ensures { λ _. ⌜ Chunked (now (words .entry)) source lo hi (now (arcs .exit)) (now (kids .exit))
         × (length (now (v .exit)) ≡ 2048)
         × (length (now (q .exit)) ≡ 2048)
         × (length (now (x .exit)) ≡ 2048)
-        × (length (now (arcs .exit)) ≡ 3072)
-        × (length (now (kids .exit)) ≡ 3072) ⌝ }
+        × (length (now (arcs .exit)) ≡ 6144)
+        × (length (now (kids .exit)) ≡ 30720) ⌝ }
 {
     clear(arcs);
     clear(kids);

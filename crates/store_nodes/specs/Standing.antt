@@ -1,30 +1,35 @@
--- A node of the store's tree while it grows: the way to it, its station, and its marks for one minute.
-use mathlib.Core.Path.{_≡_, refl, sym, ap, subst, _∙_}
+-- A node of the store's tree while it grows: the way to it, the station where it boards, and its marks for one minute.
+use mathlib.Core.Path.{_≡_, sym, ap, subst, _∙_}
 use mathlib.Core.Bool.{true}
 use mathlib.Core.Logic.{inl, inr, _↔_}
-use mathlib.Core.List.{List, [], _∷_, reverseAux}
+use mathlib.Core.List.{List, [], map, reverseAux}
 use Prim.Native.Nat.{ℕ, zero, suc, _≤_, _<_}
 use native.Mathlib.Omega.{arith}
 use lib.ListN.{length, getD, take, length-take}
+use Rattle.lists.specs.Lists.{_∈_}
 use Rattle.words.specs.Put.{put, take-put, getD-put}
 use Rattle.timetable.specs.Words.{stationCount, isTimetable}
-use Rattle.stores.specs.Words.{final}
+use Rattle.connections.specs.Connections.{Transfer}
+use Rattle.stores.specs.Stored.{sequences}
 use Rattle.store_stops.specs.Paid.{LeastArrivals, Labelled}
 use Rattle.store_stops.specs.Prospects.{Allows, Bounded, Ends, GoesOn}
 use Rattle.store_stops.specs.Settled.{Settled}
 use Rattle.store_stops.specs.TimelyLaws.{timely}
 use Rattle.store_stops.specs.LeastSettled.{least-settled}
+use Rattle.store_departures.specs.Order.{catchBy}
 use Rattle.store_frontier.specs.Routes.{Routes}
+use Rattle.store_slots.specs.Slots.{transferAt, slots}
+use Rattle.store_slots.specs.SlotLaws.{slot-small, slot-stations}
 use Rattle.store_marks.specs.Reaching.{boardsAt}
-use Rattle.store_marks.specs.Marking.{Marked, ArcsMarked, KidsMarked}
-use Rattle.store_marks.specs.Paths.{changed, reached, Path, boards-reached, reached-none, reached-more}
-use Rattle.store_tree.specs.Tree.{nodeAt, stationIn, Grown}
-use Rattle.store_tree.specs.Says.{says-station}
+use Rattle.store_marks.specs.Marking.{Marked, Slotted, ArcsMarked, KidsMarked}
+use Rattle.store_marks.specs.Paths.{changed, reached, Onward, Path, boards-reached, reached-none, reached-more}
+use Rattle.store_tree.specs.Tree.{nodeAt, slotIn, parentIn, Grown}
+use Rattle.store_tree.specs.Says.{says-listed, says-slot, says-node}
 use Rattle.store_tree.specs.Growth.{grown-listed}
-use Rattle.stores.specs.Stored.{sequences}
-use Rattle.store_nodes.specs.Minutes.{ArcAt, KidAt, backwards, arc-ends, kid-goes-on}
-use Rattle.store_nodes.specs.Paths.{pathTo, Rooted, path-is, grown-rooted}
-use Rattle.store_nodes.specs.Nodes.{Sequenced, made, sequenced}
+use Rattle.store_tree.specs.StoredTree.{stored-made}
+use Rattle.store_nodes.specs.Minutes.{ArcAt, KidAt, backwards, node-even, arc-ends, kid-goes-on}
+use Rattle.store_nodes.specs.Paths.{pathTo, Rooted, path-back, path-onward, grown-rooted}
+use Rattle.store_nodes.specs.Nodes.{Sequenced, sequenced, boards-final, boards-apart}
 
 -- node v of the tree for source a has a word
 pub record Standing (w : List ℕ) (a : ℕ) (work : List ℕ) (v : ℕ) : Type 0 where
@@ -32,7 +37,7 @@ pub record Standing (w : List ℕ) (a : ℕ) (work : List ℕ) (v : ℕ) : Type 
   pub n : ℕ
   pub m : ℕ
   pub lo : ℕ
-  pub grown : Grown (sequences w a) a work targets n m lo
+  pub grown : Grown w (sequences w a) a work targets n m lo
   pub on : v ≤ n
 
 -- all nodes below hi have words
@@ -41,7 +46,7 @@ pub record StandingTo (w : List ℕ) (a : ℕ) (work : List ℕ) (hi : ℕ) : Ty
   pub n : ℕ
   pub m : ℕ
   pub lo : ℕ
-  pub grown : Grown (sequences w a) a work targets n m lo
+  pub grown : Grown w (sequences w a) a work targets n m lo
   pub on : hi ≤ suc n
 
 pub standing : (w : List ℕ) (a : ℕ) (work : List ℕ) (hi v : ℕ) → StandingTo w a work hi → v < hi
@@ -56,97 +61,94 @@ standing w a work hi v s h =
       on = omega (arith, s .on);
     }
 
--- at station c, that of node v, the least that is paid by those who changed as it says
+-- at station c, where node v boards, the least that is paid by those who changed as it says
 pub record NodeLabels (w : List ℕ) (a d v c : ℕ) (x : List ℕ) : Type 0 where
   pub boards : boardsAt a (backwards (nodeAt (sequences w a) v)) ≡ c
   pub labels : Labelled w a d (backwards (nodeAt (sequences w a) v)) c x
 
 -- what is allowed at minute d, and who can still end well then
-pub record Judged (w : List ℕ) (a d : ℕ) (allowed caught q : List ℕ) : Type 0 where
+pub record Judged (w : List ℕ) (a d : ℕ) (allowed q : List ℕ) : Type 0 where
   pub least : List ℕ
   pub is-least : LeastArrivals w a d least
   pub allows : Allows w a least allowed
-  pub bounded : Bounded w allowed d caught q
+  pub bounded : Bounded w allowed d (catchBy w) q
 
 pub judged : (w listed : List ℕ) (n a d : ℕ) (v allowed caught q : List ℕ) → Routes w listed n caught
-    → Settled w a d v → Allows w a v allowed → Bounded w allowed d caught q → Judged w a d allowed caught q
+    → Settled w a d v → Allows w a v allowed → Bounded w allowed d (catchBy w) q → Judged w a d allowed q
 judged w listed n a d v allowed caught q r s l b =
     record { least = v; is-least = least-settled w a d v (r .timely) s; allows = l; bounded = b }
 
--- the arcs and kids of node v at minute d
-abbrev pub ArcsAt : (w : List ℕ) (a d v b : ℕ) → Type 0
-ArcsAt w a d v b = ArcAt w a d (nodeAt (sequences w a) v) b
+-- the arcs of node v at minute d, where station k + 1 has flag k, and its kids, by slot
+abbrev pub ArcsAt : (w : List ℕ) (a d v k : ℕ) → Type 0
+ArcsAt w a d v k = ArcAt w a d (nodeAt (sequences w a) v) (suc k)
 
-abbrev pub KidsAt : (w : List ℕ) (a d v b : ℕ) → Type 0
-KidsAt w a d v b = KidAt w a d (nodeAt (sequences w a) v) b
+abbrev pub KidsAt : (w : List ℕ) (a d v s : ℕ) → Type 0
+KidsAt w a d v s = Slotted w (KidAt w a d (nodeAt (sequences w a) v)) s
 
--- the last of the stations, or the source
-pub boards-final : (a : ℕ) (q l : List ℕ) → boardsAt a (reverseAux q l) ≡ final (boardsAt a l ∷ q)
-boards-final a [] l = refl
-boards-final a (y ∷ q) l = boards-final a q (y ∷ l)
-
-marked-same : (A B : ℕ → Type 0) (old new : List ℕ) → ((b : ℕ) → A b ↔ B b) → Marked A old new → Marked B old new
-marked-same A B old new same m =
+marked-same : (n : ℕ) (A B : ℕ → Type 0) (old new : List ℕ) → ((k : ℕ) → A k ↔ B k) → Marked n A old new
+    → Marked n B old new
+marked-same n A B old new same m =
     record {
       exactly =
-          λ b h g. (
-            λ e.
-                (elim (m .exactly b h g .0 e) [
-                  | inl o ↦ inl o
-                  | inr t ↦ inr (same b .0 t)
-                ]),
-            λ e. m .exactly b h g .1 (elim e [ inl o ↦ inl o | inr t ↦ inr (same b .1 t) ]),
+          λ k h. (
+            λ e. (elim (m .exactly k h .0 e) [ inl o ↦ inl o | inr t ↦ inr (same k .0 t) ]),
+            λ e. m .exactly k h .1 (elim e [ inl o ↦ inl o | inr t ↦ inr (same k .1 t) ]),
           );
       flags = m .flags;
     }
 
-module _ (w : List ℕ) (yes : isTimetable w ≡ true) (a : ℕ) (some : 1 ≤ a) (inside : a ≤ stationCount w)
-    (work : List ℕ) (v : ℕ) (s : Standing w a work v) where
+-- what holds of a change holds of its slot
+slotted-same : (w : List ℕ) (A B : Transfer → Type 0) → ((t : Transfer) → A t ↔ B t) → (s : ℕ)
+    → Slotted w A s ↔ Slotted w B s
+slotted-same w A B same s = (
+  λ h. record { listed = h .listed; holds = same (transferAt w s) .0 (h .holds) },
+  λ h. record { listed = h .listed; holds = same (transferAt w s) .1 (h .holds) },
+)
+
+module _ (w : List ℕ) (yes : isTimetable w ≡ true) (a : ℕ) (work : List ℕ) (v : ℕ) (s : Standing w a work v) where
   abbrev node : List ℕ
   node = nodeAt (sequences w a) v
 
-  pub named : (u : ℕ) → u ≤ s .n → Sequenced w a (nodeAt (sequences w a) u)
+  named : (u : ℕ) → u ≤ s .n → Sequenced a (nodeAt (sequences w a) u)
   named u h =
-      sequenced w yes a some inside u
-      (grown-listed (sequences w a) (stationCount w) (made w yes a some inside) a work (s .targets) (s .n) (s .m)
-      (s .lo) (s .grown) u h)
+      sequenced w yes a u
+      (grown-listed w (sequences w a) (stored-made w yes a) a work (s .targets) (s .n) (s .m) (s .lo) (s .grown) u h)
 
   pub node-rooted : Rooted work v
   node-rooted =
-      grown-rooted
-      (sequences w a)
-      (stationCount w)
-      (made w yes a some inside)
-      a
-      work
-      (s .targets)
-      (s .n)
-      (s .m)
-      (s .lo)
-      (s .grown)
-      (λ u h. omega (arith, named u h .short))
+      grown-rooted w (sequences w a) (stored-made w yes a) a work (s .targets) (s .n) (s .m) (s .lo) (s .grown)
+      (λ u h. named u h .short)
       v
       (s .on)
 
-  way : pathTo work v ≡ node
-  way =
-      path-is (sequences w a) (stationCount w) (made w yes a some inside) a work (s .targets) (s .n) (s .m) (s .lo)
-      (s .grown) v (s .on)
+  -- the change of a node leads elsewhere than the parent boards
+  pub node-onward : (u : ℕ) → u ≤ s .n → 1 ≤ u
+      → Onward w (boardsAt a (backwards (nodeAt (sequences w a) (parentIn (getD work u 0))))) (slotIn (getD work u 0))
+  node-onward u h some =
+      let made = stored-made w yes a in
+      let p = parentIn (getD work u 0) in
+      record {
+        listed = says-listed w (sequences w a) made a work (s .targets) (s .n) (s .m) (s .lo) (s .grown) u h;
+        apart =
+            boards-apart a (nodeAt (sequences w a) p) (transferAt w (slotIn (getD work u 0)))
+            (node-even (sequences w a) p)
+            (subst (λ q. Sequenced a q)
+            (sym (says-node w (sequences w a) made a work (s .targets) (s .n) (s .m) (s .lo) (s .grown) u h some))
+            (named u h)
+            .apart);
+      }
 
   module _ (old path : List ℕ) (k : ℕ) (is : path ≡ put 0 (pathTo work v) old)
       (count : k ≡ length (pathTo work v)) where
-    holds : path ≡ put 0 node old
-    holds = is ∙ ap (λ q. put 0 q old) way
+    at : (m : ℕ) → m < k → getD path m 0 ≡ getD (pathTo work v) m 0
+    at m h = ap (λ l. getD l m 0) is ∙ getD-put (pathTo work v) old m (omega arith)
 
-    counts : k ≡ length node
-    counts = count ∙ ap length way
-
-    at : (m : ℕ) → m < k → getD path m 0 ≡ getD node m 0
-    at m h = ap (λ l. getD l m 0) holds ∙ getD-put node old m (omega (arith, counts))
-
-    reached-at : (m : ℕ) → m < k → reached a path m ≡ getD (a ∷ node) m 0
-    reached-at zero h = reached-none path a
-    reached-at (suc m) h = reached-more path a m ∙ at m (omega arith)
+    reached-at : (m : ℕ) → m < k → reached w a path m ≡ reached w a (pathTo work v) m
+    reached-at zero h = reached-none w path a ∙ sym (reached-none w (pathTo work v) a)
+    reached-at (suc m) h =
+        reached-more w path a m
+        ∙ ap (λ z. (transferAt w z) .boarded) (at m (omega arith))
+        ∙ sym (reached-more w (pathTo work v) a m)
 
     pub node-path : Path w a path k
     node-path =
@@ -154,70 +156,80 @@ module _ (w : List ℕ) (yes : isTimetable w ≡ true) (a : ℕ) (some : 1 ≤ a
           long =
               omega (
                 arith,
-                counts,
-                ap (λ l. length (take (length node) l)) holds,
-                ap length (take-put node old),
-                length-take (length node) path,
+                ap (λ l. length (take (length (pathTo work v)) l)) is,
+                ap length (take-put (pathTo work v) old),
+                length-take (length (pathTo work v)) path,
               );
-          first = (λ m h. omega (arith, at m h, named v (s .on) .first m (omega (arith, counts))));
-          listed = (λ m h. omega (arith, at m h, named v (s .on) .listed m (omega (arith, counts))));
-          apart =
-              (λ m h e.
-              named v (s .on) .apart m (omega (arith, counts)) (sym (reached-at m h) ∙ e ∙ at m h));
+          onward = λ m h.
+              subst (λ c. Onward w c (getD path m 0)) (sym (reached-at m h))
+              (subst (Onward w (reached w a (pathTo work v) m)) (sym (at m h))
+              (path-onward w (sequences w a) (stored-made w yes a) a work (s .targets) (s .n) (s .m) (s .lo) (s .grown)
+              (λ u g some. node-onward u g some .apart)
+              v
+              (s .on)
+              m
+              (omega arith)));
         }
 
-    changes : changed k path ≡ backwards node
-    unfolding changed backwards
+    changes : changed w k path ≡ backwards node
+    unfolding changed
     changes =
-        ap (λ l. reverseAux l [])
-        (ap (λ j. take j path) counts ∙ ap (take (length node)) holds ∙ take-put node old)
+        ap (λ l. reverseAux (map (transferAt w) l) [])
+        (ap (λ j. take j path) count ∙ ap (take (length (pathTo work v))) is ∙ take-put (pathTo work v) old)
+        ∙ path-back w (sequences w a) (stored-made w yes a) a work (s .targets) (s .n) (s .m) (s .lo) (s .grown) v
+        (s .on)
 
-    module _ (c : ℕ) (last : c ≡ stationIn (getD work v 0)) where
-      -- one boards at the station of the node
-      here : boardsAt a (changed k path) ≡ c
-      unfolding backwards
+    module _ (c : ℕ) (boards : c ≡ (transferAt w (slotIn (getD work v 0))) .boarded) where
+      -- one boards where the change of the node leads
+      here : boardsAt a (changed w k path) ≡ c
       here =
           ap (boardsAt a) changes
-          ∙ boards-final a node []
+          ∙ boards-final a node (node-even (sequences w a) v)
           ∙ sym
-          (says-station (sequences w a) (stationCount w) (made w yes a some inside) a work (s .targets) (s .n) (s .m)
-          (s .lo) (s .grown) v (s .on))
-          ∙ sym last
+          (ap (λ (t : Transfer). t .boarded)
+          (says-slot w (sequences w a) (stored-made w yes a) a work (s .targets) (s .n) (s .m) (s .lo) (s .grown) v
+          (s .on)))
+          ∙ sym boards
 
-      there : reached a path k ≡ c
-      there = sym (boards-reached path a k (node-path .long)) ∙ here
-
-      pub node-station : c ≤ stationCount w
-      node-station = go k (sym there) node-path
-        where
-          go : (k : ℕ) → c ≡ reached a path k → Path w a path k → c ≤ stationCount w
-          go zero e p = omega (arith, reached-none path a)
-          go (suc m) e p = omega (arith, reached-more path a m, p .listed m (omega arith))
-
-      pub node-labels : (d : ℕ) (x : List ℕ) → Labelled w a d (changed k path) (reached a path k) x
+      pub node-labels : (d : ℕ) (x : List ℕ) → Labelled w a d (changed w k path) (reached w a path k) x
           → NodeLabels w a d v c x
       node-labels d x labels =
           record {
             boards = ap (boardsAt a) (sym changes) ∙ here;
             labels =
                 subst (λ r. Labelled w a d r c x) changes
-                (subst (λ z. Labelled w a d (changed k path) z x) there labels);
+                (subst (λ z. Labelled w a d (changed w k path) z x)
+                (sym (boards-reached w path a k (node-path .long)) ∙ here) labels);
           }
 
-module _ (w : List ℕ) (yes : isTimetable w ≡ true) (a d v c : ℕ) (x allowed caught q : List ℕ)
-    (labels : NodeLabels w a d v c x) (judged : Judged w a d allowed caught q) where
+  -- the slot of a node, and the station where it boards
+  slot-listed : slotIn (getD work v 0) ∈ slots w
+  slot-listed =
+      says-listed w (sequences w a) (stored-made w yes a) a work (s .targets) (s .n) (s .m) (s .lo) (s .grown) v (s .on)
+
+  pub node-slot : slotIn (getD work v 0) < 320
+  node-slot = slot-small w yes (slotIn (getD work v 0)) slot-listed
+
+  pub node-station : (c : ℕ) → c ≡ (transferAt w (slotIn (getD work v 0))) .boarded → c ≤ stationCount w
+  node-station c boards = omega (arith, slot-stations w yes (slotIn (getD work v 0)) slot-listed .boarded-last)
+
+module _ (w : List ℕ) (yes : isTimetable w ≡ true) (a d v c : ℕ) (x allowed q : List ℕ)
+    (labels : NodeLabels w a d v c x) (judged : Judged w a d allowed q) where
   abbrev sequence : List ℕ
   sequence = nodeAt (sequences w a) v
 
-  pub arcs-at : (arcs arcs′ : List ℕ) → ArcsMarked w c x allowed arcs arcs′ → Marked (ArcsAt w a d v) arcs arcs′
+  pub arcs-at : (arcs arcs′ : List ℕ) → ArcsMarked w c x allowed arcs arcs′ → Marked 64 (ArcsAt w a d v) arcs arcs′
   arcs-at arcs arcs′ h =
-      marked-same (Ends w a d allowed (backwards sequence)) (ArcsAt w a d v) arcs arcs′
-      (λ b. arc-ends w yes (timely w yes) a sequence b d (judged .least) allowed (judged .is-least) (judged .allows))
+      marked-same 64 (λ k. Ends w a d allowed (backwards sequence) (suc k)) (ArcsAt w a d v) arcs arcs′
+      (λ k.
+      arc-ends w yes (timely w yes) a sequence (node-even (sequences w a) v) d (judged .least) allowed
+      (judged .is-least) (judged .allows) (suc k))
       (h .marked a d (backwards sequence) (labels .boards) (labels .labels))
 
-  pub kids-at : (kids kids′ : List ℕ) → KidsMarked w c x allowed caught q kids kids′
-      → Marked (KidsAt w a d v) kids kids′
+  pub kids-at : (kids kids′ : List ℕ) → KidsMarked w c x allowed q kids kids′ → Marked 320 (KidsAt w a d v) kids kids′
   kids-at kids kids′ h =
-      marked-same (GoesOn w a d allowed (backwards sequence)) (KidsAt w a d v) kids kids′
-      (λ b. kid-goes-on w yes (timely w yes) a sequence b d (judged .least) allowed (judged .is-least) (judged .allows))
+      marked-same 320 (Slotted w (GoesOn w a d allowed (backwards sequence))) (KidsAt w a d v) kids kids′
+      (slotted-same w (GoesOn w a d allowed (backwards sequence)) (KidAt w a d sequence)
+      (kid-goes-on w yes (timely w yes) a sequence (node-even (sequences w a) v) d (judged .least) allowed
+      (judged .is-least) (judged .allows)))
       (h .marked a d (backwards sequence) (labels .boards) (labels .labels) (judged .bounded))

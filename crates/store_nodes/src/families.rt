@@ -1,21 +1,19 @@
 // The marks of all nodes of a chunk, for one minute: siblings are marked together, from the labels of their parent.
 ghost use mathlib.Core.Path.{_≡_};
 ghost use mathlib.Core.Bool.{true};
-ghost use mathlib.Core.Logic.{_≢_};
 ghost use Prim.Native.Nat.{_+_, _≤_, _<_};
 ghost use lib.ListN.{length, getD};
 ghost use Rattle.timetable.specs.Words.{stationCount, isTimetable};
-ghost use Rattle.store_marks.specs.Held.{Departures, Changes};
-ghost use Rattle.store_marks.specs.Stepping.{Steps};
-ghost use Rattle.store_marks.specs.Marking.{ArcsMarked, KidsMarked};
+ghost use Rattle.store_departures.specs.Held.{Departures};
+ghost use Rattle.store_marks.specs.Held.{Changes};
+ghost use Rattle.store_marks.specs.Paths.{Onward};
 ghost use Rattle.store_nodes.specs.Standing.{Standing, StandingTo, Judged, ArcsAt, KidsAt};
 ghost use Rattle.store_nodes.specs.Chunk.{Down, Raised, RaisedOn};
-ghost use Rattle.store_nodes.specs.Hope.{Stationed, Family, Told, Stays, Siblings, ToldOn, Sure};
-ghost use Rattle.store_tree.specs.Tree.{stationIn, parentIn};
+ghost use Rattle.store_nodes.specs.Hope.{Stationed, Family, MarkedKid, Told, Stays, Siblings, ToldOn, Sure};
+ghost use Rattle.store_tree.specs.Tree.{slotIn, parentIn};
 use crate::nodes;
-
-// Each node has a flag for each station that there can be.
-const NODE_FLAGS: usize = 64;
+use crate::nodes::ARC_FLAGS;
+use crate::nodes::KID_FLAGS;
 
 // The number of a node's parent.
 fn parent_of(work: &[u32], node: usize) -> usize
@@ -25,12 +23,12 @@ fn parent_of(work: &[u32], node: usize) -> usize
     store_tree::node_parent(work[node]) as usize
 }
 
-// The station of a node.
-fn station_of(work: &[u32], node: usize) -> usize
+// The slot of a node's change.
+fn slot_of(work: &[u32], node: usize) -> usize
     requires { ⌜ node < length (now work) ⌝ }
-    ensures { λ r. ⌜ r ≡ stationIn (getD (now (work .entry)) node 0) ⌝ }
+    ensures { λ r. ⌜ r ≡ slotIn (getD (now (work .entry)) node 0) ⌝ }
 {
-    store_tree::node_station(work[node]) as usize
+    store_tree::node_slot(work[node]) as usize
 }
 
 // Whether a node is below hi and a kid of the parent.
@@ -44,8 +42,8 @@ fn is_kid(work: &[u32], parent: usize, node: usize, hi: usize) -> bool
     parent_of(work, node) == parent
 }
 
-// Finds the labels of a node that has kids, and raises in hope the flag of each station with which it goes on at minute
-// d. Returns its station.
+// Finds the labels of a node that has kids, and raises in hope the flag of each change with which it goes on at minute
+// d. Returns the station where it boards.
 fn look_ahead(
     words: &[u16],
     chain: &[u16],
@@ -68,20 +66,20 @@ fn look_ahead(
         × (source ≤ stationCount (now words))
         × Standing (now words) source (now work) parent
         × (length (now x) ≡ 2048)
-        × Judged (now words) source d (now allowed) (now catch) (now q)
+        × Judged (now words) source d (now allowed) (now q)
         × (length (now allowed) ≡ 2048)
         × (length (now q) ≡ 2048)
         × Down (now hope)
-        × (length (now hope) ≡ 64) ⌝ }
+        × (length (now hope) ≡ 320) ⌝ }
     ensures { λ r. ⌜ Family (now (words .entry)) source d (now (work .entry)) parent r (now (x .exit))
-        (now (hope .exit)) (now (allowed .entry)) (now (catch .entry)) (now (q .entry))
+        (now (hope .exit)) (now (allowed .entry)) (now (q .entry))
         × Stationed (now (words .entry)) source parent r
         × (r ≤ stationCount (now (words .entry)))
         × (length (now (x .exit)) ≡ 2048)
-        × (length (now (hope .exit)) ≡ 64) ⌝ }
+        × (length (now (hope .exit)) ≡ 320) ⌝ }
 {
     // The node was taken before its kids, so nobody reads its arcs again.
-    let mut spare = [0u8; NODE_FLAGS];
+    let mut spare = [0u8; ARC_FLAGS];
     nodes::mark_node(
         words,
         chain,
@@ -99,8 +97,8 @@ fn look_ahead(
     )
 }
 
-// From the labels at station c finds those at station e, one change later, and raises the flags of the node that
-// changes there.
+// From the labels at station c finds those behind one change more, that of the slot, and raises the flags of the node
+// that ends with it.
 fn mark_kid(
     words: &[u16],
     chain: &[u16],
@@ -109,7 +107,7 @@ fn mark_kid(
     allowed: &[u32],
     q: &[u32],
     c: usize,
-    e: usize,
+    slot: usize,
     x: &mut [u32],
     arcs: &mut [u8],
     kids: &mut [u8],
@@ -119,30 +117,26 @@ fn mark_kid(
         × Departures (now words) (now chain) (now first)
         × Changes (now words) (now catch)
         × (c ≤ stationCount (now words))
-        × (1 ≤ e)
-        × (e ≤ stationCount (now words))
-        × (c ≢ e)
+        × Onward (now words) c slot
         × (length (now x) ≡ 2048)
         × (length (now allowed) ≡ 2048)
         × (length (now q) ≡ 2048)
         × (length (now arcs) ≡ 64)
-        × (length (now kids) ≡ 64) ⌝ }
-    ensures { λ _. ⌜ Steps (now (words .entry)) c e (now (x .entry)) (now (x .exit))
-        × ArcsMarked (now (words .entry)) e (now (x .exit)) (now (allowed .entry))
-        (now (arcs .entry)) (now (arcs .exit))
-        × KidsMarked (now (words .entry)) e (now (x .exit)) (now (allowed .entry)) (now (catch .entry))
-        (now (q .entry)) (now (kids .entry)) (now (kids .exit))
+        × (length (now kids) ≡ 320) ⌝ }
+    ensures { λ _. ⌜ MarkedKid (now (words .entry)) c slot (now (x .entry)) (now (x .exit)) (now (allowed .entry))
+        (now (q .entry)) (now (arcs .entry)) (now (arcs .exit)) (now (kids .entry)) (now (kids .exit))
         × (length (now (x .exit)) ≡ 2048)
         × (length (now (arcs .exit)) ≡ 64)
-        × (length (now (kids .exit)) ≡ 64) ⌝ }
+        × (length (now (kids .exit)) ≡ 320) ⌝ }
 {
-    store_marks::label_step(words, chain, first, catch, c, e, x);
+    let e = store_marks::label_step(words, chain, first, catch, c, slot, x);
     store_marks::mark(words, chain, first, catch, allowed, q, x, e, arcs, kids);
 }
 
-// Raises the flags of a node at station e, its flags standing among those of the nodes from lo on. Its parent's labels
-// at station c are in x and stay there, and hope has the flags of the stations with which the parent goes on: a node
-// with which it does not go on is on no optimal connection at this minute, so it needs no labels and gets no flags.
+// Raises the flags of a node that ends with the change of the slot, its flags standing among those of the nodes from lo
+// on. Its parent's labels at station c are in x and stay there, and hope has the flags of the changes with which the
+// parent goes on: a node with which it does not go on is on no optimal connection at this minute, so it needs no labels
+// and gets no flags.
 fn mark_hoped(
     words: &[u16],
     chain: &[u16],
@@ -153,7 +147,7 @@ fn mark_hoped(
     lo: usize,
     node: usize,
     c: usize,
-    e: usize,
+    slot: usize,
     hope: &[u8],
     x: &mut [u32],
     arcs: &mut [u8],
@@ -164,33 +158,30 @@ fn mark_hoped(
         × Departures (now words) (now chain) (now first)
         × Changes (now words) (now catch)
         × (c ≤ stationCount (now words))
-        × (1 ≤ e)
-        × (e ≤ stationCount (now words))
-        × (e ≤ 64)
-        × (c ≢ e)
-        × (length (now hope) ≡ 64)
+        × Onward (now words) c slot
+        × (slot < 320)
+        × (length (now hope) ≡ 320)
         × (length (now x) ≡ 2048)
         × (length (now allowed) ≡ 2048)
         × (length (now q) ≡ 2048)
-        × (length (now arcs) ≡ 3072)
-        × (length (now kids) ≡ 3072)
+        × (length (now arcs) ≡ 6144)
+        × (length (now kids) ≡ 30720)
         × (lo ≤ node)
-        × (node < lo + 48) ⌝ }
-    ensures { λ _. ⌜ Told (ArcsAt (now (words .entry))) (now (words .entry)) lo node c e (now (x .entry))
-        (now (hope .entry)) (now (allowed .entry)) (now (catch .entry)) (now (q .entry))
-        (now (arcs .entry)) (now (arcs .exit))
-        × Told (KidsAt (now (words .entry))) (now (words .entry)) lo node c e (now (x .entry))
-        (now (hope .entry)) (now (allowed .entry)) (now (catch .entry)) (now (q .entry))
-        (now (kids .entry)) (now (kids .exit))
+        × (node < lo + 96) ⌝ }
+    ensures { λ _. ⌜ Told 64 (ArcsAt (now (words .entry))) (now (words .entry)) lo node c slot (now (x .entry))
+        (now (hope .entry)) (now (allowed .entry)) (now (q .entry)) (now (arcs .entry)) (now (arcs .exit))
+        × Told 320 (KidsAt (now (words .entry))) (now (words .entry)) lo node c slot (now (x .entry))
+        (now (hope .entry)) (now (allowed .entry)) (now (q .entry)) (now (kids .entry)) (now (kids .exit))
         × Stays (now (words .entry)) c (now (hope .entry)) (now (x .entry)) (now (x .exit))
         × (length (now (x .exit)) ≡ 2048)
-        × (length (now (arcs .exit)) ≡ 3072)
-        × (length (now (kids .exit)) ≡ 3072) ⌝ }
+        × (length (now (arcs .exit)) ≡ 6144)
+        × (length (now (kids .exit)) ≡ 30720) ⌝ }
 {
-    if hope[e - 1] != 1 {
+    if hope[slot] != 1 {
         return;
     }
-    let o = 64 * (node - lo);
+    let o = ARC_FLAGS * (node - lo);
+    let p = KID_FLAGS * (node - lo);
     mark_kid(
         words,
         chain,
@@ -199,10 +190,10 @@ fn mark_hoped(
         allowed,
         q,
         c,
-        e,
+        slot,
         x,
-        &mut arcs[o..o + 64],
-        &mut kids[o..o + 64],
+        &mut arcs[o..o + ARC_FLAGS],
+        &mut kids[p..p + KID_FLAGS],
     );
 }
 
@@ -233,29 +224,29 @@ fn mark_sibling(
         × (c ≤ stationCount (now words))
         × Siblings (now words) c (now work) parent hi
         × (parent ≡ parentIn (getD (now work) node 0))
-        × (length (now hope) ≡ 64)
+        × (length (now hope) ≡ 320)
         × (length (now x) ≡ 2048)
         × (length (now allowed) ≡ 2048)
         × (length (now q) ≡ 2048)
-        × (length (now arcs) ≡ 3072)
-        × (length (now kids) ≡ 3072)
+        × (length (now arcs) ≡ 6144)
+        × (length (now kids) ≡ 30720)
         × (1 ≤ node)
         × (lo ≤ node)
         × (node < hi)
-        × (hi ≤ lo + 48) ⌝ }
-    ensures { λ r. ⌜ ToldOn (ArcsAt (now (words .entry))) (now (words .entry)) (now (work .entry)) parent lo node
-        (node + 1) c (now (x .entry)) (now (hope .entry)) (now (allowed .entry)) (now (catch .entry)) (now (q .entry))
+        × (hi ≤ lo + 96) ⌝ }
+    ensures { λ r. ⌜ ToldOn 64 (ArcsAt (now (words .entry))) (now (words .entry)) (now (work .entry)) parent lo node
+        (node + 1) c (now (x .entry)) (now (hope .entry)) (now (allowed .entry)) (now (q .entry))
         (now (arcs .entry)) (now (arcs .exit))
-        × ToldOn (KidsAt (now (words .entry))) (now (words .entry)) (now (work .entry)) parent lo node
-        (node + 1) c (now (x .entry)) (now (hope .entry)) (now (allowed .entry)) (now (catch .entry)) (now (q .entry))
+        × ToldOn 320 (KidsAt (now (words .entry))) (now (words .entry)) (now (work .entry)) parent lo node
+        (node + 1) c (now (x .entry)) (now (hope .entry)) (now (allowed .entry)) (now (q .entry))
         (now (kids .entry)) (now (kids .exit))
         × Stays (now (words .entry)) c (now (hope .entry)) (now (x .entry)) (now (x .exit))
         × Sure (now (work .entry)) parent hi (node + 1) r
         × (length (now (x .exit)) ≡ 2048)
-        × (length (now (arcs .exit)) ≡ 3072)
-        × (length (now (kids .exit)) ≡ 3072) ⌝ }
+        × (length (now (arcs .exit)) ≡ 6144)
+        × (length (now (kids .exit)) ≡ 30720) ⌝ }
 {
-    let e = station_of(work, node);
+    let slot = slot_of(work, node);
     mark_hoped(
         words,
         chain,
@@ -266,7 +257,7 @@ fn mark_sibling(
         lo,
         node,
         c,
-        e,
+        slot,
         hope,
         x,
         arcs,
@@ -302,27 +293,27 @@ fn mark_kids(
         × (c ≤ stationCount (now words))
         × Siblings (now words) c (now work) parent hi
         × (parent ≡ parentIn (getD (now work) node 0))
-        × (length (now hope) ≡ 64)
+        × (length (now hope) ≡ 320)
         × (length (now x) ≡ 2048)
         × (length (now allowed) ≡ 2048)
         × (length (now q) ≡ 2048)
-        × (length (now arcs) ≡ 3072)
-        × (length (now kids) ≡ 3072)
+        × (length (now arcs) ≡ 6144)
+        × (length (now kids) ≡ 30720)
         × (1 ≤ node)
         × (lo ≤ node)
         × (node < hi)
-        × (hi ≤ lo + 48) ⌝ }
-    ensures { λ r. ⌜ ToldOn (ArcsAt (now (words .entry))) (now (words .entry)) (now (work .entry)) parent lo node r c
-        (now (x .entry)) (now (hope .entry)) (now (allowed .entry)) (now (catch .entry)) (now (q .entry))
+        × (hi ≤ lo + 96) ⌝ }
+    ensures { λ r. ⌜ ToldOn 64 (ArcsAt (now (words .entry))) (now (words .entry)) (now (work .entry)) parent lo node r c
+        (now (x .entry)) (now (hope .entry)) (now (allowed .entry)) (now (q .entry))
         (now (arcs .entry)) (now (arcs .exit))
-        × ToldOn (KidsAt (now (words .entry))) (now (words .entry)) (now (work .entry)) parent lo node r c
-        (now (x .entry)) (now (hope .entry)) (now (allowed .entry)) (now (catch .entry)) (now (q .entry))
+        × ToldOn 320 (KidsAt (now (words .entry))) (now (words .entry)) (now (work .entry)) parent lo node r c
+        (now (x .entry)) (now (hope .entry)) (now (allowed .entry)) (now (q .entry))
         (now (kids .entry)) (now (kids .exit))
         × (node < r)
         × (r ≤ hi)
         × (length (now (x .exit)) ≡ 2048)
-        × (length (now (arcs .exit)) ≡ 3072)
-        × (length (now (kids .exit)) ≡ 3072) ⌝ }
+        × (length (now (arcs .exit)) ≡ 6144)
+        × (length (now (kids .exit)) ≡ 30720) ⌝ }
 {
     let mut v = node;
     loop {
@@ -378,25 +369,25 @@ fn mark_siblings(
         × (source ≤ stationCount (now words))
         × StandingTo (now words) source (now work) hi
         × (length (now x) ≡ 2048)
-        × Judged (now words) source d (now allowed) (now catch) (now q)
+        × Judged (now words) source d (now allowed) (now q)
         × (length (now allowed) ≡ 2048)
         × (length (now q) ≡ 2048)
-        × (length (now arcs) ≡ 3072)
-        × (length (now kids) ≡ 3072)
+        × (length (now arcs) ≡ 6144)
+        × (length (now kids) ≡ 30720)
         × (1 ≤ node)
         × (lo ≤ node)
         × (node < hi)
-        × (hi ≤ lo + 48) ⌝ }
-    ensures { λ r. ⌜ RaisedOn (ArcsAt (now (words .entry)) source d) lo node r (now (arcs .entry)) (now (arcs .exit))
-        × RaisedOn (KidsAt (now (words .entry)) source d) lo node r (now (kids .entry)) (now (kids .exit))
+        × (hi ≤ lo + 96) ⌝ }
+    ensures { λ r. ⌜ RaisedOn 64 (ArcsAt (now (words .entry)) source d) lo node r (now (arcs .entry)) (now (arcs .exit))
+        × RaisedOn 320 (KidsAt (now (words .entry)) source d) lo node r (now (kids .entry)) (now (kids .exit))
         × (node < r)
         × (r ≤ hi)
         × (length (now (x .exit)) ≡ 2048)
-        × (length (now (arcs .exit)) ≡ 3072)
-        × (length (now (kids .exit)) ≡ 3072) ⌝ }
+        × (length (now (arcs .exit)) ≡ 6144)
+        × (length (now (kids .exit)) ≡ 30720) ⌝ }
 {
     let parent = parent_of(work, node);
-    let mut hope = [0u8; NODE_FLAGS];
+    let mut hope = [0u8; KID_FLAGS];
     let c = look_ahead(
         words,
         chain,
@@ -458,21 +449,21 @@ fn mark_family(
         × (source ≤ stationCount (now words))
         × StandingTo (now words) source (now work) hi
         × (length (now x) ≡ 2048)
-        × Judged (now words) source d (now allowed) (now catch) (now q)
+        × Judged (now words) source d (now allowed) (now q)
         × (length (now allowed) ≡ 2048)
         × (length (now q) ≡ 2048)
-        × (length (now arcs) ≡ 3072)
-        × (length (now kids) ≡ 3072)
+        × (length (now arcs) ≡ 6144)
+        × (length (now kids) ≡ 30720)
         × (lo ≤ node)
         × (node < hi)
-        × (hi ≤ lo + 48) ⌝ }
-    ensures { λ r. ⌜ RaisedOn (ArcsAt (now (words .entry)) source d) lo node r (now (arcs .entry)) (now (arcs .exit))
-        × RaisedOn (KidsAt (now (words .entry)) source d) lo node r (now (kids .entry)) (now (kids .exit))
+        × (hi ≤ lo + 96) ⌝ }
+    ensures { λ r. ⌜ RaisedOn 64 (ArcsAt (now (words .entry)) source d) lo node r (now (arcs .entry)) (now (arcs .exit))
+        × RaisedOn 320 (KidsAt (now (words .entry)) source d) lo node r (now (kids .entry)) (now (kids .exit))
         × (node < r)
         × (r ≤ hi)
         × (length (now (x .exit)) ≡ 2048)
-        × (length (now (arcs .exit)) ≡ 3072)
-        × (length (now (kids .exit)) ≡ 3072) ⌝ }
+        × (length (now (arcs .exit)) ≡ 6144)
+        × (length (now (kids .exit)) ≡ 30720) ⌝ }
 {
     if node == 0 {
         nodes::mark_at(
@@ -537,18 +528,18 @@ pub fn mark_nodes(
         × (source ≤ stationCount (now words))
         × StandingTo (now words) source (now work) hi
         × (length (now x) ≡ 2048)
-        × Judged (now words) source d (now allowed) (now catch) (now q)
+        × Judged (now words) source d (now allowed) (now q)
         × (length (now allowed) ≡ 2048)
         × (length (now q) ≡ 2048)
-        × (length (now arcs) ≡ 3072)
-        × (length (now kids) ≡ 3072)
+        × (length (now arcs) ≡ 6144)
+        × (length (now kids) ≡ 30720)
         × (lo ≤ hi)
-        × (hi ≤ lo + 48) ⌝ }
-    ensures { λ _. ⌜ Raised (ArcsAt (now (words .entry)) source d) lo hi (now (arcs .entry)) (now (arcs .exit))
-        × Raised (KidsAt (now (words .entry)) source d) lo hi (now (kids .entry)) (now (kids .exit))
+        × (hi ≤ lo + 96) ⌝ }
+    ensures { λ _. ⌜ Raised 64 (ArcsAt (now (words .entry)) source d) lo hi (now (arcs .entry)) (now (arcs .exit))
+        × Raised 320 (KidsAt (now (words .entry)) source d) lo hi (now (kids .entry)) (now (kids .exit))
         × (length (now (x .exit)) ≡ 2048)
-        × (length (now (arcs .exit)) ≡ 3072)
-        × (length (now (kids .exit)) ≡ 3072) ⌝ }
+        × (length (now (arcs .exit)) ≡ 6144)
+        × (length (now (kids .exit)) ≡ 30720) ⌝ }
 {
     let mut node = lo;
     while node < hi {

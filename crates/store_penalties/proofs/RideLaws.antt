@@ -1,17 +1,20 @@
 -- A ride as the code takes it: s is the stop where it begins.
 use mathlib.Core.Path.{_≡_}
-use mathlib.Core.Bool.{Bool}
+use mathlib.Core.Bool.{true}
 use mathlib.Core.List.{List}
 use Prim.Native.Nat.{ℕ, suc, _+_, _^_, _≤_, _<_, min}
 use native.Mathlib.Numerals.{add-one}
 use native.Mathlib.Omega.{arith}
 use lib.ListN.{length, getD, set}
-use Rattle.timetable.specs.Timetable.{Stop}
-use Rattle.timetable.specs.Words.{stopAt}
+use Rattle.timetable.specs.Timetable.{Stop, lastMinute}
+use Rattle.timetable.specs.Words.{stationCount, stopAt, isTimetable}
 use Rattle.connections.specs.Rides.{mayBoard}
-use Rattle.store_stops.specs.Stopwise.{station, depart, changePoints, unreached}
+use Rattle.store_stops.specs.Stopwise.{station, arrive, depart, changePoints, stay, unreached}
+use Rattle.store_stops.specs.OpenWays.{Open}
+use Rattle.store_departures.specs.Order.{catchBy}
 use Rattle.store_points.specs.Lowered.{lowered}
 use Rattle.store_penalties.specs.Boarding.{boarding}
+use Rattle.store_penalties.specs.Offering.{Offering}
 use Rattle.store_penalties.specs.Swept.{Turned}
 use Rattle.store_penalties.specs.Riding.{Departing, unboarded, boarded}
 
@@ -29,8 +32,17 @@ module _ (w caught : List ℕ) (i : ℕ) (v q : List ℕ) (r : Departing w caugh
   pub next-some : 1 ≤ station w (i + 1)
   next-some = rw (add-one i) (r .timely .next-first i (r .goes))
 
-  pub next-most : station w (i + 1) ≤ 64
-  next-most = rw (add-one i) (omega (arith, r .timely .next-listed i (r .goes), r .few))
+  pub next-most : station w (i + 1) ≤ stationCount w
+  next-most = rw (add-one i) (r .timely .next-listed i (r .goes))
+
+  pub next-timely : arrive w (i + 1) ≤ lastMinute
+  next-timely = rw (add-one i) (r .timely .minute i (r .goes))
+
+  pub next-caught : getD caught (i + 1) 0 ≡ catchBy w (stay w (station w (i + 1))) (i + 1)
+  next-caught = rw (add-one i) (r .catches)
+
+  pub accepted : isTimetable w ≡ true
+  accepted = r .accepted
 
   pub next-cheap : changePoints w (station w (i + 1)) ≤ 1000
   next-cheap =
@@ -48,23 +60,18 @@ module _ (w caught : List ℕ) (i : ℕ) (v q : List ℕ) (r : Departing w caugh
     sum-fits b h = rw stop (omega (arith, r .timely .cheap i (r .goes)))
 
     module _
-        (opens : Bool)
-        (is-open : opens ≡ mayBoard s)
         (a : ℕ)
         (low low′ : List ℕ)
         (waits : low′ ≡ lowered (s .station) (getD q i 0) low)
         (b : ℕ)
-        (paid : b ≡ boarding opens a (s .station) (getD v i 0) (getD low′ (s .station) 0))
+        (paid : b ≡ boarding (mayBoard s) a (s .station) (getD v i 0) (getD low′ (s .station) 0))
       where
         pub passed : unreached ≤ b → Turned w a (s .depart) i v q low v q low′
-        passed h = rw stop (unboarded w caught a i v q low r low′ (rw stop at waits) b (rw (is-open, stop) at paid) h)
+        passed h = rw stop (unboarded w caught a i v q low r low′ (rw stop at waits) b (rw stop at paid) h)
 
         pub ridden : (v′ q′ : List ℕ) (more : ℕ) → 2048 ≤ length v → more ≡ b + s .points
             → v′ ≡ set v (i + 1) (min unreached more)
-            → q′ ≡ lowered
-            (getD caught (i + 1) 0)
-            (min unreached more + changePoints w (station w (i + 1)))
-            q
+            → Offering w (i + 1) (min unreached more) (Open w (i + 1)) q q′
             → Turned w a (s .depart) i v q low v′ q′ low′
         ridden v′ q′ more long adds rode offered =
             rw stop
@@ -80,9 +87,9 @@ module _ (w caught : List ℕ) (i : ℕ) (v q : List ℕ) (r : Departing w caugh
             low′
             (rw stop at waits)
             b
-            (rw (is-open, stop) at paid)
+            (rw stop at paid)
             v′
             q′
             long
             (rw (adds, stop, add-one i) at rode)
-            (rw (adds, stop, add-one i, r .catches) at offered))
+            (rw (adds, stop, add-one i) at offered))

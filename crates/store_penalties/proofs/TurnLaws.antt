@@ -63,6 +63,7 @@ module _
       departing =
           record {
             goes = goes;
+            accepted = arranged .timetable;
             timely = arranged .timely;
             few = stations-few w (arranged .timetable);
             catches = arranged .catches i goes;

@@ -1,5 +1,5 @@
--- One departure more, and q and low have the least penalties of changes again. Whoever changes at the station of i to i
--- itself has caught i, which q knew, or a departure before it, which low knew.
+-- One departure more, and q and low have the least penalties of changes again. Whoever changes to i has caught i, which
+-- q knew, or a departure of its station before it, which low knew.
 use mathlib.Core.Path.{_≡_, refl, sym, ap, subst, _∙_}
 use mathlib.Core.Logic.{_⊎_, _≢_, inl, inr}
 use mathlib.Core.List.{List, [], _∷_, _++_, List·Memᴰ·head as here}
@@ -11,8 +11,10 @@ use native.Mathlib.Decide.{decLe, ℕ-discrete}
 use lib.ListN.{getD}
 use Rattle.lists.specs.Lists.{_∈_}
 use Rattle.lists.specs.Members.{cons-cases, append-cases, none}
-use Rattle.store_stops.specs.Stopwise.{station, changePoints, unreached, Catches}
-use Rattle.store_departures.specs.Order.{catch, Waits}
+use Rattle.connections.specs.Connections.{Change}
+use Rattle.store_stops.specs.Stopwise.{station, unreached, CatchesBy}
+use Rattle.store_stops.specs.OpenWays.{Open}
+use Rattle.store_departures.specs.Order.{catchBy, Waits}
 use Rattle.store_penalties.specs.Swept.{changed, Offered, Waited, Swept, Turned}
 use Rattle.store_penalties.specs.Split.{
   Place,
@@ -40,9 +42,11 @@ module _ (done : List ℕ) (i : ℕ) where
 -- an arrival after which one can wait for i, for penalty p
 pub record Changing (w done v : List ℕ) (i p : ℕ) : Type 0 where
   pub k : ℕ
+  pub way : Change
   pub gone : k ∈ done
-  pub waits : Waits w (suc k) i
-  pub is : p ≡ changed w v k
+  pub opened : Open w (suc k) way
+  pub waits : Waits w way (suc k) i
+  pub is : p ≡ changed v k way
 
 module _
     {w : List ℕ}
@@ -62,36 +66,33 @@ module _
     pub v-done : (k : ℕ) → k ∈ done → getD v′ (suc k) 0 ≡ getD v (suc k) 0
     v-done k m = t .v-else (suc k) (λ e. fresh p (subst (λ z. z ∈ done) (suc-inj e) m))
 
-    changed-done : (k : ℕ) → k ∈ done → changed w v′ k ≡ changed w v k
-    changed-done k m = ap (λ z. z + changePoints w (station w (suc k))) (v-done k m)
+    changed-done : (k : ℕ) (way : Change) → k ∈ done → changed v′ k way ≡ changed v k way
+    changed-done k way m = ap (λ z. z + way .points) (v-done k m)
 
     offered-kept : (f x : ℕ) → Offered w done v f x → Offered w more v′ f x
     offered-kept f x r =
         record {
           k = r .k;
+          way = r .way;
           gone = kept done i (r .gone);
+          opened = r .opened;
           catches = r .catches;
-          is = r .is ∙ sym (changed-done (r .k) (r .gone));
+          is = r .is ∙ sym (changed-done (r .k) (r .way) (r .gone));
         }
 
     waited-kept : (c x : ℕ) → Waited w done v c x → Waited w more v′ c x
     waited-kept c x r =
         record {
           k = r .k;
+          way = r .way;
           gone = kept done i (r .gone);
+          opened = r .opened;
           caught = kept done i (r .caught);
-          here = r .here;
-          is = r .is ∙ sym (changed-done (r .k) (r .gone));
+          there = r .there;
+          is = r .is ∙ sym (changed-done (r .k) (r .way) (r .gone));
         }
 
-    -- ---- q and low only fall
-    pub q-falls : (f : ℕ) → getD q′ f 0 ≤ getD q f 0
-    q-falls f =
-        elim (ℕ-discrete f (catch w (suc i))) [
-          | yes e ↦ subst (λ z. getD q′ z 0 ≤ getD q z 0) (sym e) (omega (arith, t .q-here))
-          | no e ↦ omega (arith, t .q-else f e)
-        ]
-
+    -- ---- low only falls
     pub low-falls : (c : ℕ) → getD low′ c 0 ≤ getD low c 0
     low-falls c =
         elim (ℕ-discrete c (station w i)) [
@@ -100,14 +101,20 @@ module _
         ]
 
     -- ---- changes to i
-    offer-here : (k : ℕ) → k ∈ done → catch w (suc k) ≡ i → getD low′ (station w i) 0 ≤ changed w v k
-    offer-here k m e = omega (arith, t .low-here, s .offers k m, ap (λ f. getD q f 0) e)
+    offer-here : (k : ℕ) (way : Change) → k ∈ done → Open w (suc k) way → catchBy w way (suc k) ≡ i
+        → getD low′ (station w i) 0 ≤ changed v k way
+    offer-here k way m o e = omega (arith, t .low-here, s .offers k way m o, ap (λ f. getD q f 0) e)
 
-    pub change-least : (k : ℕ) → k ∈ done → Catches w (suc k) i → getD low′ (station w i) 0 ≤ changed w v k
-    change-least k m c = elim (caught-before p k (goes-done p k m) c) [ inl n ↦ waited n | inr e ↦ offer-here k m e ]
+    pub change-least : (k : ℕ) (way : Change) → k ∈ done → CatchesBy w way (suc k) i
+        → getD low′ (station w i) 0 ≤ changed v k way
+    change-least k way m c =
+        elim (caught-before p way k (goes-done p k m) c) [ inl n ↦ waited n | inr e ↦ offer-here k way m opened e ]
       where
-        waited : catch w (suc k) ∈ done → getD low′ (station w i) 0 ≤ changed w v k
-        waited n = omega (arith, low-falls (station w i), s .waits k m n, ap (λ z. getD low z 0) (c .here))
+        opened : Open w (suc k) way
+        opened = record { listed = c .listed; from = c .from }
+
+        waited : catchBy w way (suc k) ∈ done → getD low′ (station w i) 0 ≤ changed v k way
+        waited n = omega (arith, low-falls (station w i), s .waits k way m opened n, ap (λ z. getD low z 0) (c .to))
 
     low-from : getD low′ (station w i) 0 < unreached
         → Waited w done v (station w i) (getD low′ (station w i) 0) ⊎ Offered w done v i (getD low′ (station w i) 0)
@@ -127,68 +134,73 @@ module _
           | inl r ↦
               record {
                 k = r .k;
+                way = r .way;
                 gone = r .gone;
-                waits = can-wait p (r .k) (r .gone) (r .caught) (sym (r .here));
+                opened = r .opened;
+                waits = can-wait p (r .way) (r .k) (r .gone) (r .caught) (sym (r .there));
                 is = r .is;
               }
           | inr r ↦
               record {
                 k = r .k;
+                way = r .way;
                 gone = r .gone;
-                waits = can-wait-now p (r .k) (goes-done p (r .k) (r .gone)) (r .catches);
+                opened = r .opened;
+                waits = can-wait-now p (r .way) (r .k) (goes-done p (r .k) (r .gone)) (r .catches);
                 is = r .is;
               }
         ]
 
     -- ---- q
-    pub offers : (k : ℕ) → k ∈ more → getD q′ (catch w (suc k)) 0 ≤ changed w v′ k
-    offers k m =
+    pub offers : (k : ℕ) (way : Change) → k ∈ more → Open w (suc k) way
+        → getD q′ (catchBy w way (suc k)) 0 ≤ changed v′ k way
+    offers k way m =
         more-cases
         done
         i
         m
-        (λ n. omega (arith, q-falls (catch w (suc k)), s .offers k n, v-done k n))
-        (λ e. subst (λ z. getD q′ (catch w (suc z)) 0 ≤ changed w v′ z) (sym e) (omega (arith, t .q-here)))
+        (λ n o. omega (arith, t .offering .falls (catchBy w way (suc k)), s .offers k way n o, v-done k n))
+        (λ e. subst Offers (sym e) (t .offering .low way))
+      where
+        Offers : ℕ → Type 0
+        Offers z = Open w (suc z) way → getD q′ (catchBy w way (suc z)) 0 ≤ changed v′ z way
 
     pub offered : (f : ℕ) → f < 2048 → getD q′ f 0 < unreached → Offered w more v′ f (getD q′ f 0)
     offered f h g =
         elim (decLe (getD q f 0) (getD q′ f 0)) [
           | yes l ↦
-              (let e : getD q′ f 0 ≡ getD q f 0 = omega (arith, q-falls f) in
+              (let e : getD q′ f 0 ≡ getD q f 0 = omega (arith, t .offering .falls f) in
               rw e (offered-kept f (getD q f 0) (s .offered f h (omega arith))))
-          | no l ↦ new (omega arith)
+          | no l ↦
+              (let o = t .offering .offered f (omega arith) in
+              record {
+                k = i;
+                way = o .way;
+                gone = now done i;
+                opened = o .opened;
+                catches = o .catches;
+                is = o .is;
+              })
         ]
-      where
-        new : getD q′ f 0 < getD q f 0 → Offered w more v′ f (getD q′ f 0)
-        new l =
-            elim (ℕ-discrete f (catch w (suc i))) [
-              | yes e ↦
-                  record {
-                    k = i;
-                    gone = now done i;
-                    catches = sym e;
-                    is = omega (arith, t .q-here, ap (λ z. getD q′ z 0) e, ap (λ z. getD q z 0) e);
-                  }
-              | no e ↦ absurd (omega (arith, t .q-else f e))
-            ]
 
     -- ---- low
-    pub waits : (k : ℕ) → k ∈ more → catch w (suc k) ∈ more → getD low′ (station w (suc k)) 0 ≤ changed w v′ k
-    waits k m n =
-        more-cases done i m before (λ e. absurd (caught-later p (subst (λ z. catch w (suc z) ∈ more) e n)))
+    pub waits : (k : ℕ) (way : Change) → k ∈ more → Open w (suc k) way → catchBy w way (suc k) ∈ more
+        → getD low′ (way .to) 0 ≤ changed v′ k way
+    waits k way m opened n =
+        more-cases done i m before (λ e. absurd (caught-later p way (subst (λ z. catchBy w way (suc z) ∈ more) e n)))
       where
-        caught-now : k ∈ done → catch w (suc k) ≡ i → getD low′ (station w (suc k)) 0 ≤ changed w v′ k
+        caught-now : k ∈ done → catchBy w way (suc k) ≡ i → getD low′ (way .to) 0 ≤ changed v′ k way
         caught-now l e =
-            let c = can-wait-now p k (goes-done p k l) e in
-            omega (arith, offer-here k l e, ap (λ z. getD low′ z 0) (c .here), v-done k l)
+            let c = can-wait-now p way k (goes-done p k l) e in
+            omega (arith, offer-here k way l opened e, ap (λ z. getD low′ z 0) (c .there), v-done k l)
 
-        before : k ∈ done → getD low′ (station w (suc k)) 0 ≤ changed w v′ k
+        before : k ∈ done → getD low′ (way .to) 0 ≤ changed v′ k way
         before l =
             more-cases
             done
             i
             n
-            (λ o. omega (arith, low-falls (station w (suc k)), s .waits k l o, v-done k l))
+            (λ o. omega (arith, low-falls (way .to), s .waits k way l opened o, v-done k l))
             (caught-now l)
 
     pub waited : (c : ℕ) → c < 65 → getD low′ c 0 < unreached → Waited w more v′ c (getD low′ c 0)
@@ -197,13 +209,15 @@ module _
         at-once : Offered w done v i (getD low′ (station w i) 0)
             → Waited w more v′ (station w i) (getD low′ (station w i) 0)
         at-once r =
-            let c = can-wait-now p (r .k) (goes-done p (r .k) (r .gone)) (r .catches) in
+            let c = can-wait-now p (r .way) (r .k) (goes-done p (r .k) (r .gone)) (r .catches) in
             record {
               k = r .k;
+              way = r .way;
               gone = kept done i (r .gone);
+              opened = r .opened;
               caught = subst (λ z. z ∈ more) (sym (r .catches)) (now done i);
-              here = sym (c .here);
-              is = r .is ∙ sym (changed-done (r .k) (r .gone));
+              there = sym (c .there);
+              is = r .is ∙ sym (changed-done (r .k) (r .way) (r .gone));
             }
 
         here-too : c ≡ station w i → Waited w more v′ c (getD low′ c 0)

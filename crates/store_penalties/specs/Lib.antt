@@ -1,4 +1,5 @@
 pub mod Boarding
+pub mod Offering
 pub mod Swept
 pub mod Split
 pub mod Underway

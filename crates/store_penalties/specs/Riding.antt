@@ -1,5 +1,5 @@
 -- One ride, from stop i to the next: who leaves stop i has come from the start, stayed aboard or changed, and
--- arrives at the next stop, where a change catches another departure.
+-- arrives at the next stop, where each way of changing catches another departure.
 use mathlib.Core.Path.{_≡_, refl, sym, subst, _∙_}
 use mathlib.Core.Bool.{Bool, true, false}
 use mathlib.Core.Logic.{_⊎_, _≢_, inl, inr}
@@ -10,18 +10,21 @@ use native.Mathlib.Decide.{decLe, ℕ-discrete}
 use lib.Dec.{T}
 use lib.ListN.{length, getD, set}
 use lib.Seq.{getD-set-same, getD-set-other}
-use Rattle.timetable.specs.Words.{stationCount, stopAt}
+use Rattle.timetable.specs.Words.{stationCount, stopAt, isTimetable}
 use Rattle.connections.specs.Rides.{mayBoard}
-use Rattle.store_stops.specs.Stopwise.{station, depart, points, changePoints, unreached, Goes, Boards}
+use Rattle.store_stops.specs.Stopwise.{station, depart, points, unreached, Goes, Boards}
+use Rattle.store_stops.specs.OpenWays.{Open}
 use Rattle.store_stops.specs.Settled.{Timely}
-use Rattle.store_departures.specs.Order.{catch}
+use Rattle.store_departures.specs.Order.{catch, catchBy}
 use Rattle.store_points.specs.Lowered.{lowered, lowered-here, lowered-else}
 use Rattle.store_penalties.specs.Boarding.{boarding, boards-closed, boards-free, boards-least}
+use Rattle.store_penalties.specs.Offering.{Offering}
 use Rattle.store_penalties.specs.Swept.{Aboard, Turned}
 
 -- where the ride begins: no one has arrived by it
 pub record Departing (w caught : List ℕ) (i : ℕ) (v q : List ℕ) : Type 0 where
   pub goes : Goes w i
+  pub accepted : isTimetable w ≡ true
   pub timely : Timely w
   pub few : stationCount w ≤ 64
   pub catches : getD caught (suc i) 0 ≡ catch w (suc i)
@@ -108,22 +111,23 @@ module _
           low-else = low-else;
           v-here = omega (arith, r .fresh);
           v-else = λ j e. refl;
-          q-here = omega (arith, r .fresh, r .most (catch w (suc i)));
-          q-else = λ f e. refl;
+          offering =
+              record {
+                falls = λ f. omega arith;
+                low = λ way o. omega (arith, r .fresh, r .most (catchBy w way (suc i)));
+                offered = λ f g. absurd (omega arith);
+              };
         }
 
-    -- the ride to the next stop, and the change there
+    -- the ride to the next stop, and the changes there
     abbrev paid : ℕ
     paid = min unreached (b + points w i)
-
-    abbrev cost : ℕ
-    cost = paid + changePoints w (station w (suc i))
 
     module _
         (v′ q′ : List ℕ)
         (long : 2048 ≤ length v)
         (rode : v′ ≡ set v (suc i) paid)
-        (offered : q′ ≡ lowered (catch w (suc i)) cost q)
+        (offers : Offering w (suc i) paid (Open w (suc i)) q q′)
       where
         inside : suc i < length v
         inside = omega (arith, r .timely .few i (r .goes), r .timely .stops)
@@ -140,8 +144,7 @@ module _
               low-else = low-else;
               v-here = v-here;
               v-else = λ j e. rw rode (getD-set-other v (suc i) j paid 0 e);
-              q-here = rw (offered, v-here) (lowered-here q (catch w (suc i)) cost);
-              q-else = λ f e. rw offered (lowered-else q (catch w (suc i)) cost f e);
+              offering = rw v-here offers;
             }
 
 -- the same for an earlier minute to start from
@@ -161,6 +164,5 @@ from-earlier on t =
       low-else = t .low-else;
       v-here = t .v-here;
       v-else = t .v-else;
-      q-here = t .q-here;
-      q-else = t .q-else;
+      offering = t .offering;
     }

@@ -10,9 +10,10 @@ use native.Mathlib.Decide.{decLt}
 use Rattle.lists.specs.Lists.{_∈_, Distinct}
 use Rattle.lists.specs.Members.{cons-cases, append-cases, none}
 use Rattle.timetable.specs.Words.{stationCount}
-use Rattle.store_stops.specs.Stopwise.{station, depart, nowhere, Goes, Catches}
+use Rattle.connections.specs.Connections.{Change}
+use Rattle.store_stops.specs.Stopwise.{station, depart, nowhere, Goes, CatchesBy}
 use Rattle.store_stops.specs.Settled.{Timely}
-use Rattle.store_departures.specs.Order.{order, catch, InOrder, Waits, waits-for}
+use Rattle.store_departures.specs.Order.{order, catchBy, InOrder, Waits, waits-for}
 
 -- a list in which x stands, before x and behind it
 pub record Around (x : ℕ) (l : List ℕ) : Type 0 where
@@ -84,70 +85,73 @@ module _ {w done left : List ℕ} {i : ℕ} (p : Place w done left i) where
       let g = goes-done (suc i) m in
       omega (arith, p .timely .before i goes-now, p .timely .waits i goes-now g, earlier (suc i) m)
 
-  -- and so is what is caught there
-  pub not-caught : (k g : ℕ) → k ≡ i → g ∈ done → ¬ Waits w (suc k) g
-  not-caught k g e m c =
-      let now : Goes w k = subst (Goes w) (sym e) goes-now in
-      omega (arith, p .timely .before k now, c .timely, earlier g m, ap (depart w) e)
-
-  not-itself : ¬ Waits w (suc i) i
-  not-itself c = omega (arith, p .timely .before i goes-now, c .timely)
-
-  pub left-before : (k : ℕ) → Goes w k → Catches w (suc k) i → k ∈ done
-  left-before k g c =
-      place-cases
-      k
-      g
-      (λ m. m)
-      (λ e. absurd (not-itself (subst (λ z. Waits w (suc z) i) e (waits-for w c))))
-      (λ m. absurd (omega (arith, p .timely .before k g, c .timely, later k m)))
-
   small : (k : ℕ) → Goes w k → k < nowhere
   small k g = omega (arith, stop-most k g)
 
-  -- whoever can change to i has caught it or one before it
-  pub caught-before : (k : ℕ) → Goes w k → Catches w (suc k) i → (catch w (suc k) ∈ done) ⊎ (catch w (suc k) ≡ i)
-  caught-before k g c =
-      elim (decLt (catch w (suc k)) nowhere) [
-        | yes h ↦ caught h
-        | no h ↦ absurd (p .ordered .caught-none k i g (omega arith) (waits-for w c))
-      ]
-    where
-      behind : catch w (suc k) ∈ left → ⊥
-      behind m =
-          let r = around m in
-          let f = catch w (suc k) in
-          let whole : order w ≡ (done ++ (i ∷ r .before)) ++ (f ∷ r .behind) =
-          p .split ∙ ap (λ l. done ++ (i ∷ l)) (r .whole) ∙ sym (append-assoc done (i ∷ r .before) (f ∷ r .behind)) in
-          let n = p .ordered .caught-first k i (done ++ (i ∷ r .before)) (r .behind) g whole (waits-for w c) in
-          single (subst (λ l. i ∈ l) (sym (r .whole)) (Memᴰ·append-right (r .before) n))
+  module _ (way : Change) where
+    -- and so is what is caught there
+    pub not-caught : (k g : ℕ) → k ≡ i → g ∈ done → ¬ Waits w way (suc k) g
+    not-caught k g e m c =
+        let now : Goes w k = subst (Goes w) (sym e) goes-now in
+        omega (arith, p .timely .before k now, c .timely, earlier g m, ap (depart w) e)
 
-      caught : catch w (suc k) < nowhere → (catch w (suc k) ∈ done) ⊎ (catch w (suc k) ≡ i)
-      caught h =
-          place-cases
-          (catch w (suc k))
-          (p .ordered .caught k g h .goes)
-          inl
-          inr
-          (λ m. absurd (behind m))
+    not-itself : ¬ Waits w way (suc i) i
+    not-itself c = omega (arith, p .timely .before i goes-now, c .timely)
 
-  -- whoever has caught one before i can wait for i
-  pub can-wait : (k : ℕ) → k ∈ done → catch w (suc k) ∈ done → station w i ≡ station w (suc k) → Waits w (suc k) i
-  can-wait k m n e =
-      let r = around n in
-      let f = catch w (suc k) in
-      let whole : order w ≡ r .before ++ (f ∷ (r .behind ++ (i ∷ left))) =
-      p .split ∙ ap (λ l. l ++ (i ∷ left)) (r .whole) ∙ append-assoc (r .before) (f ∷ r .behind) (i ∷ left) in
-      p .ordered .caught-behind k i (r .before) (r .behind ++ (i ∷ left)) (goes-done k m) whole
-      (Memᴰ·append-right (r .behind) (here refl)) e
+    pub left-before : (k : ℕ) → Goes w k → CatchesBy w way (suc k) i → k ∈ done
+    left-before k g c =
+        place-cases
+        k
+        g
+        (λ m. m)
+        (λ e. absurd (not-itself (subst (λ z. Waits w way (suc z) i) e (waits-for w c))))
+        (λ m. absurd (omega (arith, p .timely .before k g, c .timely, later k m)))
 
-  pub can-wait-now : (k : ℕ) → Goes w k → catch w (suc k) ≡ i → Waits w (suc k) i
-  can-wait-now k g e = subst (Waits w (suc k)) e (p .ordered .caught k g (rw e (small i goes-now)))
+    -- whoever can change to i so has caught it or one before it
+    pub caught-before : (k : ℕ) → Goes w k → CatchesBy w way (suc k) i
+        → (catchBy w way (suc k) ∈ done) ⊎ (catchBy w way (suc k) ≡ i)
+    caught-before k g c =
+        elim (decLt (catchBy w way (suc k)) nowhere) [
+          | yes h ↦ caught h
+          | no h ↦ absurd (p .ordered .caught-none way k i g (omega arith) (waits-for w c))
+        ]
+      where
+        behind : catchBy w way (suc k) ∈ left → ⊥
+        behind m =
+            let r = around m in
+            let f = catchBy w way (suc k) in
+            let whole : order w ≡ (done ++ (i ∷ r .before)) ++ (f ∷ r .behind) =
+            p .split ∙ ap (λ l. done ++ (i ∷ l)) (r .whole)
+            ∙ sym (append-assoc done (i ∷ r .before) (f ∷ r .behind)) in
+            let n = p .ordered .caught-first way k i (done ++ (i ∷ r .before)) (r .behind) g whole (waits-for w c) in
+            single (subst (λ l. i ∈ l) (sym (r .whole)) (Memᴰ·append-right (r .before) n))
 
-  pub caught-later : ¬ (catch w (suc i) ∈ done ++ (i ∷ []))
-  caught-later m =
-      append-cases
-      done
-      m
-      (λ n. not-caught i (catch w (suc i)) refl n (p .ordered .caught i goes-now (small _ (goes-done _ n))))
-      (λ n. cons-cases n (λ e. not-itself (can-wait-now i goes-now e)) none)
+        caught : catchBy w way (suc k) < nowhere → (catchBy w way (suc k) ∈ done) ⊎ (catchBy w way (suc k) ≡ i)
+        caught h =
+            place-cases
+            (catchBy w way (suc k))
+            (p .ordered .caught way k g h .goes)
+            inl
+            inr
+            (λ m. absurd (behind m))
+
+    -- whoever has caught one before i can wait for i
+    pub can-wait : (k : ℕ) → k ∈ done → catchBy w way (suc k) ∈ done → station w i ≡ way .to → Waits w way (suc k) i
+    can-wait k m n e =
+        let r = around n in
+        let f = catchBy w way (suc k) in
+        let whole : order w ≡ r .before ++ (f ∷ (r .behind ++ (i ∷ left))) =
+        p .split ∙ ap (λ l. l ++ (i ∷ left)) (r .whole) ∙ append-assoc (r .before) (f ∷ r .behind) (i ∷ left) in
+        p .ordered .caught-behind way k i (r .before) (r .behind ++ (i ∷ left)) (goes-done k m) whole
+        (Memᴰ·append-right (r .behind) (here refl)) e
+
+    pub can-wait-now : (k : ℕ) → Goes w k → catchBy w way (suc k) ≡ i → Waits w way (suc k) i
+    can-wait-now k g e = subst (Waits w way (suc k)) e (p .ordered .caught way k g (rw e (small i goes-now)))
+
+    pub caught-later : ¬ (catchBy w way (suc i) ∈ done ++ (i ∷ []))
+    caught-later m =
+        append-cases
+        done
+        m
+        (λ n. not-caught i (catchBy w way (suc i)) refl n (p .ordered .caught way i goes-now (small _ (goes-done _ n))))
+        (λ n. cons-cases n (λ e. not-itself (can-wait-now i goes-now e)) none)

@@ -7,9 +7,9 @@ use native.Mathlib.Omega.{arith}
 use native.Mathlib.Decide.{decLt}
 use lib.ListN.{length, getD, replicate, length-replicate, getD-replicate, List·getD-eq-default}
 use Rattle.lists.specs.Lists.{_∈_}
-use Rattle.store_stops.specs.Stopwise.{station, depart, unreached, Goes}
+use Rattle.store_stops.specs.Stopwise.{depart, unreached, Goes}
 use Rattle.store_stops.specs.Settled.{Timely, Settled}
-use Rattle.store_departures.specs.Order.{order, catch, InOrder}
+use Rattle.store_departures.specs.Order.{order, catchBy, InOrder}
 use Rattle.store_penalties.specs.Swept.{Swept}
 
 -- ---- no one on the way
@@ -45,15 +45,15 @@ module _ (w : List ℕ) (a d : ℕ) (done : List ℕ) (timely : Timely w) (goes 
       record {
         q-most = no-q .most;
         low-most = no-low .most;
-        offers = λ i o. omega (arith, no-q .most (catch w (suc i)), far i (goes i o));
+        offers = λ i way m o. omega (arith, no-q .most (catchBy w way (suc i)), far i (goes i m));
         offered = λ f h g. absurd (omega (arith, no-q .each f h));
-        waits = λ i o c. omega (arith, no-low .most (station w (suc i)), far i (goes i o));
+        waits = λ i way m o c. omega (arith, no-low .most (way .to), far i (goes i m));
         waited = λ c h g. absurd (omega (arith, no-low .each c h));
         v-most = no-v .most;
         reached = λ j h g. absurd (omega (arith, no-v .each j h));
         starts = λ i o b e h. absurd (omega (arith, early i o));
         stays = λ i g o. omega (arith, no-v .most (suc (suc i)), far i g);
-        changes = λ i g h o c. omega (arith, no-v .most (suc g), far i h);
+        changes = λ i g p h o c. omega (arith, no-v .most (suc g), far i h);
         attained = λ i o h. absurd (omega (arith, far i (goes i o)));
       }
 
@@ -63,7 +63,7 @@ settles w a d v q low o s =
     record {
       starts = λ i b. s .starts i (o .all i (b .goes)) b;
       stays = λ i g h. s .stays i g (o .all (suc i) h);
-      changes = λ i g h c. s .changes i g h (o .all g (c .boards .goes)) c;
+      changes = λ i g p h c. s .changes i g p h (o .all g (c .catches .boards .goes)) c;
       attained = λ i g. s .attained i (o .all i g);
       capped = λ i g. s .v-most (suc i);
     }

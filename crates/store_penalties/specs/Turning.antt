@@ -1,6 +1,6 @@
 -- One departure more, and v has the least penalties on arrival again, up to that departure. Whatever boards there has
 -- left before, so the penalties that it is reckoned from are settled and do not change any more.
-use mathlib.Core.Path.{_≡_, sym, ap, subst, _∙_}
+use mathlib.Core.Path.{_≡_, refl, sym, ap, subst, _∙_}
 use mathlib.Core.Logic.{_⊎_, _≢_, inl, inr}
 use mathlib.Core.List.{List, [], _∷_, _++_}
 use Prim.Native.Nat.{ℕ, suc, _+_, _≤_, _<_}
@@ -12,7 +12,7 @@ use Rattle.lists.specs.Lists.{_∈_}
 use Rattle.store_stops.specs.Stopwise.{station, depart, points, unreached, Goes, Boards, Catches}
 use Rattle.store_stops.specs.Settled.{FromStart, FromStop, FromChange}
 use Rattle.store_departures.specs.Order.{waits-for, boards-at}
-use Rattle.store_penalties.specs.Swept.{changed, Behind, Swept, Turned}
+use Rattle.store_penalties.specs.Swept.{Behind, Swept, Turned}
 use Rattle.store_penalties.specs.Underway.{on-the-way}
 use Rattle.store_penalties.specs.Split.{
   Place,
@@ -28,7 +28,6 @@ use Rattle.store_penalties.specs.Changing.{
   now,
   more-cases,
   v-done,
-  q-falls,
   low-falls,
   change-least,
   change-from,
@@ -131,22 +130,29 @@ module _
         here-too : suc k ≡ i → Stays (suc k)
         here-too e = subst Stays (sym e) (omega (arith, t .v-here, t .aboard .by-staying, stayed))
 
-    changes : (k g : ℕ) → Goes w k → g ∈ more → Catches w (suc k) g
-        → getD v′ (suc g) 0 ≤ changed w v′ k + points w g
-    changes k g h m = more-cases done i m before (λ e. subst Changes (sym e) here-too)
+    changes : (k g x : ℕ) → Goes w k → g ∈ more → Catches w (suc k) g x
+        → getD v′ (suc g) 0 ≤ getD v′ (suc k) 0 + x + points w g
+    changes k g x h m = more-cases done i m before (λ e. subst Changes (sym e) here-too)
       where
         Changes : ℕ → Type 0
-        Changes z = Catches w (suc k) z → getD v′ (suc z) 0 ≤ changed w v′ k + points w z
+        Changes z = Catches w (suc k) z x → getD v′ (suc z) 0 ≤ getD v′ (suc k) 0 + x + points w z
 
         before : g ∈ done → Changes g
         before n c =
-            let other : suc k ≢ suc i = (λ e. not-caught p k g (suc-inj e) n (waits-for w c)) in
-            omega (arith, v-done p s t g n, t .v-else (suc k) other, s .changes k g h n c)
+            let other : suc k ≢ suc i = (λ e. not-caught p (c .way) k g (suc-inj e) n (waits-for w (c .catches))) in
+            omega (arith, v-done p s t g n, t .v-else (suc k) other, s .changes k g x h n c)
 
         here-too : Changes i
         here-too c =
-            let n = left-before p k h c in
-            omega (arith, t .v-here, t .aboard .by-changing (c .boards), change-least p s t k n c, v-done p s t k n)
+            let n = left-before p (c .way) k h (c .catches) in
+            omega (
+              arith,
+              t .v-here,
+              t .aboard .by-changing (c .catches .boards),
+              change-least p s t k (c .way) n (c .catches),
+              c .price,
+              v-done p s t k n,
+            )
 
     -- ---- someone has paid that much
     abbrev From : ℕ → Type 0
@@ -169,11 +175,14 @@ module _
 
       change-kept : FromChange w a d v k → FromChange w a d v′ k
       change-kept r =
-          let other : suc (r .k) ≢ suc i = (λ e. not-caught p (r .k) k (suc-inj e) n (waits-for w (r .catches))) in
+          let c = r .catches in
+          let other : suc (r .k) ≢ suc i =
+          (λ e. not-caught p (c .way) (r .k) k (suc-inj e) n (waits-for w (c .catches))) in
           record {
             k = r .k;
+            price = r .price;
             goes = r .goes;
-            catches = r .catches;
+            catches = c;
             is = omega (arith, v-done p s t k n, t .v-else (suc (r .k)) other, r .is);
           }
 
@@ -200,8 +209,14 @@ module _
           let r = change-from p s t (omega (arith, paid h)) in
           record {
             k = r .k;
+            price = r .way .points;
             goes = goes-done p (r .k) (r .gone);
-            catches = boards-at w (r .waits) b;
+            catches =
+                record {
+                  way = r .way;
+                  catches = boards-at w (r .opened .listed) (r .opened .from) (r .waits) b;
+                  price = refl;
+                };
             is = omega (arith, arrived h, e, r .is, v-done p s t (r .k) (r .gone));
           }
 
@@ -221,7 +236,7 @@ module _
     pub turned : Swept w a d more v′ q′ low′
     turned =
         record {
-          q-most = λ f. omega (arith, q-falls p s t f, s .q-most f);
+          q-most = λ f. omega (arith, t .offering .falls f, s .q-most f);
           low-most = λ c. omega (arith, low-falls p s t c, s .low-most c);
           offers = offers p s t;
           offered = offered p s t;

@@ -1,12 +1,19 @@
 // The least penalties on arrival at each stop, for a start at one station from one minute on: one pass over the
 // departures in their order.
 ghost use mathlib.Core.Path.{_≡_};
+ghost use mathlib.Core.Bool.{true};
 ghost use Prim.Native.Nat.{_+_, _≤_, _<_, min};
 ghost use lib.ListN.{length, getD, set, take};
-ghost use Rattle.timetable.specs.Words.{stationCount, stopAt};
-ghost use Rattle.store_stops.specs.Stopwise.{unreached, station, changePoints};
+ghost use Rattle.timetable.specs.Timetable.{lastMinute};
+ghost use Rattle.timetable.specs.Words.{stationCount, stopAt, walkCount, walksTo, isTimetable};
+ghost use Rattle.connections.specs.Rides.{mayBoard};
+ghost use Rattle.store_stops.specs.Stopwise.{unreached, station, arrive, changePoints, stay};
+ghost use Rattle.store_stops.specs.OpenWays.{Open, ByWalk, WalkTo};
 ghost use Rattle.store_stops.specs.Settled.{Settled};
+ghost use Rattle.store_departures.specs.Order.{catchBy};
+ghost use Rattle.store_departures.specs.Held.{Departures};
 ghost use Rattle.store_departures.specs.Rising.{minuteAt, Early, InTime};
+ghost use Rattle.store_penalties.specs.Offering.{Offering};
 ghost use Rattle.store_penalties.specs.Swept.{Swept, Turned};
 ghost use Rattle.store_penalties.specs.Sweeping.{Blank};
 ghost use Rattle.store_penalties.specs.Riding.{Departing};
@@ -45,25 +52,24 @@ fn boarding(opens: bool, source: usize, c: usize, stay: Points, change: Points) 
     query_minutes::lesser(stay, change)
 }
 
-// Who has caught departure i, at station c, can board there from now on, where a stop is open to that. Returns the
-// least that one has paid who leaves at i.
-fn board(
-    opens: bool,
-    source: usize,
-    c: usize,
-    i: usize,
-    v: &[u32],
-    q: &[u32],
-    low: &mut [u32],
-) -> Points
-    requires { ⌜ (i < length (now v)) × (i < length (now q)) × (c < length (now low)) ⌝ }
-    ensures { λ _. ⌜ now (low .exit) ≡ lowered c (getD (now (q .entry)) i 0) (now (low .entry)) ⌝ }
-    ensures { λ r. ⌜ r .0 ≡ boarding opens source c (getD (now (v .entry)) i 0) (getD (now (low .exit)) c 0) ⌝ }
+// Who has caught departure i, at stop s, can board at its station from now on, where a stop is open to that. Returns
+// the least that one has paid who leaves at i.
+fn board(s: Stop, source: usize, i: usize, v: &[u32], q: &[u32], low: &mut [u32]) -> Points
+    requires { ⌜ (i < length (now v)) × (i < length (now q)) × (s .station < length (now low)) ⌝ }
+    ensures { λ _. ⌜ now (low .exit) ≡ lowered (s .station) (getD (now (q .entry)) i 0) (now (low .entry)) ⌝ }
+    ensures { λ r. ⌜ r .0
+        ≡ boarding
+        (mayBoard s)
+        source
+        (s .station)
+        (getD (now (v .entry)) i 0)
+        (getD (now (low .exit)) (s .station) 0) ⌝ }
     ensures { λ _. ⌜ length (now (low .exit)) ≡ length (now (low .entry)) ⌝ }
 {
+    let c = s.station as usize;
     store_points::lower(low, c, query_minutes::points_at(q, i));
     boarding(
-        opens,
+        store_departures::may_board(s),
         source,
         c,
         query_minutes::points_at(v, i),
@@ -71,31 +77,151 @@ fn board(
     )
 }
 
-// Who arrives at stop j has paid p, and can change to the departure that is caught there.
-fn arrive(words: &[u16], catches: &[u16], j: usize, p: Points, v: &mut [u32], q: &mut [u32])
-    requires { ⌜ (16384 ≤ length (now words)) × (stationCount (now words) ≤ 64) × (j < 2048) ⌝ }
-    requires { ⌜ (1 ≤ station (now words) j)
-        × (station (now words) j ≤ 64)
-        × (changePoints (now words) (station (now words) j) ≤ 1000) ⌝ }
-    requires { ⌜ (2048 ≤ length (now catches)) × (2048 ≤ length (now v)) ⌝ }
+// ---- changes of one who arrives at stop j, having paid u
+
+// By walk k, to the departure that it catches.
+fn walk(words: &[u16], chain: &[u16], first: &[u32], k: usize, j: usize, u: Points, q: &mut [u32])
+    requires { ⌜ (16384 ≤ length (now words))
+        × (isTimetable (now words) ≡ true)
+        × Departures (now words) (now chain) (now first)
+        × (k < walkCount (now words))
+        × (j < 2048)
+        × (arrive (now words) j ≤ lastMinute)
+        × (u .0 ≤ unreached) ⌝ }
+    ensures { λ _. ⌜ Offering
+        (now (words .entry))
+        j
+        (u .0)
+        (ByWalk (now (words .entry)) k)
+        (now (q .entry))
+        (now (q .exit)) ⌝ }
+    ensures { λ _. ⌜ length (now (q .exit)) ≡ length (now (q .entry)) ⌝ }
+{
+    let walk = timetable::walk_at(words, k);
+    let f = store_departures::catch_on_foot(words, chain, first, walk, j) as usize;
+    store_points::lower(q, f, query_minutes::sum(u, store_points::of_walk(walk)));
+}
+
+// By each walk from station c.
+fn walk_all(
+    words: &[u16],
+    chain: &[u16],
+    first: &[u32],
+    c: usize,
+    j: usize,
+    u: Points,
+    q: &mut [u32],
+)
+    requires { ⌜ (16384 ≤ length (now words))
+        × (isTimetable (now words) ≡ true)
+        × Departures (now words) (now chain) (now first)
+        × (1 ≤ c)
+        × (c ≤ stationCount (now words))
+        × (j < 2048)
+        × (arrive (now words) j ≤ lastMinute)
+        × (u .0 ≤ unreached) ⌝ }
+    ensures { λ _. ⌜ Offering
+        (now (words .entry))
+        j
+        (u .0)
+        (WalkTo (now (words .entry)) c (walksTo (now (words .entry)) c))
+        (now (q .entry))
+        (now (q .exit)) ⌝ }
+    ensures { λ _. ⌜ length (now (q .exit)) ≡ length (now (q .entry)) ⌝ }
+{
+    let end = timetable::walks_to(words, c);
+    let mut k = timetable::walks_to(words, c - 1);
+    while k < end {
+        walk(words, chain, first, k, j, u, q);
+        k += 1;
+    }
+}
+
+// At station c itself, to the departure that is caught there, and by each walk from there.
+fn change(
+    words: &[u16],
+    chain: &[u16],
+    first: &[u32],
+    catches: &[u16],
+    c: usize,
+    j: usize,
+    u: Points,
+    q: &mut [u32],
+)
+    requires { ⌜ (16384 ≤ length (now words))
+        × (isTimetable (now words) ≡ true)
+        × Departures (now words) (now chain) (now first)
+        × (1 ≤ c)
+        × (c ≤ stationCount (now words))
+        × (j < 2048)
+        × (station (now words) j ≡ c)
+        × (arrive (now words) j ≤ lastMinute)
+        × (changePoints (now words) c ≤ 1000)
+        × (u .0 ≤ unreached)
+        × (2048 ≤ length (now catches))
+        × (getD (now catches) j 0 ≡ catchBy (now words) (stay (now words) c) j) ⌝ }
+    ensures { λ _. ⌜ Offering
+        (now (words .entry))
+        j
+        (u .0)
+        (Open (now (words .entry)) j)
+        (now (q .entry))
+        (now (q .exit)) ⌝ }
+    ensures { λ _. ⌜ length (now (q .exit)) ≡ length (now (q .entry)) ⌝ }
+{
+    let f = words::word(catches, j) as usize;
+    store_points::lower(
+        q,
+        f,
+        query_minutes::sum(u, store_points::of_change(words, c)),
+    );
+    walk_all(words, chain, first, c, j, u, q);
+}
+
+// Who arrives at stop j has paid p, and can change in all ways that are open there.
+fn arrive(
+    words: &[u16],
+    chain: &[u16],
+    first: &[u32],
+    catches: &[u16],
+    j: usize,
+    p: Points,
+    v: &mut [u32],
+    q: &mut [u32],
+)
+    requires { ⌜ (16384 ≤ length (now words))
+        × (isTimetable (now words) ≡ true)
+        × Departures (now words) (now chain) (now first)
+        × (j < 2048)
+        × (1 ≤ station (now words) j)
+        × (station (now words) j ≤ stationCount (now words))
+        × (arrive (now words) j ≤ lastMinute)
+        × (changePoints (now words) (station (now words) j) ≤ 1000)
+        × (2048 ≤ length (now catches))
+        × (2048 ≤ length (now v))
+        × (getD (now catches) j 0 ≡ catchBy (now words) (stay (now words) (station (now words) j)) j) ⌝ }
     ensures { λ _. ⌜ now (v .exit) ≡ set (now (v .entry)) j (min unreached (p .0)) ⌝ }
-    ensures { λ _. ⌜ now (q .exit)
-        ≡ lowered (getD (now (catches .entry)) j 0)
-        (min unreached (p .0) + changePoints (now (words .entry)) (station (now (words .entry)) j))
-        (now (q .entry)) ⌝ }
+    ensures { λ _. ⌜ Offering
+        (now (words .entry))
+        j
+        (min unreached (p .0))
+        (Open (now (words .entry)) j)
+        (now (q .entry))
+        (now (q .exit)) ⌝ }
     ensures { λ _. ⌜ (length (now (v .exit)) ≡ length (now (v .entry)))
         × (length (now (q .exit)) ≡ length (now (q .entry))) ⌝ }
 {
     let u = query_minutes::lesser(UNREACHED, p);
     query_minutes::set_points(v, j, u);
-    let f = words::word(catches, j) as usize;
-    let cost = store_points::of_change(words, timetable::stop_at(words, j).station as usize);
-    store_points::lower(q, f, query_minutes::sum(u, cost));
+    let c = timetable::stop_at(words, j).station as usize;
+    change(words, chain, first, catches, c, j, u, q);
 }
 
 // The ride that begins at stop i, which is s.
 fn ride(
     words: &[u16],
+    chain: &[u16],
+    first: &[u32],
     catches: &[u16],
     source: usize,
     i: usize,
@@ -105,7 +231,7 @@ fn ride(
     low: &mut [u32],
 )
     requires { ⌜ (16384 ≤ length (now words))
-        × (stationCount (now words) ≤ 64)
+        × Departures (now words) (now chain) (now first)
         × (2048 ≤ length (now catches))
         × (2048 ≤ length (now v))
         × (2048 ≤ length (now q))
@@ -127,18 +253,28 @@ fn ride(
         × (length (now (q .exit)) ≡ length (now (q .entry)))
         × (length (now (low .exit)) ≡ length (now (low .entry))) ⌝ }
 {
-    let opens = store_departures::may_board(s);
-    let b = board(opens, source, s.station as usize, i, v, q, low);
+    let b = board(s, source, i, v, q, low);
     if query_minutes::at_least(b, UNREACHED) {
         return;
     }
-    arrive(words, catches, i + 1, store_points::after_ride(b, s), v, q);
+    arrive(
+        words,
+        chain,
+        first,
+        catches,
+        i + 1,
+        store_points::after_ride(b, s),
+        v,
+        q,
+    );
 }
 
 // The departure at place x of the order, at minute d or later.
 fn turn(
     words: &[u16],
     order: &[u16],
+    chain: &[u16],
+    first: &[u32],
     catches: &[u16],
     source: usize,
     d: usize,
@@ -150,6 +286,7 @@ fn turn(
     requires { ⌜ (16384 ≤ length (now words)) × (2048 ≤ length (now catches)) ⌝ }
     requires { ⌜ (2048 ≤ length (now v)) × (2048 ≤ length (now q)) × (length (now low) ≡ 65) ⌝ }
     requires { ⌜ (x < length (departures (now words))) × Arranged (now words) (now order) (now catches) ⌝ }
+    requires { ⌜ Departures (now words) (now chain) (now first) ⌝ }
     requires { ⌜ (d ≤ minuteAt (now words) (now order) x) ⌝ }
     requires { ⌜ Swept (now words) source d (take x (departures (now words))) (now v) (now q) (now low) ⌝ }
     ensures { λ _. ⌜ Swept
@@ -166,7 +303,7 @@ fn turn(
 {
     let i = words::word(order, x) as usize;
     let s = timetable::stop_at(words, i);
-    ride(words, catches, source, i, s, v, q, low);
+    ride(words, chain, first, catches, source, i, s, v, q, low);
 }
 
 // The departures from place begin of the order on, all of them at minute d or later. v, q and low are blank.
@@ -175,6 +312,8 @@ fn sweep(
     order: &[u16],
     n: usize,
     begin: usize,
+    chain: &[u16],
+    first: &[u32],
     catches: &[u16],
     source: usize,
     d: usize,
@@ -185,6 +324,7 @@ fn sweep(
     requires { ⌜ (16384 ≤ length (now words)) × (2048 ≤ length (now catches)) ⌝ }
     requires { ⌜ (2048 ≤ length (now v)) × (2048 ≤ length (now q)) × (length (now low) ≡ 65) ⌝ }
     requires { ⌜ (n ≡ length (departures (now words))) × Arranged (now words) (now order) (now catches) ⌝ }
+    requires { ⌜ Departures (now words) (now chain) (now first) ⌝ }
     requires { ⌜ (begin ≤ n)
         × Early (now words) (now order) d 0 begin
         × InTime (now words) (now order) d begin n ⌝ }
@@ -196,17 +336,20 @@ fn sweep(
 {
     let mut x = begin;
     while x < n {
-        turn(words, order, catches, source, d, x, v, q, low);
+        turn(words, order, chain, first, catches, source, d, x, v, q, low);
         x += 1;
     }
 }
 
 // v gets the least penalties on arrival, for a start at the source from minute d on; q is working space. The first n
-// words of the order are the departures; catches has for each arrival the first departure that a change reaches.
+// words of the order are the departures, which stand in the chain by station, each station's from where first says;
+// catches has for each arrival the first departure that a change at the station itself reaches.
 pub fn least_penalties(
     words: &[u16],
     order: &[u16],
     n: usize,
+    chain: &[u16],
+    first: &[u32],
     catches: &[u16],
     source: usize,
     d: usize,
@@ -216,6 +359,7 @@ pub fn least_penalties(
     requires { ⌜ (16384 ≤ length (now words)) × (2048 ≤ length (now catches)) ⌝ }
     requires { ⌜ (2048 ≤ length (now v)) × (2048 ≤ length (now q)) ⌝ }
     requires { ⌜ (n ≡ length (departures (now words))) × Arranged (now words) (now order) (now catches) ⌝ }
+    requires { ⌜ Departures (now words) (now chain) (now first) ⌝ }
     ensures { λ _. ⌜ Settled (now (words .entry)) source d (now (v .exit)) ⌝ }
     ensures { λ _. ⌜ (length (now (v .exit)) ≡ length (now (v .entry)))
         × (length (now (q .exit)) ≡ length (now (q .entry))) ⌝ }
@@ -225,5 +369,18 @@ pub fn least_penalties(
     let mut low = [UNREACHED_WORD; 65];
     // Before minute d there is no one: those departures stand in front, and are left out.
     let begin = store_departures::first_from(words, order, 0, n, d);
-    sweep(words, order, n, begin, catches, source, d, v, q, &mut low);
+    sweep(
+        words,
+        order,
+        n,
+        begin,
+        chain,
+        first,
+        catches,
+        source,
+        d,
+        v,
+        q,
+        &mut low,
+    );
 }

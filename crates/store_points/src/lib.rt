@@ -7,6 +7,7 @@ ghost use Rattle.store_stops.specs.Stopwise.{changePoints};
 ghost use Rattle.store_points.specs.Lowered.{lowered};
 use results::Points;
 use timetable::Stop;
+use timetable::Walk;
 
 // More than anyone on the way has paid: at most 1,100 points a minute, and the last minute is 2,879.
 pub const UNREACHED: Points = Points(UNREACHED_WORD);
@@ -37,10 +38,17 @@ pub fn after_ride(paid: Points, stop: Stop) -> Points
     query_minutes::sum(paid, of_ride(stop))
 }
 
-// What a change costs at station c.
+// What a change costs at station c itself.
 pub fn of_change(words: &[u16], c: usize) -> Points
     requires { ⌜ (16384 ≤ length (now words)) × (1 ≤ c) × (c ≤ 64) ⌝ }
     ensures { λ r. ⌜ r .0 ≡ changePoints (now (words .entry)) c ⌝ }
 {
     Points(timetable::station_at(words, c - 1).points)
+}
+
+// What a change on foot costs.
+pub fn of_walk(walk: Walk) -> Points
+    ensures { λ r. ⌜ r .0 ≡ walk .points ⌝ }
+{
+    Points(walk.points)
 }

@@ -10,6 +10,7 @@ use lib.Dec.{ltb, ltb→lt, nltb→le}
 use lib.ListN.{getD}
 use Rattle.timetable.specs.Words.{isTimetable}
 use Rattle.lists.specs.Tests.{either}
+use Rattle.connections.specs.Connections.{Transfer}
 use Rattle.optimality.specs.Along.{Arrives, Frontier}
 use Rattle.store_stops.specs.Stopwise.{station, arrive, unreached, Goes, Alights}
 use Rattle.store_stops.specs.Paid.{Arrived, LeastArrivals, OnFrontier}
@@ -72,7 +73,7 @@ module _ (w : List ℕ) (yes : isTimetable w ≡ true) (a d : ℕ) (v : List ℕ
           omega (arith, m .low, f .first (m .i) (m .goes) (m .alights) (m .here) (omega arith))
 
   -- an arrival whose minute and penalty lie on the frontier: the penalty is that of v
-  pub lies-on-frontier : Timely w → (rev : List ℕ) (i p : ℕ) → Goes w i → Alights w (suc i)
+  pub lies-on-frontier : Timely w → (rev : List Transfer) (i p : ℕ) → Goes w i → Alights w (suc i)
       → Arrived w a d rev (suc i) p
       → Frontier (netOf w) a d (station w (suc i)) (arrive w (suc i)) p → station w (suc i) ≢ a → Lies w a v i p
   lies-on-frontier timely rev i p g alights h f other =

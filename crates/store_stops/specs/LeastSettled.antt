@@ -7,24 +7,15 @@ use mathlib.Core.List.{List, [], _∷_}
 use Prim.Native.Nat.{ℕ, zero, suc, _+_, _-_, _≤_, _<_}
 use native.Mathlib.Omega.{arith}
 use lib.ListN.{getD}
-use Rattle.store_stops.specs.Stopwise.{
-  station,
-  depart,
-  points,
-  changePoints,
-  unreached,
-  Goes,
-  Ridden,
-  ridden,
-  Catches,
-}
+use Rattle.connections.specs.Connections.{Transfer}
+use Rattle.store_stops.specs.Stopwise.{station, depart, points, unreached, Goes, Ridden, ridden, Catches}
 use Rattle.store_stops.specs.Paid.{Changed, Paid, Arrived, Arrives, LeastArrivals}
 use Rattle.store_stops.specs.Settled.{FromStart, FromStop, FromChange, Settled, Timely}
 use Rattle.store_stops.specs.RideStops.{ridden-one, ridden-more, ridden-once, ridden-on}
 
 module _ (w : List ℕ) (a d : ℕ) where
   -- who boards rides one stop
-  pub arrived-next : (rev : List ℕ) (i p : ℕ) → Goes w i → Paid w a d rev i p
+  pub arrived-next : (rev : List Transfer) (i p : ℕ) → Goes w i → Paid w a d rev i p
       → Arrived w a d rev (suc i) (p + points w i)
   arrived-next rev i p g h =
       record {
@@ -39,7 +30,7 @@ module _ (w : List ℕ) (a d : ℕ) where
       }
 
   -- who is aboard stays aboard
-  pub arrived-on : (rev : List ℕ) (j p : ℕ) → Goes w j → Arrived w a d rev j p
+  pub arrived-on : (rev : List Transfer) (j p : ℕ) → Goes w j → Arrived w a d rev j p
       → Arrived w a d rev (suc j) (p + points w j)
   arrived-on rev j p g h =
       let e = h .to in
@@ -56,7 +47,7 @@ module _ (w : List ℕ) (a d : ℕ) where
       }
 
   -- the stop before an arrival is left
-  pub arrived-behind : (rev : List ℕ) (j p : ℕ) → Arrived w a d rev j p → (i : ℕ) × Goes w i × (suc i ≡ j)
+  pub arrived-behind : (rev : List Transfer) (j p : ℕ) → Arrived w a d rev j p → (i : ℕ) × Goes w i × (suc i ≡ j)
   arrived-behind rev j p h =
       let o = h .some in
       (h .from + (h .stops - 1), h .rides (h .stops - 1) (omega arith), omega (arith, h .to))
@@ -75,10 +66,10 @@ module _ (w : List ℕ) (a d : ℕ) where
         let on = s .stays (i + k) (r k (omega arith)) (subst (Goes w) e (r (suc k) (omega arith))) in
         omega (arith, b, on, ridden-more w i (suc k), ap (points w) e, ap (λ j. getD v (suc j) 0) e)
 
-    abbrev Boards : List ℕ → Type 0
+    abbrev Boards : List Transfer → Type 0
     Boards rev = (g p : ℕ) → Paid w a d rev g p → getD v (suc g) 0 ≤ p + points w g
 
-    arrived-below : (rev : List ℕ) → Boards rev → (j p : ℕ) → Arrived w a d rev j p → getD v j 0 ≤ p
+    arrived-below : (rev : List Transfer) → Boards rev → (j p : ℕ) → Arrived w a d rev j p → getD v j 0 ≤ p
     arrived-below rev boards j p h = go (h .stops) (h .some) (h .rides) (h .to) (h .total)
       where
         go : (n : ℕ) → 1 ≤ n → Ridden w (h .from) n → h .from + n ≡ j → p ≡ h .paid + ridden w (h .from) n
@@ -90,18 +81,16 @@ module _ (w : List ℕ) (a d : ℕ) where
             omega (arith, b, t, ap (λ j. getD v j 0) f)
 
     -- by the changes
-    change-below : (rev : List ℕ) (c g p : ℕ) (h : Changed w a d (Paid w a d rev) c g p)
+    change-below : (rev : List Transfer) (c : Transfer) (g p : ℕ) (h : Changed w a d (Paid w a d rev) c g p)
         → getD v (h .at) 0 ≤ h .before → getD v (suc g) 0 ≤ p + points w g
     change-below rev c g p h b =
         let k = arrived-behind rev (h .at) (h .before) (h .rode) in
         let e = k .2 in
-        let catches = subst (λ j. Catches w j g) (sym e) (h .catches) in
+        let catches = subst (λ j. Catches w j g (h .price)) (sym e) (h .catches) in
         let from = ap (λ j. getD v j 0) e in
-        let there = ap (λ j. changePoints w (station w j)) e in
-        let here = ap (changePoints w) (h .here) in
-        omega (arith, b, h .total, from, there, here, s .changes (k .0) g (k .1) catches)
+        omega (arith, b, h .total, from, s .changes (k .0) g (h .price) (k .1) catches)
 
-    boards-below : (rev : List ℕ) → Boards rev
+    boards-below : (rev : List Transfer) → Boards rev
     boards-below [] g p h = omega (arith, h .3, s .starts g (h .0) (h .1) (h .2))
     boards-below (c ∷ rev) g p h =
         change-below rev c g p h (arrived-below rev (boards-below rev) (h .at) (h .before) (h .rode))
@@ -139,8 +128,8 @@ module _ (w : List ℕ) (a d : ℕ) where
 
     from-change : (i : ℕ) → Goes w i → (f : FromChange w a d v i) → Attained (f .k) → Attained i
     from-change i g f h =
-        let c = station w (suc (f .k)) in
-        let p = getD v (suc (f .k)) 0 + changePoints w c in
+        let c : Transfer = record { alighted = station w (suc (f .k)); boarded = station w i } in
+        let p = getD v (suc (f .k)) 0 + f .price in
         record {
           changed = c ∷ h .changed;
           arrived =
@@ -155,8 +144,10 @@ module _ (w : List ℕ) (a d : ℕ) where
               (record {
                 at = suc (f .k);
                 before = getD v (suc (f .k)) 0;
+                price = f .price;
                 rode = h .arrived;
                 here = refl;
+                there = refl;
                 catches = f .catches;
                 total = refl;
               }));
@@ -180,7 +171,7 @@ module _ (w : List ℕ) (a d : ℕ) where
               from-stop i g f (ih (f .k) (omega arith) (f .goes) (omega (arith, f .is)))
           go (inr (inr f)) ih =
               let before = timely .before (f .k) (f .goes) in
-              let late = f .catches .timely in
+              let late = f .catches .catches .timely in
               from-change i g f (ih (f .k) (omega arith) (f .goes) (omega (arith, f .is)))
 
 -- penalties that settle each other are the least

@@ -2,6 +2,8 @@ pub mod Stopwise
 pub mod Paid
 pub mod Prospects
 pub mod Settled
+pub mod Ways
+pub mod OpenWays
 pub mod TimelyLaws
 pub mod RideStops
 pub mod Riders

@@ -3,18 +3,18 @@
 use mathlib.Core.Path.{_≡_, refl, sym, ap, subst, _∙_}
 use mathlib.Core.Bool.{true}
 use mathlib.Core.Logic.{_⊎_, inl, inr, _≢_, _↔_}
-use mathlib.Core.List.{List, [], _∷_, reverseAux}
+use mathlib.Core.List.{List, [], _∷_}
 use Prim.Native.Nat.{ℕ, zero, suc, _+_, _≤_, _<_}
 use native.Mathlib.Omega.{arith}
 use lib.Dec.{T}
 use lib.ListN.{getD}
 use Rattle.timetable.specs.Words.{stopAt, isTimetable}
 use Rattle.connections.specs.Rides.{mayBoard}
-use Rattle.connections.specs.Connections.{Net, Connection, direct, onward, Feasible, ready}
-use Rattle.connections.specs.Connections.{arrival, penalty, stations}
+use Rattle.connections.specs.Connections.{Change, Transfer, transfer, Net, Connection, direct, onward, Feasible}
+use Rattle.connections.specs.Connections.{ready, arrival, penalty, stations}
 use Rattle.connections.specs.Feasibility.{earlier, has-stations}
 use Rattle.connections.specs.Sound.{Sound}
-use Rattle.optimality.specs.Along.{Along, Ends, Frontier}
+use Rattle.optimality.specs.Along.{readBack, Along, Ends, Frontier}
 use Rattle.optimality.specs.AlongLaws.{boarded, changed, join}
 use Rattle.optimality.specs.Frontiers.{arrives}
 use Rattle.optimality.specs.Ways.{Way}
@@ -24,13 +24,12 @@ use Rattle.store_stops.specs.Stopwise.{
   arrive,
   depart,
   points,
-  changePoints,
   Goes,
   Boards,
   Alights,
   Ridden,
   ridden,
-  Catches,
+  CatchesBy,
 }
 use Rattle.store_stops.specs.Paid.{Paid, Arrived, LeastArrivals}
 use Rattle.store_stops.specs.Prospects.{Allows, Onto, OnwardIn, Onward, GoesOn, Ends as EndsWell}
@@ -44,20 +43,19 @@ use Rattle.store_stops.specs.RideStops.{
   ridden-once,
   ride-of,
   spelled-sound,
-  change-of,
   catches-of,
-  change-costs,
+  changes-by,
 }
 use Rattle.store_stops.specs.Riders.{Aboard, paid-along, layer-ends, arrived-ends, ends-arrived, aboard}
 use Rattle.store_stops.specs.FrontierStops.{on-frontier-lies, lies-on-frontier}
 
 -- these changes, the last one first, begin those of an optimal connection to another station than a
-pub record Begins (n : Net) (a d : ℕ) (rev : List ℕ) : Type 0 where
+pub record Begins (n : Net) (a d : ℕ) (rev : List Transfer) : Type 0 where
   pub rest : List ℕ
   pub target : ℕ
   pub some : rest ≢ []
   pub other : target ≢ a
-  pub way : Way n a d target (reverseAux rev rest)
+  pub way : Way n a d target (readBack rev rest)
 
 module _ (w e : List ℕ) where
   -- the same place and penalty in other words
@@ -101,7 +99,7 @@ module _
     ok = spelled-sound w yes
 
     -- ---- ends
-    ends-closes : (rev : List ℕ) (b : ℕ) → EndsWell w a d e rev b → Closing n ok a d rev b × (b ≢ a)
+    ends-closes : (rev : List Transfer) (b : ℕ) → EndsWell w a d e rev b → Closing n ok a d rev b × (b ≢ a)
     ends-closes rev b h =
         let j = suc (h .i) in
         let k = allows .within (h .i) (h .paid) (h .goes) .0 (h .within) in
@@ -122,7 +120,7 @@ module _
         )
 
     -- who arrives on the frontier, elsewhere than at a, ends well
-    ends-within : (rev : List ℕ) (i p b u : ℕ) → Goes w i → Alights w (suc i) → Arrived w a d rev (suc i) p
+    ends-within : (rev : List Transfer) (i p b u : ℕ) → Goes w i → Alights w (suc i) → Arrived w a d rev (suc i) p
         → station w (suc i) ≡ b
         → arrive w (suc i) ≡ u → Frontier n a d b u p → b ≢ a → p < getD e (suc i) 0
     ends-within rev i p b u g alights h here minute f other =
@@ -131,7 +129,7 @@ module _
         let l = lies-on-frontier w yes a d v least timely rev i p g alights h at (λ q. other (sym here ∙ q)) in
         allows .within i p g .1 (l .on, omega (arith, l .is))
 
-    closes-ends : (rev : List ℕ) (b : ℕ) → Closing n ok a d rev b → b ≢ a → EndsWell w a d e rev b
+    closes-ends : (rev : List Transfer) (b : ℕ) → Closing n ok a d rev b → b ≢ a → EndsWell w a d e rev b
     closes-ends rev b h other =
         let k = ends-arrived w yes a d rev b (h .minute) (h .paid) (h .ends) in
         record {
@@ -156,7 +154,7 @@ module _
               other;
         }
 
-    pub ends-closing : (rev : List ℕ) (b : ℕ)
+    pub ends-closing : (rev : List Transfer) (b : ℕ)
         → EndsWell w a d e rev b ↔ (Closing (netOf w) (spelled-sound w yes) a d rev b × (b ≢ a))
     ends-closing rev b = (ends-closes rev b, λ h. closes-ends rev b (h .0) (h .1))
 
@@ -194,31 +192,25 @@ module _
         }
 
     -- to change there
-    rest-changes : (m i x g : ℕ) → T (mayBoard (stopAt w i)) → Ridden w i (suc m) → Catches w (suc (i + m)) g
-        → Rest g (x + ridden w i (suc m) + changePoints w (station w (suc (i + m)))) → Rest i x
-    rest-changes m i x g b r c k =
+    rest-changes : (m i x g : ℕ) (z : Change) → T (mayBoard (stopAt w i)) → Ridden w i (suc m)
+        → CatchesBy w z (suc (i + m)) g → Rest g (x + ridden w i (suc m) + z .points) → Rest i x
+    rest-changes m i x g z b r c k =
         let q : i + suc m ≡ suc (i + m) = omega arith in
         let s = ride-of w yes i (suc m) (omega arith) r b (subst (Alights w) (sym q) (c .alights)) in
-        let goes = r m (omega arith) in
-        let y = station w (suc (i + m)) in
-        let z = change-of w yes y (timely .next-first (i + m) goes) (timely .next-listed (i + m) goes) in
-        let f = z .same in
-        let to : z .change .to ≡ station w g = f .to ∙ sym (c .here) in
-        let late : ready (s .ride) (z .change) ≤ depart w g =
-        omega (arith, c .timely, s .same .comes, ap (arrive w) q, f .minutes) in
+        let late : ready (s .ride) z ≤ depart w g = omega (arith, c .timely, s .same .comes, ap (arrive w) q) in
         record {
           target = k .target;
           allowed = k .allowed;
-          connection = onward (s .ride) (z .change) (k .connection);
+          connection = onward (s .ride) z (k .connection);
           other = k .other;
           feasible = (
             record { listed = s .same .listed; here = s .same .from; timely = omega (arith, s .same .leaves) },
-            record { listed = f .listed; here = f .from ∙ ap (station w) (sym q) ∙ sym (s .same .to) },
-            rw to (earlier n (station w g) (ready (s .ride) (z .change)) (depart w g) (k .target) (k .connection) late
+            changes-by w yes (s .ride) z (suc (i + m)) g c (s .same .to ∙ ap (station w) q),
+            rw (← c .to) (earlier n (station w g) (ready (s .ride) z) (depart w g) (k .target) (k .connection) late
                 (k .feasible)),
           );
           frontier = k .frontier;
-          within = omega (arith, k .within, s .same .costs, f .costs);
+          within = omega (arith, k .within, s .same .costs);
         }
 
     rest-of : (k m i x : ℕ) → T (mayBoard (stopAt w i)) → Ridden w i (suc m)
@@ -256,8 +248,9 @@ module _
             total
             (t .1))
         go (inr (inr t)) ih =
-            let g = t .g in
-            let c = changePoints w (station w (suc (i + m))) in
+            let o = t .onto in
+            let g = o .g in
+            let c = t .way .points in
             let y = x + ridden w i (suc m) + c in
             let on = onward-at
             w
@@ -269,32 +262,35 @@ module _
             (y + ridden w g 0)
             (omega arith)
             (omega (arith, total, ridden-none w g))
-            (t .leaves) in
-            let boards = t .catches .boards in
-            rest-changes m i x g b r (t .catches) (ih 0 g y (boards .opens) (ridden-once w g (boards .goes)) on)
+            (o .leaves) in
+            let boards = o .catches .boards in
+            rest-changes m i x g (t .way) b r (o .catches)
+            (ih 0 g y (boards .opens) (ridden-once w g (boards .goes)) on)
 
-    goes-continues : (rev : List ℕ) (b : ℕ) → GoesOn w a d e rev b → Begins n a d (b ∷ rev)
+    goes-continues : (rev : List Transfer) (b : Transfer) → GoesOn w a d e rev b → Begins n a d (b ∷ rev)
     goes-continues rev b h =
         record {
           rest = stations c;
           target = r .target;
           some = has-stations c;
           other = r .other;
-          way = continuing-exactly n ok a d (b ∷ rev) (stations c) (r .target) (has-stations c) .0 continuing;
+          way = continuing-exactly n ok a d (b ∷ rev) (stations c) (r .target) .0 continuing;
         }
       where
         g : ℕ
         g = h .onto .g
 
         p : ℕ
-        p = h .paid + changePoints w b
+        p = h .paid + h .way .points
+
+        caught : CatchesBy w (h .way) (suc (h .i)) g
+        caught = h .onto .catches
 
         boards : Boards w g
-        boards = h .onto .catches .boards
+        boards = caught .boards
 
         leaves : Onward w e g p
-        leaves =
-            subst (λ b. Onward w e g (h .paid + changePoints w b)) (h .here) (h .onto .leaves)
+        leaves = h .onto .leaves
 
         r : Rest g p
         r =
@@ -325,9 +321,11 @@ module _
             record {
               at = suc (h .i);
               before = h .paid;
+              price = h .way .points;
               rode = h .arrived;
-              here = h .here;
-              catches = h .onto .catches;
+              here = caught .from ∙ ap (λ (t : Transfer). t .alighted) (h .is);
+              there = caught .to ∙ ap (λ (t : Transfer). t .boarded) (h .is);
+              catches = record { way = h .way; catches = caught; price = refl };
               total = refl;
             }
 
@@ -355,7 +353,7 @@ module _
       well : Onward w e g p
 
     -- the rest of a connection that ends on the frontier has a good end
-    boarding : (c : Connection) (rev : List ℕ) (x u p b : ℕ) → Along n a d rev x u p → Feasible n x u b c
+    boarding : (c : Connection) (rev : List Transfer) (x u p b : ℕ) → Along n a d rev x u p → Feasible n x u b c
         → Frontier n a d b (arrival c) (p + penalty c) → b ≢ a → Boarding x u p
     boarding (direct r) rev x u p b h f front other =
         let k = aboard w yes a d rev r p (f .0 .listed) (boarded n a d rev x u p r h (f .0)) in
@@ -377,7 +375,7 @@ module _
         changes
         (boarding
         c
-        (z .from ∷ rev)
+        (transfer z ∷ rev)
         (z .to)
         (ready r z)
         (p + r .points + z .points)
@@ -399,17 +397,20 @@ module _
         changes : Boarding (z .to) (ready r z) (p + r .points + z .points) → Boarding x u p
         changes o =
             let q = p + ridden w (k .i) (k .m) + points w (k .i + k .m) in
-            let costs = change-costs w yes r z j (f .1) (k .to) in
             let more = ridden-more w (k .i) (k .m) in
-            let paid : p + r .points + z .points ≡ q + changePoints w (station w j) = omega (arith, k .costs) in
+            let paid : p + r .points + z .points ≡ q + z .points = omega (arith, k .costs) in
             let steps = o .well .steps in
             let onto : Onto w e (OnwardIn w e steps) j q =
             record {
-              g = o .g;
-              catches =
-                  catches-of w yes r z j (o .g) (f .1) (k .to) (k .comes) (k .alights) (o .boards) (o .here)
-                  (o .late);
-              leaves = subst (OnwardIn w e steps (o .g)) paid (o .well .on);
+              way = z;
+              onto =
+                  record {
+                    g = o .g;
+                    catches =
+                        catches-of w yes r z j (o .g) (f .1) (k .to) (k .comes) (k .alights) (o .boards) (o .here)
+                        (o .late);
+                    leaves = subst (OnwardIn w e steps (o .g)) paid (o .well .on);
+                  };
             } in
             record {
               g = k .i;
@@ -419,7 +420,7 @@ module _
               well = onward-staying w e (k .m) (suc steps) (k .i) p (k .rides) (inr (inr onto));
             }
 
-    continues-goes : (rev : List ℕ) (b : ℕ) → Begins n a d (b ∷ rev) → GoesOn w a d e rev b
+    continues-goes : (rev : List Transfer) (b : Transfer) → Begins n a d (b ∷ rev) → GoesOn w a d e rev b
     continues-goes rev b h =
         let r = k .along .ride in
         let y = k .along .change in
@@ -430,14 +431,13 @@ module _
         let o = boarding c (b ∷ rev) (k .x) (k .u) (k .paid) (h .target) (k .along) (k .feasible) front (h .other) in
         let changes = k .along .changes in
         let late : ready r y ≤ depart w (o .g) = omega (arith, k .along .timely, o .late) in
-        let costs = change-costs w yes r y j changes (sym (z .here)) in
-        let paid : k .paid ≡ q + changePoints w (station w j) = omega (arith, k .along .total, costs) in
         record {
           i = z .i;
           paid = q;
+          way = y;
           goes = z .goes;
           arrived = z .arrived;
-          here = z .here ∙ sym (changes .here) ∙ k .along .at;
+          is = k .along .at;
           onto =
               record {
                 g = o .g;
@@ -456,12 +456,12 @@ module _
                     (o .boards)
                     (o .here ∙ sym (k .along .to))
                     late;
-                leaves = subst (Onward w e (o .g)) paid (o .well);
+                leaves = subst (Onward w e (o .g)) (k .along .total) (o .well);
               };
         }
       where
         k : Continuing n ok a d (b ∷ rev) (h .rest) (h .target)
-        k = continuing-exactly n ok a d (b ∷ rev) (h .rest) (h .target) (h .some) .1 (h .way)
+        k = continuing-exactly n ok a d (b ∷ rev) (h .rest) (h .target) .1 (h .way)
 
         c : Connection
         c = k .rest
@@ -476,5 +476,5 @@ module _
             let is : k .allowed ≡ k .paid + penalty c = omega (arith, low, k .within, j .pays) in
             subst (Frontier n a d (h .target) (arrival c)) is (k .frontier)
 
-    pub goes-on-way : (rev : List ℕ) (b : ℕ) → GoesOn w a d e rev b ↔ Begins (netOf w) a d (b ∷ rev)
+    pub goes-on-way : (rev : List Transfer) (b : Transfer) → GoesOn w a d e rev b ↔ Begins (netOf w) a d (b ∷ rev)
     goes-on-way rev b = (goes-continues rev b, continues-goes rev b)

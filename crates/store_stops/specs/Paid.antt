@@ -5,7 +5,8 @@ use mathlib.Core.Logic.{_≢_}
 use mathlib.Core.List.{List, [], _∷_}
 use Prim.Native.Nat.{ℕ, suc, _+_, _≤_, _<_}
 use lib.ListN.{getD}
-use Rattle.store_stops.specs.Stopwise.{station, arrive, depart, changePoints, unreached, Goes, Boards}
+use Rattle.connections.specs.Connections.{Transfer}
+use Rattle.store_stops.specs.Stopwise.{station, arrive, depart, unreached, Goes, Boards}
 use Rattle.store_stops.specs.Stopwise.{Alights, Ridden, ridden, Catches}
 
 module _ (w : List ℕ) (a d : ℕ) where
@@ -20,27 +21,29 @@ module _ (w : List ℕ) (a d : ℕ) where
     pub to : from + stops ≡ j
     pub total : p ≡ paid + ridden w from stops
 
-  -- by a change at station c after such a ride
-  pub record Changed (Boards : (i p : ℕ) → Type 0) (c g p : ℕ) : Type 0 where
+  -- by a change from one station to another after such a ride
+  pub record Changed (Boards : (i p : ℕ) → Type 0) (c : Transfer) (g p : ℕ) : Type 0 where
     pub at : ℕ
     pub before : ℕ
+    pub price : ℕ
     pub rode : Rode Boards at before
-    pub here : station w at ≡ c
-    pub catches : Catches w at g
-    pub total : p ≡ before + changePoints w c
+    pub here : station w at ≡ c .alighted
+    pub there : station w g ≡ c .boarded
+    pub catches : Catches w at g price
+    pub total : p ≡ before + price
 
-  -- can board at stop g, having paid p and changed at these stations, the last one first
-  abbrev pub Paid : (changed : List ℕ) (g p : ℕ) → Type 0
+  -- can board at stop g, having paid p and changed so, the last change first
+  abbrev pub Paid : (changed : List Transfer) (g p : ℕ) → Type 0
   Paid [] g p = Boards w g × (station w g ≡ a) × (d ≤ depart w g) × (p ≡ 0)
   Paid (c ∷ rev) g p = Changed (Paid rev) c g p
 
-  -- is aboard on arrival at stop j, having paid p and changed at these stations
-  abbrev pub Arrived : (changed : List ℕ) (j p : ℕ) → Type 0
+  -- is aboard on arrival at stop j, having paid p and changed so
+  abbrev pub Arrived : (changed : List Transfer) (j p : ℕ) → Type 0
   Arrived rev j p = Rode (Paid rev) j p
 
   -- whatever the changes were
   pub record Arrives (j p : ℕ) : Type 0 where
-    pub changed : List ℕ
+    pub changed : List Transfer
     pub arrived : Arrived changed j p
 
   -- v has for each arrival the least that can have been paid
@@ -49,8 +52,8 @@ module _ (w : List ℕ) (a d : ℕ) where
     pub below : (i p : ℕ) → Goes w i → Arrives (suc i) p → getD v (suc i) 0 ≤ p
     pub capped : (i : ℕ) → Goes w i → getD v (suc i) 0 ≤ unreached
 
-  -- x has for each boarding at station c the least that can have been paid by who changed at these stations
-  pub record Labelled (rev : List ℕ) (c : ℕ) (x : List ℕ) : Type 0 where
+  -- x has for each boarding at station c the least that can have been paid by who changed so
+  pub record Labelled (rev : List Transfer) (c : ℕ) (x : List ℕ) : Type 0 where
     pub attained : (g : ℕ) → Boards w g → station w g ≡ c → getD x g 0 < unreached → Paid rev g (getD x g 0)
     pub below : (g p : ℕ) → Boards w g → station w g ≡ c → Paid rev g p → getD x g 0 ≤ p
     pub capped : (g : ℕ) → Boards w g → station w g ≡ c → getD x g 0 ≤ unreached

@@ -4,7 +4,8 @@ use mathlib.Core.Path.{_≡_, ap, subst}
 use mathlib.Core.List.{List, [], _∷_}
 use Prim.Native.Nat.{ℕ, zero, suc, _+_, _*_, _≤_, _<_}
 use native.Mathlib.Omega.{arith}
-use Rattle.store_stops.specs.Stopwise.{station, arrive, depart, points, unreached, Goes, Ridden, ridden}
+use Rattle.connections.specs.Connections.{Transfer}
+use Rattle.store_stops.specs.Stopwise.{arrive, depart, points, unreached, Goes, Ridden, ridden}
 use Rattle.store_stops.specs.Paid.{Changed, Paid, Arrived}
 use Rattle.store_stops.specs.Settled.{Timely}
 use Rattle.store_stops.specs.RideStops.{ridden-one, ridden-more}
@@ -38,11 +39,11 @@ module _ (w : List ℕ) (timely : Timely w) where
 
   module _ (a d : ℕ) where
     -- 1,100 points for each minute since the start at the most
-    abbrev Rate : List ℕ → Type 0
+    abbrev Rate : List Transfer → Type 0
     Rate rev = (g p : ℕ) → Paid w a d rev g p → p + 1100 * d ≤ 1100 * depart w g
 
     -- on arrival less by what a change costs at the most
-    arrived-rate : (rev : List ℕ) → Rate rev → (j p : ℕ) → Arrived w a d rev j p
+    arrived-rate : (rev : List Transfer) → Rate rev → (j p : ℕ) → Arrived w a d rev j p
         → p + 1100 * d + 1000 ≤ 1100 * arrive w j
     arrived-rate rev rate j p h = go (h .stops) (h .some) (h .rides) (h .to) (h .total)
       where
@@ -55,30 +56,25 @@ module _ (w : List ℕ) (timely : Timely w) where
             let to = ap (arrive w) f in
             omega (arith, c .forward, c .cheap, t, rate (h .from) (h .paid) (h .boards))
 
-    change-rate : (rev : List ℕ) (c g p : ℕ) (h : Changed w a d (Paid w a d rev) c g p)
+    change-rate : (rev : List Transfer) (c : Transfer) (g p : ℕ) (h : Changed w a d (Paid w a d rev) c g p)
         → h .before + 1100 * d + 1000 ≤ 1100 * arrive w (h .at) → p + 1100 * d ≤ 1100 * depart w g
     change-rate rev c g p h b =
-        let k = arrived-behind w a d rev (h .at) (h .before) (h .rode) in
-        let e = ap (station w) (k .2) in
-        let here = h .here in
-        let first = timely .next-first (k .0) (k .1) in
-        let last = timely .next-listed (k .0) (k .1) in
-        let most = timely .most c (omega arith) (omega arith) in
-        let late = h .catches .timely in
-        omega (arith, b, h .total)
+        let k = h .catches .catches in
+        let most = timely .way-most (h .catches .way) (k .listed) in
+        omega (arith, b, h .total, h .catches .price, k .timely)
 
-    paid-rate : (rev : List ℕ) → Rate rev
+    paid-rate : (rev : List Transfer) → Rate rev
     paid-rate [] g p h = omega (arith, h .2, h .3)
     paid-rate (c ∷ rev) g p h =
         change-rate rev c g p h (arrived-rate rev (paid-rate rev) (h .at) (h .before) (h .rode))
 
     -- no one arrives having paid as much
-    pub arrived-most : (rev : List ℕ) (j p : ℕ) → Arrived w a d rev j p → p < unreached
+    pub arrived-most : (rev : List Transfer) (j p : ℕ) → Arrived w a d rev j p → p < unreached
     arrived-most rev j p h =
         let k = arrived-behind w a d rev j p h in
         let e = ap (arrive w) (k .2) in
         omega (arith, e, timely .minute (k .0) (k .1), arrived-rate rev (paid-rate rev) j p h)
 
     -- nor boards
-    pub paid-most : (rev : List ℕ) (g p : ℕ) → Goes w g → Paid w a d rev g p → p < unreached
+    pub paid-most : (rev : List Transfer) (g p : ℕ) → Goes w g → Paid w a d rev g p → p < unreached
     paid-most rev g p goes h = omega (arith, timely .leaves g goes, paid-rate rev g p h)

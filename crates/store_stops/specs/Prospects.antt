@@ -6,7 +6,9 @@ use mathlib.Core.Logic.{_⊎_, _↔_}
 use mathlib.Core.List.{List}
 use Prim.Native.Nat.{ℕ, zero, suc, _+_, _≤_, _<_}
 use lib.ListN.{getD}
-use Rattle.store_stops.specs.Stopwise.{station, depart, points, changePoints, nowhere, Goes, Catches}
+use Rattle.lists.specs.Lists.{_∈_}
+use Rattle.connections.specs.Connections.{Change, Transfer, transfer}
+use Rattle.store_stops.specs.Stopwise.{station, depart, points, nowhere, waysOf, Goes, CatchesBy}
 use Rattle.store_stops.specs.Paid.{Arrived, OnFrontier}
 
 -- e allows, where an arrival is on the frontier, what is paid there at least, and elsewhere nothing
@@ -15,11 +17,16 @@ pub record Allows (w : List ℕ) (a : ℕ) (v e : List ℕ) : Type 0 where
       → (x < getD e (suc i) 0) ↔ (OnFrontier w a v (suc i) × (x ≤ getD v (suc i) 0))
 
 module _ (w e : List ℕ) where
-  -- by a change after the arrival at stop j
-  pub record Onto (Leaves : (g x : ℕ) → Type 0) (j x : ℕ) : Type 0 where
+  -- by this way of changing after the arrival at stop j
+  pub record OntoBy (Leaves : (g x : ℕ) → Type 0) (way : Change) (j x : ℕ) : Type 0 where
     pub g : ℕ
-    pub catches : Catches w j g
-    pub leaves : Leaves g (x + changePoints w (station w j))
+    pub catches : CatchesBy w way j g
+    pub leaves : Leaves g (x + way .points)
+
+  -- by any
+  pub record Onto (Leaves : (g x : ℕ) → Type 0) (j x : ℕ) : Type 0 where
+    pub way : Change
+    pub onto : OntoBy Leaves way j x
 
   -- one who leaves stop i, having paid x, ends well within k stops ridden
   abbrev pub OnwardIn : (k i x : ℕ) → Type 0
@@ -32,19 +39,21 @@ module _ (w e : List ℕ) where
     pub steps : ℕ
     pub on : OnwardIn steps i x
 
-  -- one who arrives at stop j, having paid x, ends well after a change there
-  abbrev pub OntoWell : (j x : ℕ) → Type 0
-  OntoWell j x = Onto Onward j x
+  -- one who arrives at stop j, having paid x, ends well after this change
+  abbrev pub OntoWell : (way : Change) (j x : ℕ) → Type 0
+  OntoWell way j x = OntoBy Onward way j x
 
--- what the code knows of changes: for each arrival the first stop that a change reaches, in a fixed order of those of a
--- station; q has for it the bound below which one who boards there or later in that order ends well
-pub record Bounded (w e : List ℕ) (d : ℕ) (catch q : List ℕ) : Type 0 where
-  pub there : (i x : ℕ) → Goes w i → d ≤ depart w i → getD catch (suc i) 0 < nowhere
-      → (x + changePoints w (station w (suc i)) < getD q (getD catch (suc i) 0) 0) ↔ OntoWell w e (suc i) x
-  pub none : (i x : ℕ) → Goes w i → d ≤ depart w i → nowhere ≤ getD catch (suc i) 0 → ¬ OntoWell w e (suc i) x
+-- what the code knows of changes: for a way of changing and an arrival the first stop that is caught, in a fixed order
+-- of those of a station; q has for it the bound below which one who boards there or later in that order ends well
+pub record Bounded (w e : List ℕ) (d : ℕ) (caught : Change → ℕ → ℕ) (q : List ℕ) : Type 0 where
+  pub there : (way : Change) (i x : ℕ) → way ∈ waysOf w → station w (suc i) ≡ way .from → Goes w i → d ≤ depart w i
+      → caught way (suc i) < nowhere
+      → (x + way .points < getD q (caught way (suc i)) 0) ↔ OntoWell w e way (suc i) x
+  pub none : (way : Change) (i x : ℕ) → way ∈ waysOf w → station w (suc i) ≡ way .from → Goes w i → d ≤ depart w i
+      → nowhere ≤ caught way (suc i) → ¬ OntoWell w e way (suc i) x
 
--- ---- the marks of one node, for one minute: rev are the stations of the changes, the last one first
-module _ (w : List ℕ) (a d : ℕ) (e : List ℕ) (rev : List ℕ) where
+-- ---- the marks of one node, for one minute: rev are the changes, the last one first
+module _ (w : List ℕ) (a d : ℕ) (e : List ℕ) (rev : List Transfer) where
   -- a connection along these changes ends well at station b
   pub record Ends (b : ℕ) : Type 0 where
     pub i : ℕ
@@ -54,11 +63,12 @@ module _ (w : List ℕ) (a d : ℕ) (e : List ℕ) (rev : List ℕ) where
     pub here : station w (suc i) ≡ b
     pub within : paid < getD e (suc i) 0
 
-  -- one who goes along these changes and then changes at station b can still end well
-  pub record GoesOn (b : ℕ) : Type 0 where
+  -- one who goes along these changes and then makes change b can still end well
+  pub record GoesOn (b : Transfer) : Type 0 where
     pub i : ℕ
     pub paid : ℕ
+    pub way : Change
     pub goes : Goes w i
     pub arrived : Arrived w a d rev (suc i) paid
-    pub here : station w (suc i) ≡ b
-    pub onto : OntoWell w e (suc i) paid
+    pub is : transfer way ≡ b
+    pub onto : OntoWell w e way (suc i) paid

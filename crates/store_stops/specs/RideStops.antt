@@ -9,29 +9,26 @@ use native.Mathlib.Omega.{arith}
 use lib.Dec.{T, leb, ltb, leb→le, ltb→lt, nltb→le, nleb→lt}
 use lib.ListN.{length, getD}
 use Rattle.timetable.specs.Timetable.{Trip}
-use Rattle.timetable.specs.Words.{stationCount, tripCount, stationAt, stopAt, startAt, timetableOf, isTimetable}
-use Rattle.timetable.specs.Check.{length-stations, length-trips}
-use Rattle.timetable.specs.Access.{station-is, trip-is, trip-long, stop-is, trip-stops, spelled-valid}
+use Rattle.timetable.specs.Words.{tripCount, stopAt, startAt, timetableOf, isTimetable}
+use Rattle.timetable.specs.Check.{length-trips}
+use Rattle.timetable.specs.Access.{trip-is, trip-long, stop-is, trip-stops, spelled-valid}
 use Rattle.lists.specs.Lists.{_∈_}
 use Rattle.lists.specs.Tests.{either}
 use Rattle.connections.specs.Rides.{Ride, noStop, ridePoints, rideIn, mayBoard}
-use Rattle.connections.specs.Connections.{Change, Net, net, Changes, ready, noStation, changeAt}
-use Rattle.connections.specs.RideLaws.{rides-in, rides-out, board-alike, alight-alike, changes-in}
-use Rattle.connections.specs.RideLaws.{changes-out, points-split, points-more}
+use Rattle.connections.specs.Connections.{Change, Net, net, Changes, ready}
+use Rattle.connections.specs.RideLaws.{rides-in, rides-out, board-alike, alight-alike, points-split, points-more}
 use Rattle.connections.specs.Sound.{Sound, sound}
 use Rattle.store_stops.specs.Stopwise.{
   station,
   arrive,
   depart,
   points,
-  changeMinutes,
-  changePoints,
   Goes,
   Boards,
   Alights,
   Ridden,
   ridden,
-  Catches,
+  CatchesBy,
 }
 
 abbrev pub netOf : List ℕ → Net
@@ -69,7 +66,7 @@ module _ (w : List ℕ) where
       (λ t. r k (ltb→lt k n t))
       (λ t. let m = nltb→le k n t in let e : i + n ≡ i + k = omega arith in subst (Goes w) e g)
 
--- ---- what rides and changes of the net are the same
+-- ---- what rides of the net are the same
 module _ (w : List ℕ) where
   -- this ride boards at stop i and alights n stops on
   pub record SameRide (r : Ride) (i n : ℕ) : Type 0 where
@@ -92,18 +89,6 @@ module _ (w : List ℕ) where
     pub i : ℕ
     pub m : ℕ
     pub same : SameRide r i (suc m)
-
-  -- this change is that of station c
-  pub record SameChange (x : Change) (c : ℕ) : Type 0 where
-    pub listed : x ∈ (netOf w) .changes
-    pub from : x .from ≡ c
-    pub to : x .to ≡ c
-    pub minutes : x .minutes ≡ changeMinutes w c
-    pub costs : x .points ≡ changePoints w c
-
-  pub record ChangeOf (c : ℕ) : Type 0 where
-    pub change : Change
-    pub same : SameChange change c
 
 -- ---- trips are runs of stops
 module _ (w : List ℕ) (yes : isTimetable w ≡ true) where
@@ -258,44 +243,20 @@ module _ (w : List ℕ) (yes : isTimetable w ≡ true) where
   pub spelled-sound : Sound (netOf w)
   spelled-sound = sound (timetableOf w) (subst T (sym (spelled-valid w yes)) tt)
 
-  change-there : (z : ℕ) → z < stationCount w → SameChange w (changeAt ((timetableOf w) .stations) z) (suc z)
-  change-there z h =
-      let e : z ≡ suc z - 1 = omega arith in
-      let s = station-is w z noStation h ∙ ap (stationAt w) e in
-      record {
-        listed = changes-in ((timetableOf w) .stations) z (omega (arith, length-stations w));
-        from = refl;
-        to = refl;
-        minutes = ap (λ s. s .minutes) s;
-        costs = ap (λ s. s .points) s;
-      }
-
-  pub change-of : (c : ℕ) → 1 ≤ c → c ≤ stationCount w → ChangeOf w c
-  change-of c h g =
-      let e : suc (c - 1) ≡ c = omega arith in
-      let x = changeAt ((timetableOf w) .stations) (c - 1) in
-      record { change = x; same = subst (SameChange w x) e (change-there (c - 1) (omega arith)) }
-
-  pub change-is : (x : Change) → x ∈ (netOf w) .changes → SameChange w x (x .from)
-  change-is x m =
-      let k = changes-out ((timetableOf w) .stations) x m in
-      let s = change-there (k .0) (omega (arith, length-stations w, k .1)) in
-      subst (λ x. SameChange w x (x .from)) (k .2) s
-
   -- who came by a ride to stop j and changes by x can board at stop g
   pub catches-of : (r : Ride) (x : Change) (j g : ℕ) → Changes (netOf w) r x → r .to ≡ station w j
-      → r .arrive ≡ arrive w j → Alights w j → Boards w g → station w g ≡ x .to → ready r x ≤ depart w g → Catches w j g
-  catches-of r x j g k to comes alights boards here timely =
-      let s = change-is x (k .listed) in
-      let at : x .from ≡ station w j = k .here ∙ to in
+      → r .arrive ≡ arrive w j → Alights w j → Boards w g → station w g ≡ x .to → ready r x ≤ depart w g
+      → CatchesBy w x j g
+  catches-of r x j g k to comes alights boards there timely =
       record {
+        listed = k .listed;
         alights = alights;
         boards = boards;
-        here = here ∙ s .to ∙ at;
-        timely = omega (arith, timely, comes, s .minutes, ap (changeMinutes w) at);
+        from = sym (k .here ∙ to);
+        to = there;
+        timely = omega (arith, timely, comes);
       }
 
-  -- and pays what the station asks
-  pub change-costs : (r : Ride) (x : Change) (j : ℕ) → Changes (netOf w) r x → r .to ≡ station w j
-      → x .points ≡ changePoints w (station w j)
-  change-costs r x j k to = change-is x (k .listed) .costs ∙ ap (changePoints w) (k .here ∙ to)
+  -- and the other way round
+  pub changes-by : (r : Ride) (x : Change) (j g : ℕ) → CatchesBy w x j g → r .to ≡ station w j → Changes (netOf w) r x
+  changes-by r x j g k to = record { listed = k .listed; here = sym (k .from) ∙ sym to }

@@ -7,6 +7,8 @@ use Prim.Native.Nat.{ℕ, suc, _+_, _≤_, _<_}
 use lib.ListN.{getD}
 use Rattle.timetable.specs.Words.{stationCount, stopCount}
 use Rattle.timetable.specs.Timetable.{lastMinute}
+use Rattle.lists.specs.Lists.{_∈_}
+use Rattle.connections.specs.Connections.{Change}
 use Rattle.store_stops.specs.Stopwise.{
   station,
   arrive,
@@ -14,6 +16,7 @@ use Rattle.store_stops.specs.Stopwise.{
   points,
   changePoints,
   unreached,
+  waysOf,
   Goes,
   Boards,
   Catches,
@@ -37,16 +40,17 @@ module _ (w : List ℕ) (a d : ℕ) (v : List ℕ) where
   -- or they change from another arrival
   pub record FromChange (i : ℕ) : Type 0 where
     pub k : ℕ
+    pub price : ℕ
     pub goes : Goes w k
-    pub catches : Catches w (suc k) i
-    pub is : getD v (suc i) 0 ≡ getD v (suc k) 0 + changePoints w (station w (suc k)) + points w i
+    pub catches : Catches w (suc k) i price
+    pub is : getD v (suc i) 0 ≡ getD v (suc k) 0 + price + points w i
 
   pub record Settled : Type 0 where
     pub starts : (i : ℕ) → Boards w i → station w i ≡ a → d ≤ depart w i → getD v (suc i) 0 ≤ points w i
     pub stays : (i : ℕ) → Goes w i → Goes w (suc i)
         → getD v (suc (suc i)) 0 ≤ getD v (suc i) 0 + points w (suc i)
-    pub changes : (i g : ℕ) → Goes w i → Catches w (suc i) g
-        → getD v (suc g) 0 ≤ getD v (suc i) 0 + changePoints w (station w (suc i)) + points w g
+    pub changes : (i g p : ℕ) → Goes w i → Catches w (suc i) g p
+        → getD v (suc g) 0 ≤ getD v (suc i) 0 + p + points w g
     pub attained : (i : ℕ) → Goes w i → getD v (suc i) 0 < unreached → FromStart i ⊎ (FromStop i ⊎ FromChange i)
     pub capped : (i : ℕ) → Goes w i → getD v (suc i) 0 ≤ unreached
 
@@ -65,6 +69,8 @@ pub record Timely (w : List ℕ) : Type 0 where
   pub next-listed : (i : ℕ) → Goes w i → station w (suc i) ≤ stationCount w
   pub some : (c : ℕ) → 1 ≤ c → c ≤ stationCount w → 1 ≤ changePoints w c
   pub most : (c : ℕ) → 1 ≤ c → c ≤ stationCount w → changePoints w c ≤ 1000
+  pub way-some : (way : Change) → way ∈ waysOf w → 1 ≤ way .points
+  pub way-most : (way : Change) → way ∈ waysOf w → way .points ≤ 1000
   -- behind a stop that is left again, a stop is left again exactly if it has a departure
   pub goes-on : (i : ℕ) → Goes w i → 1 ≤ depart w (suc i) → Goes w (suc i)
   pub ends : (i : ℕ) → Goes w i → Goes w (suc i) → 1 ≤ depart w (suc i)

@@ -4,8 +4,10 @@ use mathlib.Core.Path.{_≡_}
 use mathlib.Core.List.{List}
 use Prim.Native.Nat.{ℕ, zero, suc, _+_, _-_, _≤_, _<_}
 use lib.Dec.{T}
-use Rattle.timetable.specs.Words.{tripCount, stationAt, stopAt, startAt}
+use Rattle.timetable.specs.Words.{tripCount, stationAt, stopAt, startAt, timetableOf}
+use Rattle.lists.specs.Lists.{_∈_}
 use Rattle.connections.specs.Rides.{mayBoard, mayAlight}
+use Rattle.connections.specs.Connections.{Change, changesOf}
 
 -- 2,879 * 1,100 + 1: no one who is on the way has paid as much, by the laws of reckoning/Bounds
 abbrev pub unreached : ℕ
@@ -29,16 +31,24 @@ module _ (w : List ℕ) where
   abbrev pub points : ℕ → ℕ
   points i = (stopAt w i) .points
 
-  -- what a change at station c, counted from 1, takes and costs
+  -- what a change at station c itself, counted from 1, takes and costs
   abbrev pub changeMinutes : ℕ → ℕ
   changeMinutes c = (stationAt w (c - 1)) .minutes
 
   abbrev pub changePoints : ℕ → ℕ
   changePoints c = (stationAt w (c - 1)) .points
 
-  -- the minute from which one who arrives at stop j can leave by another trip
-  abbrev pub ready : ℕ → ℕ
-  ready j = arrive j + changeMinutes (station j)
+  -- the change at station c itself
+  abbrev pub stay : (c : ℕ) → Change
+  stay c = record { from = c; to = c; minutes = changeMinutes c; points = changePoints c }
+
+  -- the ways of changing
+  abbrev pub waysOf : List Change
+  waysOf = changesOf (timetableOf w)
+
+  -- the minute from which one who arrives at stop j and changes so can leave by another trip
+  abbrev pub ready : ℕ → Change → ℕ
+  ready j way = arrive j + way .minutes
 
   -- stop i is left again: it is not the last of its trip, and the trip's next stop is i + 1
   pub record Goes (i : ℕ) : Type 0 where
@@ -64,9 +74,17 @@ module _ (w : List ℕ) where
   ridden i zero = 0
   ridden i (suc n) = points i + ridden (suc i) n
 
-  -- one who arrives at stop j can board at stop g by a change
-  pub record Catches (j g : ℕ) : Type 0 where
+  -- one who arrives at stop j can board at stop g by this way of changing
+  pub record CatchesBy (way : Change) (j g : ℕ) : Type 0 where
+    pub listed : way ∈ waysOf
     pub alights : Alights j
     pub boards : Boards g
-    pub here : station g ≡ station j
-    pub timely : ready j ≤ depart g
+    pub from : station j ≡ way .from
+    pub to : station g ≡ way .to
+    pub timely : ready j way ≤ depart g
+
+  -- one who arrives at stop j can board at stop g by a change that costs p
+  pub record Catches (j g p : ℕ) : Type 0 where
+    pub way : Change
+    pub catches : CatchesBy way j g
+    pub price : p ≡ way .points

@@ -20,6 +20,7 @@ use Rattle.connections.specs.Connections.{noStation}
 use Rattle.connections.specs.Sound.{valid-trip, valid-station, trips-valid, stations-valid}
 use Rattle.store_stops.specs.Stopwise.{arrive, depart, Goes}
 use Rattle.store_stops.specs.Settled.{Timely}
+use Rattle.store_stops.specs.Ways.{good-way}
 
 -- ---- two stops of a trip, one behind the other
 record Leg (n : ℕ) (b s : Stop) : Type 0 where
@@ -245,6 +246,8 @@ module _ (w : List ℕ) (yes : isTimetable w ≡ true) where
         next-listed = λ i g. leg-here i g .next-last;
         some = λ c h k. price-here c h k .some;
         most = λ c h k. price-here c h k .most;
+        way-some = λ way m. good-way w yes way m .points-least;
+        way-most = λ way m. good-way w yes way m .points-most;
         goes-on = goes-on;
         ends = λ i g h. omega (arith, leg-here i g .forward, waits-here i g (same-trip i g h));
       }

@@ -5,6 +5,7 @@ use mathlib.Core.Path.{_≡_, ap, subst, _∙_}
 use mathlib.Core.List.{List, [], _∷_}
 use Prim.Native.Nat.{ℕ, zero, suc, _+_, _≤_}
 use native.Mathlib.Omega.{arith}
+use Rattle.connections.specs.Connections.{Transfer}
 use Rattle.store_stops.specs.Stopwise.{station, depart, Goes, Boards, Ridden}
 use Rattle.store_stops.specs.Paid.{Paid}
 use Rattle.store_stops.specs.Settled.{Timely}
@@ -23,21 +24,30 @@ module _ (w : List ℕ) (timely : Timely w) where
 
 module _ (w : List ℕ) (a d : ℕ) where
   -- who can board can board at the same station later
-  pub paid-later : (rev : List ℕ) (g h p : ℕ) → Paid w a d rev g p → Boards w h → station w h ≡ station w g
+  pub paid-later : (rev : List Transfer) (g h p : ℕ) → Paid w a d rev g p → Boards w h → station w h ≡ station w g
       → depart w g ≤ depart w h → Paid w a d rev h p
   paid-later [] g h p b boards here late = (boards, here ∙ b .1, omega (arith, b .2), b .3)
   paid-later (c ∷ rev) g h p b boards here late =
       record {
         at = b .at;
         before = b .before;
+        price = b .price;
         rode = b .rode;
         here = b .here;
+        there = here ∙ b .there;
         catches =
             record {
-              alights = b .catches .alights;
-              boards = boards;
-              here = here ∙ b .catches .here;
-              timely = omega (arith, b .catches .timely);
+              way = b .catches .way;
+              catches =
+                  record {
+                    listed = b .catches .catches .listed;
+                    alights = b .catches .catches .alights;
+                    boards = boards;
+                    from = b .catches .catches .from;
+                    to = here ∙ b .catches .catches .to;
+                    timely = omega (arith, b .catches .catches .timely);
+                  };
+              price = b .catches .price;
             };
         total = b .total;
       }

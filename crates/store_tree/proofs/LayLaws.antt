@@ -1,16 +1,22 @@
 -- The words of a store are written node by node, target by target and station by station.
 use mathlib.Core.Path.{_≡_, sym, ap, subst, _∙_}
+use mathlib.Core.Bool.{true}
 use mathlib.Core.List.{List, [], _∷_, _++_}
 use Prim.Native.Nat.{ℕ, suc, _+_, _-_, _*_, _≤_, _<_}
 use native.Mathlib.Nat.{zero-add, sub-zero}
 use native.Mathlib.Omega.{arith}
 use lib.ListN.{length, getD}
 use Rattle.words.specs.Put.{put, put-none}
-use Rattle.store_tree.specs.Tree.{stationIn, parentIn, arcsIn}
+use Rattle.lists.specs.Lists.{_∈_}
+use Rattle.timetable.specs.Words.{isTimetable}
+use Rattle.timetable.specs.Access.{stations-few}
+use Rattle.store_slots.specs.Slots.{transferAt, slots}
+use Rattle.store_slots.specs.SlotLaws.{slot-small, slot-stations}
+use Rattle.store_tree.specs.Tree.{slotIn, parentIn, arcsIn}
 use Rattle.store_tree.specs.Laid.{entryAt, entriesTo, arcWords, hitsTo, nodeHits, total, hitsOf}
 use Rattle.store_tree.specs.LaidSteps.{entries-more, entries-none, length-entries, arc-yes, arc-no, hits-more}
 use Rattle.store_tree.specs.LaidSteps.{nodes-more, nodes-none, total-more, stations-more, stations-none}
-use Rattle.store_tree.proofs.Writing.{
+use Rattle.store_slots.specs.Writing.{
   Writing,
   writing-first,
   writing-room,
@@ -20,61 +26,81 @@ use Rattle.store_tree.proofs.Writing.{
 }
 
 -- ---- the nodes
-pub nodes-first : (w old : List ℕ) (n : ℕ) → 2 + 2 * n ≤ length old
-    → Writing (entriesTo w 1 (suc n)) (entriesTo w 1 (suc n)) old old 2 2
-nodes-first w old n h = writing-first (entriesTo w 1 (suc n)) old 2 (omega (arith, length-entries w n))
+pub nodes-first : (t w old : List ℕ) (n : ℕ) → 2 + 3 * n ≤ length old
+    → Writing (entriesTo t w 1 (suc n)) (entriesTo t w 1 (suc n)) old old 2 2
+nodes-first t w old n h = writing-first (entriesTo t w 1 (suc n)) old 2 (omega (arith, length-entries t w n))
 
 module _
-    (w old out : List ℕ)
+    (t w old out : List ℕ)
     (n v : ℕ)
-    (k : Writing (entriesTo w 1 (suc n)) (entriesTo w v (suc n)) old out 2 (2 * v))
+    (k : Writing (entriesTo t w 1 (suc n)) (entriesTo t w v (suc n)) old out 2 (3 * v - 1))
   where
     module _ (h : v < n + 1) where
-      pub node-room : 2 * v + 2 ≤ length out
+      pub node-room : 3 * v - 1 + 3 ≤ length out
       node-room =
           writing-room
-          (entriesTo w 1 (suc n))
-          (entriesTo w v (suc n))
-          (entryAt w v)
-          (entriesTo w (v + 1) (suc n))
+          (entriesTo t w 1 (suc n))
+          (entriesTo t w v (suc n))
+          (entryAt t w v)
+          (entriesTo t w (v + 1) (suc n))
           old
           out
           2
-          (2 * v)
+          (3 * v - 1)
           k
-          (entries-more w v (suc n) (omega arith))
+          (entries-more t w v (suc n) (omega arith))
 
-      pub node-more : (a p : ℕ) (out′ : List ℕ) → a ≡ stationIn (getD w v 0) → p ≡ parentIn (getD w v 0)
-          → out′ ≡ put (2 * v) (a ∷ p ∷ []) out
-          → Writing (entriesTo w 1 (suc n)) (entriesTo w (v + 1) (suc n)) old out′ 2 (2 * (v + 1))
-      node-more a p out′ is-a is-p e =
+      pub node-more : 1 ≤ v → (a b p s : ℕ) (out′ : List ℕ) → s ≡ slotIn (getD w v 0) → a ≡ (transferAt t s) .alighted
+          → b ≡ (transferAt t s) .boarded → p ≡ parentIn (getD w v 0)
+          → out′ ≡ put (3 * v - 1) (a ∷ b ∷ p ∷ []) out
+          → Writing (entriesTo t w 1 (suc n)) (entriesTo t w (v + 1) (suc n)) old out′ 2 (3 * (v + 1) - 1)
+      node-more some a b p s out′ is-s is-a is-b is-p e =
+          let first = is-a ∙ ap (λ s. (transferAt t s) .alighted) is-s in
+          let second = is-b ∙ ap (λ s. (transferAt t s) .boarded) is-s in
           writing-more
-          (entriesTo w 1 (suc n))
-          (entriesTo w v (suc n))
-          (entryAt w v)
-          (entriesTo w (v + 1) (suc n))
+          (entriesTo t w 1 (suc n))
+          (entriesTo t w v (suc n))
+          (entryAt t w v)
+          (entriesTo t w (v + 1) (suc n))
           old
           out
           2
-          (2 * v)
+          (3 * v - 1)
           k
-          (entries-more w v (suc n) (omega arith))
+          (entries-more t w v (suc n) (omega arith))
           out′
-          (2 * (v + 1))
-          (e ∙ (λ i. put (2 * v) (is-a i ∷ is-p i ∷ []) out))
+          (3 * (v + 1) - 1)
+          (e ∙ (λ i. put (3 * v - 1) (first i ∷ second i ∷ is-p i ∷ []) out))
           (omega arith)
 
-    pub nodes-done : n + 1 ≤ v → out ≡ put 2 (entriesTo w 1 (suc n)) old
+    pub nodes-done : n + 1 ≤ v → out ≡ put 2 (entriesTo t w 1 (suc n)) old
     nodes-done h =
         writing-done
-        (entriesTo w 1 (suc n))
-        (entriesTo w v (suc n))
+        (entriesTo t w 1 (suc n))
+        (entriesTo t w v (suc n))
         old
         out
         2
-        (2 * v)
+        (3 * v - 1)
         k
-        (entries-none w v (suc n) (omega arith))
+        (entries-none t w v (suc n) (omega arith))
+
+-- the slot of a node is one of the timetable's
+module _ (t w : List ℕ) (n v s : ℕ) (spelled : isTimetable t ≡ true)
+    (listed : (v : ℕ) → v ≤ n → slotIn (getD w v 0) ∈ slots t) (h : v < n + 1) (is : s ≡ slotIn (getD w v 0)) where
+  in-slots : s ∈ slots t
+  in-slots = subst (λ s. s ∈ slots t) (sym is) (listed v (omega arith))
+
+  pub node-small : s < 320
+  node-small = slot-small t spelled s in-slots
+
+  pub alighted-small : (a : ℕ) → a ≡ (transferAt t s) .alighted → a < 65536
+  alighted-small a e =
+      omega (arith, slot-stations t spelled s in-slots .alighted-last, stations-few t spelled)
+
+  pub boarded-small : (b : ℕ) → b ≡ (transferAt t s) .boarded → b < 65536
+  boarded-small b e =
+      omega (arith, slot-stations t spelled s in-slots .boarded-last, stations-few t spelled)
 
 -- ---- one target
 module _ (target b v at : ℕ) (old : List ℕ) where

@@ -1,4 +1,3 @@
-pub mod Writing
 pub mod MarkLaws
 pub mod TakeLaws
 pub mod LayLaws

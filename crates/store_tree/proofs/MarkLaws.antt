@@ -1,4 +1,4 @@
--- Stations that are marked are counted and written flag by flag.
+-- Stations and slots that are marked are counted and written flag by flag.
 use mathlib.Core.Path.{_≡_, refl, sym, ap, _∙_}
 use mathlib.Core.Bool.{Bool, true, false}
 use mathlib.Core.List.{List, [], _∷_, _++_, map}
@@ -10,8 +10,9 @@ use Rattle.lists.specs.Lists.{keep}
 use Rattle.words.specs.Put.{put, put-none, put-one}
 use Rattle.store_tree.specs.Tree.{nodeWord}
 use Rattle.store_tree.specs.Marks.{marked, marksFrom, marks, marks-none, marks-more, marked-yes, marked-no}
-use Rattle.store_tree.specs.Marks.{kidWords, kid-words-none, kid-words-append, kid-words-long}
-use Rattle.store_tree.proofs.Writing.{Writing, writing-first, writing-room, writing-more, writing-done}
+use Rattle.store_tree.specs.Marks.{slotMarks, slots-none, slots-more, kidWords, kid-words-none}
+use Rattle.store_tree.specs.Marks.{kid-words-append, kid-words-long}
+use Rattle.store_slots.specs.Writing.{Writing, writing-first, writing-room, writing-more, writing-done}
 
 -- ---- one flag
 module _ (count flag : ℕ) where
@@ -94,6 +95,37 @@ module _
 pub count-first : (flags : List ℕ) → length (marks flags) ≡ 0 + length (marksFrom (0 + 1) (drop 0 flags))
 count-first flags = omega arith
 
+-- slots
+module _
+    (flags list : List ℕ)
+    (count j : ℕ)
+    (so-far : length (slotMarks flags list) ≡ count + length (slotMarks flags (drop j list)))
+  where
+    pub slots-counted : (r : ℕ) → j < length list → r ≡ count + length (marked (getD flags (getD list j 0) 0) 0)
+        → length (slotMarks flags list) ≡ r + length (slotMarks flags (drop (j + 1) list))
+    slots-counted r h is =
+        let s = getD list j 0 in
+        omega (
+          arith,
+          so-far,
+          is,
+          ap length (slots-more flags list j h),
+          length-append (marked (getD flags s 0) s) (slotMarks flags (drop (j + 1) list)),
+          marked-long (getD flags s 0) s 0,
+        )
+
+    pub slots-done : length list ≤ j → count ≡ length (slotMarks flags list)
+    slots-done h =
+        omega (
+          arith,
+          so-far,
+          ap (λ l. length (slotMarks flags l)) (drop-of-length-le list {i = j} h),
+          ap length (slots-none flags),
+        )
+
+pub slots-first : (flags list : List ℕ) → length (slotMarks flags list) ≡ 0 + length (slotMarks flags (drop 0 list))
+slots-first flags list = omega arith
+
 -- ---- written so far: the targets
 pub targets-first : (old flags : List ℕ) (at : ℕ) → at + length (marks flags) ≤ length old
     → Writing (marks flags) (marksFrom (0 + 1) (drop 0 flags)) old old at at
@@ -155,40 +187,46 @@ module _
         (ap (marksFrom (j + 1)) (drop-of-length-le flags {i = j} (omega arith)) ∙ marks-none (j + 1))
 
 -- ---- written so far: the words of kids
-pub kids-first : (old flags : List ℕ) (v at : ℕ) → at + length (marks flags) ≤ length old
-    → Writing (kidWords v (marks flags)) (kidWords v (marksFrom (0 + 1) (drop 0 flags))) old old at at
-kids-first old flags v at h =
-    writing-first (kidWords v (marks flags)) old at (omega (arith, kid-words-long v (marks flags)))
+pub kids-first : (old flags list : List ℕ) (v at : ℕ) → at + length (slotMarks flags list) ≤ length old
+    → Writing (kidWords v (slotMarks flags list)) (kidWords v (slotMarks flags (drop 0 list))) old old at at
+kids-first old flags list v at h =
+    writing-first
+    (kidWords v (slotMarks flags list))
+    old
+    at
+    (omega (arith, kid-words-long v (slotMarks flags list)))
 
 module _
-    (old out flags : List ℕ)
+    (old out flags list : List ℕ)
     (v at here j : ℕ)
-    (w : Writing (kidWords v (marks flags)) (kidWords v (marksFrom (j + 1) (drop j flags))) old out at here)
-    (long : length flags ≡ 64)
+    (w : Writing (kidWords v (slotMarks flags list)) (kidWords v (slotMarks flags (drop j list))) old out at here)
   where
-    module _ (h : j < 64) where
+    module _ (h : j < length list) where
+      abbrev slot : ℕ
+      slot = getD list j 0
+
       abbrev kid : List ℕ
-      kid = kidWords v (marked (getD flags j 0) (j + 1))
+      kid = kidWords v (marked (getD flags slot 0) slot)
 
       abbrev others : List ℕ
-      others = kidWords v (marksFrom (j + 1 + 1) (drop (j + 1) flags))
+      others = kidWords v (slotMarks flags (drop (j + 1) list))
 
-      kid-long : length kid ≡ length (marked (getD flags j 0) (j + 1))
-      kid-long = kid-words-long v (marked (getD flags j 0) (j + 1))
+      kid-long : length kid ≡ length (marked (getD flags slot 0) slot)
+      kid-long = kid-words-long v (marked (getD flags slot 0) slot)
 
-      next-kid : kidWords v (marksFrom (j + 1) (drop j flags)) ≡ kid ++ others
+      next-kid : kidWords v (slotMarks flags (drop j list)) ≡ kid ++ others
       next-kid =
-          ap (kidWords v) (marks-more flags j (omega arith))
-          ∙ kid-words-append v (marked (getD flags j 0) (j + 1)) (marksFrom (j + 1 + 1) (drop (j + 1) flags))
+          ap (kidWords v) (slots-more flags list j h)
+          ∙ kid-words-append v (marked (getD flags slot 0) slot) (slotMarks flags (drop (j + 1) list))
 
-      pub kid-room : here + length (marked (getD flags j 0) (j + 1)) ≤ length out
+      pub kid-room : here + length (marked (getD flags (getD list j 0) 0) (getD list j 0)) ≤ length out
       kid-room =
           omega (
             arith,
             kid-long,
             writing-room
-                (kidWords v (marks flags))
-                (kidWords v (marksFrom (j + 1) (drop j flags)))
+                (kidWords v (slotMarks flags list))
+                (kidWords v (slotMarks flags (drop j list)))
                 kid
                 others
                 old
@@ -200,14 +238,14 @@ module _
           )
 
       pub kid-more : (out′ : List ℕ) (here′ : ℕ)
-          → out′ ≡ put here (kidWords v (marked (getD flags j 0) (j + 1))) out
-          → here′ ≡ here + length (marked (getD flags j 0) (j + 1))
-          → Writing (kidWords v (marks flags)) (kidWords v (marksFrom (j + 1 + 1) (drop (j + 1) flags))) old out′ at
+          → out′ ≡ put here (kidWords v (marked (getD flags (getD list j 0) 0) (getD list j 0))) out
+          → here′ ≡ here + length (marked (getD flags (getD list j 0) 0) (getD list j 0))
+          → Writing (kidWords v (slotMarks flags list)) (kidWords v (slotMarks flags (drop (j + 1) list))) old out′ at
           here′
       kid-more out′ here′ e f =
           writing-more
-          (kidWords v (marks flags))
-          (kidWords v (marksFrom (j + 1) (drop j flags)))
+          (kidWords v (slotMarks flags list))
+          (kidWords v (slotMarks flags (drop j list)))
           kid
           others
           old
@@ -221,16 +259,32 @@ module _
           e
           (omega (arith, f, kid-long))
 
-    pub kids-done : 64 ≤ j → out ≡ put at (kidWords v (marks flags)) old
+    pub kids-done : length list ≤ j → out ≡ put at (kidWords v (slotMarks flags list)) old
     kids-done h =
         writing-done
-        (kidWords v (marks flags))
-        (kidWords v (marksFrom (j + 1) (drop j flags)))
+        (kidWords v (slotMarks flags list))
+        (kidWords v (slotMarks flags (drop j list)))
         old
         out
         at
         here
         w
-        (ap (λ l. kidWords v (marksFrom (j + 1) l)) (drop-of-length-le flags {i = j} (omega arith))
-        ∙ ap (kidWords v) (marks-none (j + 1))
+        (ap (λ l. kidWords v (slotMarks flags l)) (drop-of-length-le list {i = j} h)
+        ∙ ap (kidWords v) (slots-none flags)
         ∙ kid-words-none v)
+
+-- a slot of the list is one of the flags
+pub slot-near : (list flags : List ℕ) (j : ℕ) → ((j : ℕ) → j < length list → getD list j 0 < 320) → j < length list
+    → length flags ≡ 320 → getD list j 0 < length flags
+slot-near list flags j few h long = omega (arith, few j h)
+
+-- and a small number
+module _ (list : List ℕ) (j : ℕ) (few : (j : ℕ) → j < length list → getD list j 0 < 320) (h : j < length list) where
+  pub slot-low : getD list j 0 < 320
+  slot-low = few j h
+
+  pub slot-fits : getD list j 0 < 18446744073709551616
+  slot-fits = omega (arith, few j h)
+
+  pub slot-narrow : getD list j 0 < 4294967296
+  slot-narrow = omega (arith, few j h)

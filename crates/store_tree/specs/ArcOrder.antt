@@ -9,13 +9,15 @@ use native.Mathlib.Omega.{arith}
 use lib.Dec.{T}
 use lib.ListN.{length, getD, length-append}
 use Rattle.timetable.specs.Timetable.{stationsMost}
+use Rattle.timetable.specs.Access.{stations-few}
 use Rattle.lists.specs.Lists.{_∈_, keep, filter, concatMap, range, before, Rising}
 use Rattle.lists.specs.Members.{none, kept-cases, keep-here, keep-there, concatMap-in, concatMap-out}
 use Rattle.lists.specs.Members.{range-in, range-out}
 use Rattle.lists.specs.Order.{before-head, before-tail, before-same}
 use Rattle.lists.specs.Sorting.{Inside, rising-unique}
 use Rattle.stores.specs.Words.{front, final, nodes, place, entry, arcs}
-use Rattle.stores.specs.Sequences.{final-within, place-get, place-bound}
+use Rattle.lists.specs.Pigeonhole.{Within}
+use Rattle.stores.specs.Sequences.{Odd, odd-full, final-within, place-get, place-bound}
 use Rattle.stores.specs.Nodes.{front-known}
 use Rattle.stores.specs.RoundTrip.{arc-out as entry-out, arc-in as entry-in, arcs-rising}
 use Rattle.store_tree.specs.Tree.{hasArc, allStations, arcsOf, rooted, nodeAt, Made}
@@ -110,7 +112,7 @@ module _ (ps : List (List ℕ)) where
           (before-head i (c .0) ((v + r .index) ∷ []) ((v + u .index) ∷ []) (omega (arith, h)))
 
   -- ---- they are the arcs of the store
-  module _ (k : ℕ) (made : Made k ps) where
+  module _ (k : ℕ) (odd : (p : List ℕ) → p ∈ ps → Odd p) (within : (p : List ℕ) → p ∈ ps → Within k p) where
     abbrev found : List (List ℕ)
     found = concatMap (λ b. arcsTo ps b 0 (rooted ps)) (range 1 k)
 
@@ -136,14 +138,14 @@ module _ (ps : List (List ℕ)) where
     arcs-inside z m =
         let r = entry-out ps z m in
         let p = r .0 in
-        let full = made .full p (r .1) in
-        let known : front p ∈ rooted ps = rw (root-first ps) (front-known ps p (r .1) full) in
+        let full = odd-full p (odd p (r .1)) in
+        let known : front p ∈ rooted ps = rw (root-first ps) (front-known ps p (r .1) (odd p (r .1))) in
         let v = place (front p) (rooted ps) in
         let inside = place-bound (front p) (rooted ps) known in
         let is-front : nodeAt ps v ≡ front p = place-get (front p) (rooted ps) known in
         let has : T (hasArc ps (nodeAt ps v) (final p)) =
         rw is-front (arc-in ps (front p) (final p) (Memᴰ·cast (joined p full) (r .1))) in
-        let w = final-within k p full (made .within p (r .1)) in
+        let w = final-within k p full (within p (r .1)) in
         Memᴰ·cast
         (sym (r .2)
         ∙ ap (λ l. final p ∷ place (front p) l ∷ []) (sym (root-first ps))
@@ -202,15 +204,10 @@ module _ (ps : List (List ℕ)) where
         length-append (arcsTo ps b v ss) (concatMap (λ b. arcsTo ps b v ss) bs),
       )
 
-  pub arcs-counted : (k : ℕ) → Made k ps → length (concatMap (arcsOf ps) (rooted ps)) ≡ length (arcs ps)
+  pub arcs-counted : (w : List ℕ) → Made w ps → length (concatMap (arcsOf ps) (rooted ps)) ≡ length (arcs ps)
   unfolding arcsOf allStations
-  arcs-counted k made =
-      tally 0 (rooted ps) (range 1 stationsMost) ∙ ap length (arc-order stationsMost all)
+  arcs-counted w made =
+      tally 0 (rooted ps) (range 1 stationsMost) ∙ ap length (arc-order stationsMost (made .odd) all)
     where
-      all : Made stationsMost ps
-      all =
-          record {
-            few = omega arith;
-            full = made .full;
-            within = λ p m x i. (let w = made .within p m x i in (w .0, omega (arith, w .1, made .few)));
-          }
+      all : (p : List ℕ) → p ∈ ps → Within stationsMost p
+      all p m x i = let h = made .within p m x i in (h .0, omega (arith, h .1, stations-few w (made .timetable)))

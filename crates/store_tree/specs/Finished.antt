@@ -11,6 +11,7 @@ use Rattle.lists.specs.Members.{cons-cases, concatMap-out}
 use Rattle.lists.specs.Order.{before-cases}
 use Rattle.stores.specs.Words.{keyed, nodes, arcs, encode}
 use Rattle.stores.specs.RoundTrip.{encode-length}
+use Rattle.store_slots.specs.Slots.{transferAt}
 use Rattle.store_tree.specs.Tree.{arcsOf, children, rooted, Made, Grown}
 use Rattle.store_tree.specs.Numbering.{child-out, rooted-rising}
 use Rattle.store_tree.specs.Numbering.{root-first}
@@ -24,13 +25,14 @@ rising-drop (suc j) [] r = tt
 rising-drop (suc j) (q ∷ l) r = rising-drop j l (r .1)
 
 -- nodes that come only from one another: none, since a first one would come from a shorter one
-self-grown : (ps d : List (List ℕ)) → d ≡ concatMap (children ps) d → Rising (map keyed d) → d ≡ []
-self-grown ps [] e r = refl
-self-grown ps (q ∷ d) e r =
-    let s = concatMap-out (children ps) (q ∷ d) (subst (λ l. q ∈ l) e (here refl)) in
-    let b = child-out ps (s .0) q (s .2) in
+self-grown : (w : List ℕ) (ps d : List (List ℕ)) → d ≡ concatMap (children w ps) d → Rising (map keyed d) → d ≡ []
+self-grown w ps [] e r = refl
+self-grown w ps (q ∷ d) e r =
+    let s = concatMap-out (children w ps) (q ∷ d) (subst (λ l. q ∈ l) e (here refl)) in
+    let b = child-out w ps (s .0) q (s .2) in
+    let c = transferAt w (b .0) in
     let long = ap length (b .2) in
-    let more = length-append (s .0) (b .0 ∷ []) in
+    let more = length-append (s .0) (c .alighted ∷ c .boarded ∷ []) in
     cons-cases
     (s .1)
     (λ h. absurd (omega (arith, long, more, ap length h)))
@@ -41,23 +43,24 @@ self-grown ps (q ∷ d) e r =
     ])
 
 module _
+    (w : List ℕ)
     (ps : List (List ℕ))
-    (k : ℕ)
-    (made : Made k ps)
+    (made : Made w ps)
     (source : ℕ)
     (work targets : List ℕ)
     (n m : ℕ)
-    (g : Grown ps source work targets n m (suc n))
+    (g : Grown w ps source work targets n m (suc n))
   where
     none-left : drop (suc n) (rooted ps) ≡ []
     none-left =
         self-grown
+        w
         ps
         (drop (suc n) (rooted ps))
-        (ap (drop (suc n)) (split ps k made (suc n))
+        (ap (drop (suc n)) (split w ps made (suc n))
         ∙ drop-at
-        (concatMap (children ps) (take (suc n) (rooted ps)))
-        (concatMap (children ps) (drop (suc n) (rooted ps)))
+        (concatMap (children w ps) (take (suc n) (rooted ps)))
+        (concatMap (children w ps) (drop (suc n) (rooted ps)))
         n
         (sym (g .node-count)))
         (rising-drop (suc n) (rooted ps) (rooted-rising ps))
@@ -68,7 +71,7 @@ module _
           arith,
           length-drop (suc n) (rooted ps),
           ap length none-left,
-          reach ps k made (suc n),
+          reach w ps made (suc n),
           g .node-count,
         )
 
@@ -83,8 +86,8 @@ module _
     grown-arcs =
         g .arc-count
         ∙ ap (λ l. length (concatMap (arcsOf ps) l)) (take-all (suc n) (rooted ps) (omega (arith, all-rooted)))
-        ∙ arcs-counted ps k made
+        ∙ arcs-counted ps w made
 
-    -- "A store call returns its words, 2 + 2n + 2m"
-    pub grown-length : 2 + 2 * n + 2 * m ≡ length (encode ps)
+    -- "a store has 2 + 3n + 2m words"
+    pub grown-length : 2 + 3 * n + 2 * m ≡ length (encode ps)
     grown-length = omega (arith, encode-length ps, grown-nodes, grown-arcs)

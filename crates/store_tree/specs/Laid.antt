@@ -1,4 +1,4 @@
--- The words of a store, as they are written from the words of nodes and the targets: station and parent of each node,
+-- The words of a store, as they are written from the words of nodes and the targets: stations and parent of each node,
 -- and then for each station the nodes with an arc to it. Once all nodes are taken they are the words of the store.
 use mathlib.Core.Path.{_≡_, refl, sym, ap, _∙_}
 use mathlib.Core.Bool.{Bool, true, false, cond}
@@ -17,22 +17,28 @@ use lib.Seq.{getD-drop, drop-drop}
 use Rattle.timetable.specs.Timetable.{stationsMost}
 use Rattle.lists.specs.Lists.{_∈_, keep, filter, concatMap, range}
 use Rattle.lists.specs.Members.{range-out}
-use Rattle.stores.specs.Words.{front, nodes, place, entry, arcs, flat, encode}
-use Rattle.store_tree.specs.Tree.{hasArc, allStations, arcsOf, rooted, nodeAt, Made, stationIn, parentIn, arcsIn}
-use Rattle.store_tree.specs.Tree.{Grown}
-use Rattle.store_tree.specs.Parents.{last-of, node-full}
+use Rattle.timetable.specs.Words.{stationCount}
+use Rattle.timetable.specs.Access.{stations-few}
+use Rattle.stores.specs.Words.{nodes, nodeEntry, arcs, flat, encode}
+use Rattle.store_slots.specs.Slots.{transferAt}
+use Rattle.store_tree.specs.Tree.{hasArc, allStations, arcsOf, rooted, Made, slotIn, parentIn, arcsIn, Grown}
+use Rattle.store_tree.specs.Parents.{last-is}
 use Rattle.store_tree.specs.ArcOrder.{arcsTo, arc-order, arcs-counted}
 use Rattle.words.specs.Written.{left-next}
 use Rattle.store_tree.specs.Held.{concatMap-append}
 use Rattle.store_tree.specs.Finished.{all-rooted, grown-nodes, grown-targets, grown-arcs}
-use Rattle.store_tree.specs.Says.{says-station, says-parent, says-arcs}
+use Rattle.store_tree.specs.Says.{says-slot, says-parent, says-arcs}
 
--- station and parent of node v
-abbrev pub entryAt : List ℕ → ℕ → List ℕ
-entryAt w v = stationIn (getD w v 0) ∷ parentIn (getD w v 0) ∷ []
+-- the stations alighted and boarded at of node v, and its parent, for the timetable that the words t spell
+abbrev pub entryAt : (t w : List ℕ) → ℕ → List ℕ
+entryAt t w v =
+    transferAt t (slotIn (getD w v 0)) .alighted
+    ∷ transferAt t (slotIn (getD w v 0)) .boarded
+    ∷ parentIn (getD w v 0)
+    ∷ []
 
-unfoldable pub entriesTo : List ℕ → (v end : ℕ) → List ℕ
-entriesTo w v end = concatMap (entryAt w) (range v (end - v))
+unfoldable pub entriesTo : (t w : List ℕ) → (v end : ℕ) → List ℕ
+entriesTo t w v end = concatMap (entryAt t w) (range v (end - v))
 
 -- an arc of node v, if its target is b
 unfoldable pub arcWords : (target b v : ℕ) → List ℕ
@@ -57,8 +63,8 @@ total w v (suc k) = arcsIn (getD w v 0) + total w (suc v) k
 unfoldable pub hitsOf : (w ts : List ℕ) (n b end : ℕ) → List ℕ
 hitsOf w ts n b end = concatMap (λ b. nodeHits w ts b 0 0 (suc n)) (range b (end - b))
 
-unfoldable pub laid : (w ts : List ℕ) (n m stations : ℕ) → List ℕ
-laid w ts n m stations = n ∷ m ∷ (entriesTo w 1 (suc n) ++ hitsOf w ts n 1 (suc stations))
+unfoldable pub laid : (t w ts : List ℕ) (n m : ℕ) → List ℕ
+laid t w ts n m = n ∷ m ∷ (entriesTo t w 1 (suc n) ++ hitsOf w ts n 1 (suc (stationCount t)))
 
 -- ---- lists that are joined
 module _ {A B : Type 0} (f g : A → List B) where
@@ -205,42 +211,45 @@ module _ (ps : List (List ℕ)) (w ts : List ℕ) where
 
 -- ---- the words of the store
 module _
+    (t : List ℕ)
     (ps : List (List ℕ))
-    (k : ℕ)
-    (made : Made k ps)
+    (made : Made t ps)
     (source : ℕ)
     (w ts : List ℕ)
     (n m : ℕ)
-    (g : Grown ps source w ts n m (suc n))
+    (g : Grown t ps source w ts n m (suc n))
   where
     long : length (rooted ps) ≡ suc n
-    long = all-rooted ps k made source w ts n m g
+    long = all-rooted t ps made source w ts n m g
 
     counts : Counts ps w ts 0 (rooted ps)
     counts j h =
         ap (λ u. arcsIn (getD w u 0)) (zero-add j)
-        ∙ says-arcs ps k made source w ts n m (suc n) g j (omega (arith, long)) (omega (arith, long))
+        ∙ says-arcs t ps made source w ts n m (suc n) g j (omega (arith, long)) (omega (arith, long))
 
     all-targets : drop 0 ts ≡ concatMap (arcsOf ps) (rooted ps) ++ drop m ts
     all-targets =
-        sym (take-append-drop m ts) ∙ ap (λ l. l ++ drop m ts) (grown-targets ps k made source w ts n m g)
+        sym (take-append-drop m ts) ∙ ap (λ l. l ++ drop m ts) (grown-targets t ps made source w ts n m g)
 
     -- there are m targets in all
     pub laid-total : total w 0 (suc n) ≡ m
     laid-total =
         ap (total w 0) (sym long)
         ∙ total-is ps w ts 0 (rooted ps) counts
-        ∙ arcs-counted ps k made
-        ∙ sym (grown-arcs ps k made source w ts n m g)
+        ∙ arcs-counted ps t made
+        ∙ sym (grown-arcs t ps made source w ts n m g)
 
-    arcs-to : (b : ℕ) → 1 ≤ b → b ≤ k → nodeHits w ts b 0 0 (suc n) ≡ flat (arcsTo ps b 0 (rooted ps))
+    arcs-to : (b : ℕ) → 1 ≤ b → b ≤ stationCount t → nodeHits w ts b 0 0 (suc n) ≡ flat (arcsTo ps b 0 (rooted ps))
     arcs-to b low high =
         ap (nodeHits w ts b 0 0) (sym long)
-        ∙ hits-nodes ps w ts b low (omega (arith, high, made .few)) 0 0 (rooted ps) (drop m ts) counts all-targets
+        ∙ hits-nodes ps w ts b low (omega (arith, high, stations-few t (made .timetable))) 0 0 (rooted ps) (drop m ts)
+        counts
+        all-targets
 
-    pub laid-arcs : hitsOf w ts n 1 (suc k) ≡ flat (arcs ps)
+    pub laid-arcs : hitsOf w ts n 1 (suc (stationCount t)) ≡ flat (arcs ps)
     unfolding hitsOf
     laid-arcs =
+        let k = stationCount t in
         let many : suc k - 1 ≡ k = omega arith in
         ap (λ c. concatMap (λ b. nodeHits w ts b 0 0 (suc n)) (range 1 c)) many
         ∙ concatMap-same
@@ -249,34 +258,34 @@ module _
         (range 1 k)
         (λ b i. (let r = range-out 1 k b i in arcs-to b (r .0) (omega (arith, r .1))))
         ∙ sym (flat-concat (λ b. arcsTo ps b 0 (rooted ps)) (range 1 k))
-        ∙ ap flat (arc-order ps k made)
+        ∙ ap flat (arc-order ps k (made .odd) (made .within))
 
-    entry-at : (j : ℕ) → j < length (nodes ps) → entryAt w (1 + j) ≡ entry (nodes ps) (getD (nodes ps) j [])
+    entry-at : (j : ℕ) → j < length (nodes ps) → entryAt t w (1 + j) ≡ nodeEntry (nodes ps) (getD (nodes ps) j [])
     unfolding rooted
     entry-at j h =
         let near : 1 + j ≡ suc j = omega arith in
-        let on : suc j ≤ n = omega (arith, grown-nodes ps k made source w ts n m g) in
+        let on : suc j ≤ n = omega (arith, grown-nodes t ps made source w ts n m g) in
         let inside : suc j < length (rooted ps) = omega (arith, long) in
-        ap (entryAt w) near
-        ∙ (λ i.
-        says-station ps k made source w ts n m (suc n) g (suc j) on i
-        ∷ says-parent ps k made source w ts n m (suc n) g (suc j) on i
-        ∷ [])
-        ∙ ap
-        (λ b. b ∷ place (front (nodeAt ps (suc j))) (rooted ps) ∷ [])
-        (last-of source (nodeAt ps (suc j)) (node-full ps j inside))
+        let stations =
+        says-slot t ps made source w ts n m (suc n) g (suc j) on ∙ last-is ps j inside source in
+        ap (entryAt t w) near
+        ∙ λ i.
+        stations i .alighted
+        ∷ stations i .boarded
+        ∷ says-parent t ps made source w ts n m (suc n) g (suc j) on i
+        ∷ []
 
-    pub laid-entries : entriesTo w 1 (suc n) ≡ flat (map (entry (nodes ps)) (nodes ps))
+    pub laid-entries : entriesTo t w 1 (suc n) ≡ flat (map (nodeEntry (nodes ps)) (nodes ps))
     unfolding entriesTo
     laid-entries =
-        let many : suc n - 1 ≡ length (nodes ps) = omega (arith, grown-nodes ps k made source w ts n m g) in
-        ap (λ c. concatMap (entryAt w) (range 1 c)) many
-        ∙ entries-flat (entryAt w) (entry (nodes ps)) 1 (nodes ps) entry-at
+        let many : suc n - 1 ≡ length (nodes ps) = omega (arith, grown-nodes t ps made source w ts n m g) in
+        ap (λ c. concatMap (entryAt t w) (range 1 c)) many
+        ∙ entries-flat (entryAt t w) (nodeEntry (nodes ps)) 1 (nodes ps) entry-at
 
-    pub laid-is : laid w ts n m k ≡ encode ps
+    pub laid-is : laid t w ts n m ≡ encode ps
     unfolding laid encode
     laid-is =
         λ i.
-        grown-nodes ps k made source w ts n m g i
-        ∷ grown-arcs ps k made source w ts n m g i
+        grown-nodes t ps made source w ts n m g i
+        ∷ grown-arcs t ps made source w ts n m g i
         ∷ (laid-entries i ++ laid-arcs i)

@@ -12,24 +12,24 @@ use Rattle.store_tree.specs.Tree.{arcsIn}
 use Rattle.store_tree.specs.Laid.{entryAt, entriesTo, arcWords, hitsTo, nodeHits, total, hitsOf}
 
 -- ---- the nodes
-module _ (w : List ℕ) where
-  pub entries-more : (v end : ℕ) → v < end → entriesTo w v end ≡ entryAt w v ++ entriesTo w (v + 1) end
+module _ (t w : List ℕ) where
+  pub entries-more : (v end : ℕ) → v < end → entriesTo t w v end ≡ entryAt t w v ++ entriesTo t w (v + 1) end
   unfolding entriesTo
-  entries-more v end h = ap (concatMap (entryAt w)) (range-more v end h)
+  entries-more v end h = ap (concatMap (entryAt t w)) (range-more v end h)
 
-  pub entries-none : (v end : ℕ) → end ≤ v → entriesTo w v end ≡ []
+  pub entries-none : (v end : ℕ) → end ≤ v → entriesTo t w v end ≡ []
   unfolding entriesTo
-  entries-none v end h = ap (concatMap (entryAt w)) (range-none v end h)
+  entries-none v end h = ap (concatMap (entryAt t w)) (range-none v end h)
 
-  long-entries : (v k : ℕ) → length (concatMap (entryAt w) (range v k)) ≡ 2 * k
+  long-entries : (v k : ℕ) → length (concatMap (entryAt t w) (range v k)) ≡ 3 * k
   long-entries v zero = refl
   long-entries v (suc k) = omega (arith, long-entries (suc v) k)
 
-  pub length-entries : (n : ℕ) → length (entriesTo w 1 (suc n)) ≡ 2 * n
+  pub length-entries : (n : ℕ) → length (entriesTo t w 1 (suc n)) ≡ 3 * n
   unfolding entriesTo
   length-entries n =
       let many : suc n - 1 ≡ n = omega arith in
-      ap (λ k. length (concatMap (entryAt w) (range 1 k))) many ∙ long-entries 1 n
+      ap (λ k. length (concatMap (entryAt t w) (range 1 k))) many ∙ long-entries 1 n
 
 -- ---- the arcs of a node
 module _ (target b v : ℕ) where

@@ -1,8 +1,8 @@
--- The stations that flags mark, rising: where the flags tell of a node which arcs or kids it has, they are its arcs or
--- kids.
+-- The stations that flags mark, rising, and the slots that flags mark, in their order: where the flags tell of a node
+-- which arcs or kids it has, they are its arcs or kids.
 use mathlib.Core.Path.{_≡_, refl, ap, subst, _∙_}
 use mathlib.Core.Bool.{Bool, true, false}
-use mathlib.Core.List.{List, [], _∷_, _++_, map, map-append}
+use mathlib.Core.List.{List, [], _∷_, _++_, map, map-append, List·Memᴰ·head as here, List·Memᴰ·tail as there}
 use Prim.Native.Nat.{ℕ, suc, _+_, _<_}
 use native.Mathlib.Nat.{add-zero}
 use native.Mathlib.Numerals.{add-one}
@@ -11,8 +11,9 @@ use borrow.Author.Tests.{eq-eqb, ne-eqb}
 use lib.Dec.{T, eqb}
 use lib.ListN.{length, getD, drop, length-map}
 use lib.Seq.{drop-cons}
-use Rattle.lists.specs.Lists.{keep, filter, range}
-use Rattle.store_tree.specs.Tree.{hasArc, hasKid, allStations, arcsOf, kidsOf, nodeWord, Flags}
+use Rattle.lists.specs.Lists.{_∈_, keep, filter, range}
+use Rattle.store_slots.specs.Slots.{transferAt, slots}
+use Rattle.store_tree.specs.Tree.{hasArc, hasKid, allStations, arcsOf, kidsOf, nodeWord, Flags, KidFlags}
 
 -- station b, if its flag is 1
 unfoldable pub marked : (flag b : ℕ) → List ℕ
@@ -26,7 +27,12 @@ marksFrom b (x ∷ l) = marked x b ++ marksFrom (suc b) l
 abbrev pub marks : List ℕ → List ℕ
 marks flags = marksFrom 1 flags
 
--- the words of the kids of v that end with these stations
+-- of the slots of a list those that are marked
+unfoldable pub slotMarks : (flags : List ℕ) → List ℕ → List ℕ
+slotMarks flags [] = []
+slotMarks flags (s ∷ l) = marked (getD flags s 0) s ++ slotMarks flags l
+
+-- the words of the kids of v that end with the changes of these slots
 unfoldable pub kidWords : (v : ℕ) → List ℕ → List ℕ
 kidWords v bs = map (λ b. nodeWord b v 0) bs
 
@@ -54,6 +60,15 @@ pub marks-more : (flags : List ℕ) (j : ℕ) → j < length flags
     → marksFrom (j + 1) (drop j flags) ≡ marked (getD flags j 0) (j + 1) ++ marksFrom (j + 1 + 1) (drop (j + 1) flags)
 unfolding marksFrom
 marks-more flags j h = rw (drop-cons flags j 0 h, add-one (j + 1), add-one j)
+
+pub slots-none : (flags : List ℕ) → slotMarks flags [] ≡ []
+unfolding slotMarks
+slots-none flags = refl
+
+pub slots-more : (flags l : List ℕ) (j : ℕ) → j < length l
+    → slotMarks flags (drop j l) ≡ marked (getD flags (getD l j 0) 0) (getD l j 0) ++ slotMarks flags (drop (j + 1) l)
+unfolding slotMarks
+slots-more flags l j h = rw (drop-cons l j 0 h, add-one j)
 
 pub marked-yes : (flag b : ℕ) → flag ≡ 1 → marked flag b ≡ b ∷ []
 unfolding marked
@@ -95,6 +110,27 @@ pub marks-arcs : (ps : List (List ℕ)) (s flags : List ℕ) → Flags (hasArc p
 unfolding arcsOf
 marks-arcs ps s flags f = flags-marks (hasArc ps s) flags f
 
-pub marks-kids : (ps : List (List ℕ)) (s flags : List ℕ) → Flags (hasKid ps s) flags → marks flags ≡ kidsOf ps s
+-- ---- slots
+slots-are : (flags : List ℕ) (test : ℕ → Bool) (l : List ℕ)
+    → ((s : ℕ) → s ∈ l → eqb (getD flags s 0) 1 ≡ test s) → slotMarks flags l ≡ filter test l
+unfolding slotMarks marked
+slots-are flags test [] h = refl
+slots-are flags test (s ∷ l) h =
+    go (eqb (getD flags s 0) 1) (h s (here refl)) (slots-are flags test l (λ u m. h u (there m)))
+  where
+    go : (t : Bool) → t ≡ test s → slotMarks flags l ≡ filter test l
+        → keep t s [] ++ slotMarks flags l ≡ keep (test s) s (filter test l)
+    go true e ih = rw (← e) (ap (λ m. s ∷ m) ih)
+    go false e ih = rw (← e) ih
+
+pub marks-kids : (w : List ℕ) (ps : List (List ℕ)) (s flags : List ℕ) → KidFlags w (hasKid ps s) flags
+    → slotMarks flags (slots w) ≡ kidsOf w ps s
 unfolding kidsOf
-marks-kids ps s flags f = flags-marks (hasKid ps s) flags f
+marks-kids w ps s flags f = slots-are flags (λ k. hasKid ps s (transferAt w k)) (slots w) flag-is
+  where
+    flag-is : (k : ℕ) → k ∈ slots w → eqb (getD flags k 0) 1 ≡ hasKid ps s (transferAt w k)
+    flag-is k m = go (hasKid ps s (transferAt w k)) refl
+      where
+        go : (t : Bool) → hasKid ps s (transferAt w k) ≡ t → eqb (getD flags k 0) 1 ≡ t
+        go true e = eq-eqb (getD flags k 0) 1 (f .up k m (rw e tt))
+        go false e = ne-eqb (getD flags k 0) 1 (λ h. subst T e (f .down k m h))

@@ -1,52 +1,58 @@
 // A pattern store in the making: its nodes are numbered breadth first, their arcs counted and listed, and then written.
 ghost use mathlib.Core.Path.{_≡_};
+ghost use mathlib.Core.Bool.{true};
 ghost use mathlib.Core.List.{List};
 ghost use Prim.Native.Nat.{ℕ, suc, _+_, _*_, _≤_, _<_};
-ghost use lib.ListN.{length};
+ghost use lib.ListN.{length, getD};
 ghost use Rattle.words.specs.Put.{put};
+ghost use Rattle.lists.specs.Lists.{_∈_};
+ghost use Rattle.timetable.specs.Words.{stationCount, isTimetable};
 ghost use Rattle.stores.specs.Words.{encode};
-ghost use Rattle.store_tree.specs.Tree.{Made, Grown, nodeWord, stationIn, parentIn, arcsIn};
-ghost use Rattle.store_tree.specs.Marks.{marked, marks, kidWords};
+ghost use Rattle.store_slots.specs.Slots.{slots};
+ghost use Rattle.store_tree.specs.Tree.{Made, Grown, nodeWord, slotIn, parentIn, arcsIn};
+ghost use Rattle.store_tree.specs.Marks.{marked, marks, slotMarks, kidWords};
 ghost use Rattle.store_tree.specs.Laid.{arcWords, hitsTo, nodeHits, total, hitsOf, entriesTo};
 ghost use Rattle.store_tree.specs.Taking.{Next, Takes, Taken, Whole};
 
 // The most nodes, and the most arcs, of a store.
 const ENTRIES_MOST: usize = stores::ENTRIES_MOST;
 
-// The word of a node that has not been taken: its station and its parent's number.
-pub fn node_word(station: u32, parent: u32) -> u32
-    requires { ⌜ (station ≤ 64) × (parent < 16384) ⌝ }
-    ensures { λ r. ⌜ r ≡ nodeWord station parent 0 ⌝ }
+// The word of a node that has not been taken: the slot of its change and its parent's number.
+pub fn node_word(slot: u32, parent: u32) -> u32
+    requires { ⌜ (slot < 512) × (parent < 16384) ⌝ }
+    ensures { λ r. ⌜ r ≡ nodeWord slot parent 0 ⌝ }
 {
-    station + 128 * parent
+    slot + 512 * parent
 }
 
-pub fn node_station(x: u32) -> u32
-    ensures { λ r. ⌜ (r ≡ stationIn x) × (r < 128) ⌝ }
+pub fn node_slot(x: u32) -> u32
+    ensures { λ r. ⌜ (r ≡ slotIn x) × (r < 512) ⌝ }
 {
-    x % 128
+    x % 512
 }
 
 pub fn node_parent(x: u32) -> u32
     ensures { λ r. ⌜ (r ≡ parentIn x) × (r < 16384) ⌝ }
 {
-    x / 128 % 16384
+    x / 512 % 16384
 }
 
 pub fn node_arcs(x: u32) -> u32
-    ensures { λ r. ⌜ (r ≡ arcsIn x) × (r < 2048) ⌝ }
+    ensures { λ r. ⌜ (r ≡ arcsIn x) × (r < 512) ⌝ }
 {
-    x / 2097152
+    x / 8388608
 }
 
-// The tree begins with its root, of which the source is the station; no node has been taken.
+// The tree begins with its root, the slot of which is that of a change at the source; no node has been taken.
 pub fn plant_root(work: &mut [u32], source: u32)
-    requires { ⌜ (length (now work) ≡ 16384) × (source ≤ 64) ⌝ }
-    ensures { λ _. ⌜ ((ps : List (List ℕ)) (targets : List ℕ)
+    requires { ⌜ (length (now work) ≡ 16384) × (1 ≤ source) ⌝ }
+    ensures { λ _. ⌜ ((words : List ℕ) (ps : List (List ℕ)) (targets : List ℕ)
+        → isTimetable words ≡ true
+        → source ≤ stationCount words
         → length targets ≡ 16384
-        → Grown ps source (now (work .exit)) targets 0 0 0) ⌝ }
+        → Grown words ps source (now (work .exit)) targets 0 0 0) ⌝ }
 {
-    work[0] = source;
+    work[0] = source - 1;
 }
 
 // How many nodes and arcs there are once a node was taken, if they fit a store.
@@ -58,7 +64,7 @@ pub struct Counts {
 
 // One more, if the flag is 1.
 fn counted(count: usize, flag: u8) -> usize
-    requires { ⌜ count < 64 ⌝ }
+    requires { ⌜ count < 320 ⌝ }
     ensures { λ r. ⌜ (r ≡ count + length (marked flag 0)) × (r ≤ count + 1) ⌝ }
 {
     if flag == 1 {
@@ -76,6 +82,22 @@ fn mark_count(flags: &[u8]) -> usize
     let mut j = 0;
     while j < 64 {
         count = counted(count, flags[j]);
+        j += 1;
+    }
+    count
+}
+
+// How many of the slots that are listed the flags mark.
+fn slot_count(flags: &[u8], list: &[u16]) -> usize
+    requires { ⌜ (length (now flags) ≡ 320)
+        × ((j : ℕ) → j < length (now list) → getD (now list) j 0 < 320)
+        × (length (now list) ≤ 320) ⌝ }
+    ensures { λ r. ⌜ (r ≡ length (slotMarks (now (flags .entry)) (now (list .entry)))) × (r ≤ 320) ⌝ }
+{
+    let mut count = 0;
+    let mut j = 0;
+    while j < list.len() {
+        count = counted(count, flags[list[j] as usize]);
         j += 1;
     }
     count
@@ -109,36 +131,42 @@ fn put_targets(targets: &mut [u8], m: usize, arcs: &[u8])
     }
 }
 
-// The word of the kid of v that ends with b, at index n, if its flag is 1. Returns the index after it.
-fn put_kid(work: &mut [u32], n: usize, flag: u8, b: u32, v: u32) -> usize
-    requires { ⌜ (b ≤ 64) × (v < 16384) × (n + length (marked flag b) ≤ length (now work)) ⌝ }
-    ensures { λ _. ⌜ now (work .exit) ≡ put n (kidWords v (marked flag b)) (now (work .entry)) ⌝ }
+// The word of the kid of v that ends with the change of a slot, at index n, if its flag is 1. Returns the index after
+// it.
+fn put_kid(work: &mut [u32], n: usize, flag: u8, slot: u32, v: u32) -> usize
+    requires { ⌜ (slot < 320) × (v < 16384) × (n + length (marked flag slot) ≤ length (now work)) ⌝ }
+    ensures { λ _. ⌜ now (work .exit) ≡ put n (kidWords v (marked flag slot)) (now (work .entry)) ⌝ }
     ensures { λ _. ⌜ length (now (work .exit)) ≡ length (now (work .entry)) ⌝ }
-    ensures { λ r. ⌜ r ≡ n + length (marked flag b) ⌝ }
+    ensures { λ r. ⌜ r ≡ n + length (marked flag slot) ⌝ }
 {
     if flag == 1 {
-        work[n] = node_word(b, v);
+        work[n] = node_word(slot, v);
         return n + 1;
     }
     n
 }
 
-// The words of the kids of v that are marked, from index n on.
-fn put_kids(work: &mut [u32], n: usize, v: u32, kids: &[u8])
-    requires { ⌜ (length (now kids) ≡ 64) × (v < 16384) × (n + length (marks (now kids)) ≤ length (now work)) ⌝ }
-    ensures { λ _. ⌜ now (work .exit) ≡ put n (kidWords v (marks (now (kids .entry)))) (now (work .entry)) ⌝ }
+// The words of the kids of v the slots of which are marked, in the order of the list, from index n on.
+fn put_kids(work: &mut [u32], n: usize, v: u32, kids: &[u8], list: &[u16])
+    requires { ⌜ (length (now kids) ≡ 320)
+        × ((j : ℕ) → j < length (now list) → getD (now list) j 0 < 320)
+        × (v < 16384)
+        × (n + length (slotMarks (now kids) (now list)) ≤ length (now work)) ⌝ }
+    ensures { λ _. ⌜ now (work .exit)
+        ≡ put n (kidWords v (slotMarks (now (kids .entry)) (now (list .entry)))) (now (work .entry)) ⌝ }
     ensures { λ _. ⌜ length (now (work .exit)) ≡ length (now (work .entry)) ⌝ }
 {
     let mut here = n;
     let mut j = 0;
-    while j < 64 {
-        here = put_kid(work, here, kids[j], (j + 1) as u32, v);
+    while j < list.len() {
+        let slot = list[j] as usize;
+        here = put_kid(work, here, kids[slot], slot as u32, v);
         j += 1;
     }
 }
 
-// Takes node v: its kids get the next words, the targets of its arcs are listed, and its own word counts them. Where
-// they do not fit, no store of these sequences does.
+// Takes node v: its kids get the next words, the targets of its arcs are listed, and its own word counts them. The list
+// is that of all slots. Where they do not fit, no store of these sequences does.
 pub fn take_node(
     work: &mut [u32],
     targets: &mut [u8],
@@ -147,23 +175,26 @@ pub fn take_node(
     m: usize,
     arcs: &[u8],
     kids: &[u8],
+    list: &[u16],
 ) -> Counts
-    requires { ⌜ Takes (now work) (now targets) n m v (now arcs) (now kids) ⌝ }
-    ensures { λ r. ⌜ ((ps : List (List ℕ)) (source : ℕ)
-        → Next ps source (now (work .entry)) (now (targets .entry)) n m v (now (arcs .entry)) (now (kids .entry))
-        → Taken ps source (now (work .exit)) (now (targets .exit)) v r) ⌝ }
+    requires { ⌜ Takes (now list) (now work) (now targets) n m v (now arcs) (now kids) ⌝ }
+    ensures { λ r. ⌜ ((words : List ℕ) (ps : List (List ℕ)) (source : ℕ)
+        → now (list .entry) ≡ slots words
+        → Next words ps source (now (work .entry)) (now (targets .entry)) n m v (now (arcs .entry))
+        (now (kids .entry))
+        → Taken words ps source (now (work .exit)) (now (targets .exit)) v r) ⌝ }
 {
     let ends = mark_count(arcs);
-    let young = mark_count(kids);
+    let young = slot_count(kids, list);
     if ENTRIES_MOST < n + young {
         return Counts { n, m, fits: false };
     }
     if ENTRIES_MOST < m + ends {
         return Counts { n, m, fits: false };
     }
-    put_kids(work, n + 1, v as u32, kids);
+    put_kids(work, n + 1, v as u32, kids, list);
     put_targets(targets, m, arcs);
-    work[v] = work[v] + 2097152 * (ends as u32);
+    work[v] = work[v] + 8388608 * (ends as u32);
     Counts {
         n: n + young,
         m: m + ends,
@@ -171,16 +202,29 @@ pub fn take_node(
     }
 }
 
-// Station and parent of each node from 1 to n.
-fn write_nodes(work: &[u32], n: usize, store: &mut [u16])
-    requires { ⌜ (n < length (now work)) × (n ≤ 16383) × (2 + 2 * n ≤ length (now store)) ⌝ }
-    ensures { λ _. ⌜ now (store .exit) ≡ put 2 (entriesTo (now (work .entry)) 1 (suc n)) (now (store .entry)) ⌝ }
+// The stations alighted and boarded at and the parent of each node from 1 to n.
+fn write_nodes(words: &[u16], work: &[u32], n: usize, store: &mut [u16])
+    requires { ⌜ (16384 ≤ length (now words))
+        × (isTimetable (now words) ≡ true)
+        × ((v : ℕ) → v ≤ n → slotIn (getD (now work) v 0) ∈ slots (now words))
+        × (n < length (now work))
+        × (n ≤ 16383)
+        × (2 + 3 * n ≤ length (now store)) ⌝ }
+    ensures { λ _. ⌜ now (store .exit)
+        ≡ put 2 (entriesTo (now (words .entry)) (now (work .entry)) 1 (suc n)) (now (store .entry)) ⌝ }
     ensures { λ _. ⌜ length (now (store .exit)) ≡ length (now (store .entry)) ⌝ }
 {
     let mut v = 1;
     while v < n + 1 {
         let x = work[v];
-        words::put_two(store, 2 * v, node_station(x), node_parent(x));
+        let change = store_slots::transfer_at(words, node_slot(x) as usize);
+        words::put_three(
+            store,
+            3 * v - 1,
+            change.alighted,
+            change.boarded,
+            node_parent(x),
+        );
         v += 1;
     }
 }
@@ -282,21 +326,24 @@ fn write_arcs(work: &[u32], targets: &[u8], n: usize, stations: usize, store: &m
 // Writes the store of a tree all nodes of which have been taken: n and m, the nodes, and the arcs, which rise by target
 // and then predecessor.
 pub fn write_store(
+    words: &[u16],
     work: &[u32],
     targets: &[u8],
     n: usize,
     m: usize,
-    stations: usize,
     store: &mut [u16],
 )
-    requires { ⌜ Whole stations (now work) (now targets) n m × (2 + 2 * n + 2 * m ≤ length (now store)) ⌝ }
+    requires { ⌜ (16384 ≤ length (now words))
+        × Whole (now words) (now work) (now targets) n m
+        × (2 + 3 * n + 2 * m ≤ length (now store)) ⌝ }
     ensures { λ _. ⌜ ((ps : List (List ℕ)) (source : ℕ)
-        → Made stations ps
-        → Grown ps source (now (work .entry)) (now (targets .entry)) n m (suc n)
+        → Made (now (words .entry)) ps
+        → Grown (now (words .entry)) ps source (now (work .entry)) (now (targets .entry)) n m (suc n)
         → now (store .exit) ≡ put 0 (encode ps) (now (store .entry))) ⌝ }
     ensures { λ _. ⌜ length (now (store .exit)) ≡ length (now (store .entry)) ⌝ }
 {
+    let stations = words::word(words, 0) as usize;
     words::put_two(store, 0, n as u32, m as u32);
-    write_nodes(work, n, store);
-    write_arcs(work, targets, n, stations, store, 2 + 2 * n);
+    write_nodes(words, work, n, store);
+    write_arcs(work, targets, n, stations, store, 2 + 3 * n);
 }

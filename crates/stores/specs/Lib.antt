@@ -7,3 +7,4 @@ pub mod RoundTrip
 pub mod WellMade
 pub mod StoredLaws
 pub mod KeptLaws
+pub mod WithoutWalks

@@ -1,5 +1,5 @@
 -- The prefix nodes of a set of sequences: the beginnings, shorter ones first. So what a node is without its last
--- station stands before it, and a parent's number is below the node's own.
+-- change stands before it, and a parent's number is below the node's own.
 use mathlib.Core.Path.{_≡_, refl, sym, ap, subst, _∙_}
 use mathlib.Core.Logic.{inl, inr, _≢_}
 use mathlib.Core.List.{List, [], _∷_, _++_, map, List·Memᴰ·head as here, List·Memᴰ·tail as there, Memᴰ·append-right}
@@ -12,7 +12,8 @@ use Rattle.lists.specs.Members.{cons-cases, append-cases, concatMap-in, concatM
 use Rattle.lists.specs.Order.{before-cases, before-same}
 use Rattle.lists.specs.Sorting.{Inside, rising-unique, sort-in, sort-out, sort-rising}
 use Rattle.stores.specs.Words.{beginnings, front, keyed, nodes}
-use Rattle.stores.specs.Sequences.{front-shorter, begin-nonempty, begin-front, begin-closed}
+use Rattle.stores.specs.Sequences.{Odd, Even, before-shorter, begin-nonempty, begin-even, begin-front}
+use Rattle.stores.specs.Sequences.{begin-closed}
 
 -- in order of length
 abbrev pub Sized : List (List ℕ) → Type 0
@@ -41,7 +42,8 @@ sized-rising (z ∷ k) r h = (first, sized-rising k (r .1) (λ y m. h y (there m
 -- what reading asks of a list of nodes
 pub record Nodes (ns : List (List ℕ)) : Type 0 where
   pub nonempty : (q : List ℕ) → q ∈ ns → q ≢ []
-  pub closed : (q : List ℕ) → q ∈ ns → front q ∈ [] ∷ ns
+  pub even : (q : List ℕ) → q ∈ ns → Even q
+  pub closed : (q : List ℕ) → q ∈ ns → front (front q) ∈ [] ∷ ns
   pub sized : Sized ns
 
 module _ (ns : List (List ℕ)) (n : Nodes ns) (pre : List (List ℕ)) (q : List ℕ) (suf : List (List ℕ)) where
@@ -49,24 +51,20 @@ module _ (ns : List (List ℕ)) (n : Nodes ns) (pre : List (List ℕ)) (q : List
   node-at e = subst (λ l. q ∈ l) e (Memᴰ·append-right pre (here refl))
 
   -- a node's parent stands before it, since it is shorter
-  pub front-before : pre ++ q ∷ suf ≡ ns → front q ∈ [] ∷ pre
+  pub front-before : pre ++ q ∷ suf ≡ ns → front (front q) ∈ [] ∷ pre
   front-before e = cons-cases (n .closed q (node-at e)) here listed
     where
-      shorter : (q : List ℕ) → q ≢ [] → length (front q) < length q
-      shorter [] h = absurd (h refl)
-      shorter (x ∷ q) h = omega (arith, front-shorter x q)
+      less : length (front (front q)) < length q
+      less = before-shorter q (n .nonempty q (node-at e))
 
-      less : length (front q) < length q
-      less = shorter q (n .nonempty q (node-at e))
-
-      not-behind : front q ∈ q ∷ suf → front q ∈ [] ∷ pre
+      not-behind : front (front q) ∈ q ∷ suf → front (front q) ∈ [] ∷ pre
       not-behind m =
           cons-cases
           m
           (λ h. absurd (omega (arith, ap length h, less)))
-          (λ h. absurd (omega (arith, less, sized-after pre q suf (rw e (n .sized)) (front q) h)))
+          (λ h. absurd (omega (arith, less, sized-after pre q suf (rw e (n .sized)) (front (front q)) h)))
 
-      listed : front q ∈ ns → front q ∈ [] ∷ pre
+      listed : front (front q) ∈ ns → front (front q) ∈ [] ∷ pre
       listed m = append-cases pre (rw (← e) at m) there not-behind
 
 module _ (ps : List (List ℕ)) where
@@ -92,9 +90,8 @@ module _ (ps : List (List ℕ)) where
   known q p m h = cons-cases h here (λ k. there (node-in q (concatMap-in beginnings m k)))
 
   -- the predecessor of a stored sequence
-  pub front-known : (p : List ℕ) → p ∈ ps → p ≢ [] → front p ∈ [] ∷ nodes ps
-  front-known [] m h = absurd (h refl)
-  front-known (x ∷ p) m h = known (front (x ∷ p)) (x ∷ p) m (begin-front x p)
+  pub front-known : (p : List ℕ) → p ∈ ps → Odd p → front p ∈ [] ∷ nodes ps
+  front-known p m o = known (front p) p m (begin-front p o)
 
   nodes-sized : Sized (nodes ps)
   unfolding nodes
@@ -105,15 +102,18 @@ module _ (ps : List (List ℕ)) where
       (λ z m. let k = key-out z m in sym (k .2) ∙ ap (λ v. keyed (tail v)) (k .2))
 
   pub nodes-made : Nodes (nodes ps)
-  nodes-made = record { nonempty = nonempty; closed = closed; sized = nodes-sized }
+  nodes-made = record { nonempty = nonempty; even = even; closed = closed; sized = nodes-sized }
     where
       nonempty : (q : List ℕ) → q ∈ nodes ps → q ≢ []
       nonempty q m = let r = concatMap-out beginnings ps (node-out q m) in begin-nonempty q (r .0) (r .2)
 
-      closed : (q : List ℕ) → q ∈ nodes ps → front q ∈ [] ∷ nodes ps
+      even : (q : List ℕ) → q ∈ nodes ps → Even q
+      even q m = let r = concatMap-out beginnings ps (node-out q m) in begin-even q (r .0) (r .2)
+
+      closed : (q : List ℕ) → q ∈ nodes ps → front (front q) ∈ [] ∷ nodes ps
       closed q m =
           let r = concatMap-out beginnings ps (node-out q m) in
-          known (front q) (r .0) (r .1) (begin-closed q (r .0) (r .2))
+          known (front (front q)) (r .0) (r .1) (begin-closed q (r .0) (r .2))
 
   tail-keyed : (l : List (List ℕ)) → map tail (map keyed l) ≡ l
   tail-keyed [] = refl

@@ -4,11 +4,11 @@ use mathlib.Core.Path.{_≡_, sym, ap, subst, _∙_}
 use mathlib.Core.Bool.{not}
 use mathlib.Core.Logic.{_≢_, _↔_}
 use mathlib.Core.List.{List, [], _∷_, _++_, map, Memᴰ·map, Memᴰ·of-map, Memᴰ·cast}
-use Prim.Native.Nat.{ℕ, suc, _≤_}
+use Prim.Native.Nat.{ℕ, suc, _*_, _≤_}
 use native.Mathlib.Omega.{arith}
 use lib.Dec.{T, eqb, eqb→eq, T-not, not-T}
 use lib.ListN.{length}
-use Rattle.timetable.specs.Timetable.{lastMinute, stationsMost}
+use Rattle.timetable.specs.Timetable.{lastMinute}
 use Rattle.lists.specs.Lists.{_∈_, concatMap, range, tail}
 use Rattle.lists.specs.Tests.{eq→eqb}
 use Rattle.lists.specs.Members.{filter-in, filter-out, concatMap-in, concatMap-out, range-in, range-out}
@@ -16,15 +16,15 @@ use Rattle.lists.specs.Pigeonhole.{Within}
 use Rattle.lists.specs.Sorting.{sort-in, sort-out}
 use Rattle.results.specs.Results.{undominated}
 use Rattle.results.specs.Picks.{undominated-in, undominated-out}
-use Rattle.connections.specs.Connections.{Net, Connection, Optimal}
-use Rattle.connections.specs.Connections.{stations}
+use Rattle.connections.specs.Connections.{Net, Connection, direct, onward, Optimal, stations}
 use Rattle.connections.specs.Planner.{plannerList, measure}
 use Rattle.connections.specs.Sound.{Sound}
-use Rattle.connections.specs.Feasibility.{has-stations, stations-listed}
+use Rattle.connections.specs.Feasibility.{stations-listed}
 use Rattle.connections.specs.Listed.{optimal-in, optimal-out}
 use Rattle.connections.specs.OptimalLaws.{pattern-short}
 use Rattle.stores.specs.Stored.{minutes, targets, optimals, optimalStations, stored, Target, Sequence}
-use Rattle.stores.specs.Words.{nodes, arcs, entriesMost, readable, storeWords, wellMade}
+use Rattle.stores.specs.Words.{nodes, arcs, ridesMost, entriesMost, readable, storeWords, wellMade}
+use Rattle.stores.specs.Sequences.{Odd, odd-full}
 use Rattle.stores.specs.RoundTrip.{read-back}
 use Rattle.stores.specs.WellMade.{well-made}
 
@@ -40,6 +40,11 @@ target-out n a b m =
     let r = filter-out (λ b. not (eqb b a)) (range 1 (n .stations)) m in
     let h = range-out 1 (n .stations) b (r .0) in
     record { first = omega arith; last = omega arith; other = λ e. T-not (eqb b a) (r .1) (eq→eqb b a e) }
+
+-- two stations for each change, and then the target
+stations-odd : (c : Connection) → Odd (stations c)
+stations-odd (direct r) = tt
+stations-odd (onward r w c) = stations-odd c
 
 module _ (n : Net) (ok : Sound n) where
   optimals-in : (a t b : ℕ) (c : Connection) → Optimal n a t b c → c ∈ optimals n a t b
@@ -130,15 +135,20 @@ module _ (n : Net) (ok : Sound n) where
             is = sequence-is a q s;
           }
 
+  pub stored-odd : (a : ℕ) (q : List ℕ) → q ∈ stored n a → Odd q
+  stored-odd a q m =
+      let s = stored-out a q m in
+      subst Odd (sequence-is a q s) (stations-odd (s .connection))
+
   pub stored-full : (a : ℕ) (q : List ℕ) → q ∈ stored n a → q ≢ []
-  stored-full a q m e = let s = stored-out a q m in has-stations (s .connection) (sequence-is a q s ∙ e)
+  stored-full a q m = odd-full q (stored-odd a q m)
 
   -- theorem 4 for the store of a source
   pub store-read : (a : ℕ) (post q : List ℕ) → q ∈ readable (storeWords n a ++ post) ↔ q ∈ stored n a
   unfolding storeWords
-  store-read a post q = read-back (stored n a) (stored-full a) post q
+  store-read a post q = read-back (stored n a) (stored-odd a) post q
 
-  module _ (a : ℕ) (first : 1 ≤ a) (last : a ≤ n .stations) where
+  module _ (a : ℕ) where
     stored-within : (q : List ℕ) → q ∈ stored n a → Within (n .stations) q
     stored-within q m =
         let s = stored-out a q m in
@@ -147,17 +157,16 @@ module _ (n : Net) (ok : Sound n) where
         (sequence-is a q s)
         (stations-listed n ok a (s .minute) (s .target) (s .connection) (s .optimal .feasible))
 
-    -- "no pattern above 64 stations"
-    pub stored-short : (q : List ℕ) → q ∈ stored n a → suc (length q) ≤ stationsMost
+    -- "a pattern has at most 64 rides"
+    pub stored-short : (q : List ℕ) → q ∈ stored n a → suc (length q) ≤ 2 * ridesMost
     stored-short q m =
         let s = stored-out a q m in
-        let other : a ≢ s .target = (λ e. s .elsewhere .other (sym e)) in
         subst
-        (λ q. suc (length q) ≤ stationsMost)
+        (λ q. suc (length q) ≤ 2 * ridesMost)
         (sequence-is a q s)
-        (pattern-short n ok a (s .minute) (s .target) (s .connection) (s .optimal) other first last)
+        (pattern-short n ok a (s .minute) (s .target) (s .connection) (s .optimal))
 
     pub store-well-made : (post : List ℕ) → length (nodes (stored n a)) ≤ entriesMost
         → length (arcs (stored n a)) ≤ entriesMost → T (wellMade (n .stations) (storeWords n a ++ post))
     unfolding storeWords
-    store-well-made = well-made (n .stations) (stored n a) (stored-full a) stored-within stored-short
+    store-well-made = well-made (n .stations) (stored n a) (stored-odd a) stored-within stored-short

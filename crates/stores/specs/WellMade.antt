@@ -1,21 +1,21 @@
--- Theorem 4, second half: the words of sequences of listed stations, none above 64 with its source, are well made where
--- n and m are at most 16,383. Each parent is below its node by the order of the nodes.
+-- Theorem 4, second half: the words of sequences of listed stations, none of more than 64 rides, are well made where n
+-- and m are at most 16,383. Each parent is below its node by the order of the nodes.
 use mathlib.Core.Path.{_≡_, refl, subst, _∙_}
 use mathlib.Core.Bool.{not}
-use mathlib.Core.Logic.{_≢_}
 use mathlib.Core.List.{List, [], _∷_, _++_, map, append-assoc, List·Memᴰ·head as here, List·Memᴰ·tail as there}
 use Prim.Native.Nat.{ℕ, suc, _+_, _*_, _≤_, _<_}
 use native.Mathlib.Omega.{arith}
 use lib.Dec.{T, ltb→lt, not-T}
 use lib.ListN.{length, getD, length-append}
-use Rattle.timetable.specs.Timetable.{stationsMost}
 use Rattle.lists.specs.Lists.{_∈_, any, before, Rising}
 use Rattle.lists.specs.Tests.{T-both, writes}
 use Rattle.lists.specs.Members.{any-out, concatMap-out}
 use Rattle.lists.specs.Pigeonhole.{Within}
-use Rattle.stores.specs.Words.{beginnings, front, final, nodes, place, entry, arcs, encode, nodePairs, arcPairs}
-use Rattle.stores.specs.Words.{readable, nodesMade, arcsMade, arcsRise, long, entriesMost, wellMade}
-use Rattle.stores.specs.Sequences.{begin-within, final-within, place-append, place-bound}
+use Rattle.stores.specs.Words.{beginnings, front, final, nodes, place, nodeEntry, arcs, encode, nodeThrees}
+use Rattle.stores.specs.Words.{arcPairs, readable, nodesMade, arcsMade, arcsRise, ridesMost, long, entriesMost}
+use Rattle.stores.specs.Words.{wellMade}
+use Rattle.stores.specs.Sequences.{Odd, odd-full, begin-within, final-within, alighted-within, place-append}
+use Rattle.stores.specs.Sequences.{place-bound}
 use Rattle.stores.specs.Nodes.{nodes-made, node-at, node-out, front-before, front-known}
 use Rattle.stores.specs.RoundTrip.{node-words, arc-words, arc-out, arcs-rising, encode-length, read-back}
 
@@ -24,7 +24,7 @@ arcs-rise [] h = tt
 arcs-rise (x ∷ []) h = tt
 arcs-rise (x ∷ y ∷ l) h = T-both (before x y) (arcsRise (y ∷ l)) (h .0 y (here refl)) (arcs-rise (y ∷ l) (h .1))
 
-module _ (k : ℕ) (ps : List (List ℕ)) (full : (p : List ℕ) → p ∈ ps → p ≢ []) where
+module _ (k : ℕ) (ps : List (List ℕ)) (odd : (p : List ℕ) → p ∈ ps → Odd p) where
   module _ (within : (p : List ℕ) → p ∈ ps → Within k p) where
     node-within : (q : List ℕ) → q ∈ nodes ps → Within k q
     node-within q m =
@@ -33,32 +33,37 @@ module _ (k : ℕ) (ps : List (List ℕ)) (full : (p : List ℕ) → p ∈ ps �
 
     -- the nodes after those of `pre`
     nodes-good : (pre suf : List (List ℕ)) → pre ++ suf ≡ nodes ps
-        → T (nodesMade k (suc (length pre)) (map (entry (nodes ps)) suf))
+        → T (nodesMade k (suc (length pre)) (map (nodeEntry (nodes ps)) suf))
     nodes-good pre [] e = tt
     nodes-good pre (q ∷ suf) e = go (nodes-good (pre ++ (q ∷ [])) suf (append-assoc pre (q ∷ []) suf ∙ e))
       where
         q-node : q ∈ nodes ps
         q-node = node-at (nodes ps) (nodes-made ps) pre q suf e
 
-        listed : (1 ≤ final q) × (final q ≤ k)
-        listed = final-within k q (nodes-made ps .nonempty q q-node) (node-within q q-node)
+        boarded : (1 ≤ final q) × (final q ≤ k)
+        boarded = final-within k q (nodes-made ps .nonempty q q-node) (node-within q q-node)
 
-        parent : place (front q) ([] ∷ nodes ps) < suc (length pre)
+        alighted : (1 ≤ final (front q)) × (final (front q) ≤ k)
+        alighted =
+            alighted-within k q (nodes-made ps .nonempty q q-node) (nodes-made ps .even q q-node) (node-within q q-node)
+
+        parent : place (front (front q)) ([] ∷ nodes ps) < suc (length pre)
         parent =
             let m = front-before (nodes ps) (nodes-made ps) pre q suf e in
+            let before = front (front q) in
             subst
-            (λ l. place (front q) ([] ∷ l) < suc (length pre))
+            (λ l. place before ([] ∷ l) < suc (length pre))
             e
-            (rw (place-append (front q) ([] ∷ pre) (q ∷ suf) m) (place-bound (front q) ([] ∷ pre) m))
+            (rw (place-append before ([] ∷ pre) (q ∷ suf) m) (place-bound before ([] ∷ pre) m))
 
         one-more : length (pre ++ (q ∷ [])) ≡ suc (length pre)
         one-more = omega (arith, length-append pre (q ∷ []))
 
-        go : T (nodesMade k (suc (length (pre ++ (q ∷ [])))) (map (entry (nodes ps)) suf))
-            → T (nodesMade k (suc (length pre)) (map (entry (nodes ps)) (q ∷ suf)))
+        go : T (nodesMade k (suc (length (pre ++ (q ∷ [])))) (map (nodeEntry (nodes ps)) suf))
+            → T (nodesMade k (suc (length pre)) (map (nodeEntry (nodes ps)) (q ∷ suf)))
         go rest =
-            let a = listed .0 in
-            let b = listed .1 in
+            let a = alighted in
+            let b = boarded in
             let c = parent in
             let d = rw one-more at rest in
             search writes
@@ -79,11 +84,11 @@ module _ (k : ℕ) (ps : List (List ℕ)) (full : (p : List ℕ) → p ∈ ps �
     arc-fits z m =
         let r = arc-out ps z m in
         let p = r .0 in
-        let listed = final-within k p (full p (r .1)) (within p (r .1)) in
-        let known = place-bound (front p) ([] ∷ nodes ps) (front-known ps p (r .1) (full p (r .1))) in
+        let listed = final-within k p (odd-full p (odd p (r .1))) (within p (r .1)) in
+        let known = place-bound (front p) ([] ∷ nodes ps) (front-known ps p (r .1) (odd p (r .1))) in
         subst Fits (r .2) (record { first = listed .0; last = listed .1; known = omega arith })
 
-    module _ (short : (p : List ℕ) → p ∈ ps → suc (length p) ≤ stationsMost) where
+    module _ (short : (p : List ℕ) → p ∈ ps → suc (length p) ≤ 2 * ridesMost) where
       module _ (post : List ℕ) (h : length (nodes ps) ≤ entriesMost) (g : length (arcs ps) ≤ entriesMost) where
         abbrev lent : List ℕ
         lent = encode ps ++ post
@@ -94,14 +99,14 @@ module _ (k : ℕ) (ps : List (List ℕ)) (full : (p : List ℕ) → p ∈ ps �
             clash : T (any long (readable lent)) → ⊥
             clash t =
                 let r = any-out long (readable lent) t in
-                let s = short (r .0) (read-back ps full post (r .0) .0 (r .1)) in
-                omega (arith, ltb→lt stationsMost (suc (length (r .0))) (r .2))
+                let s = short (r .0) (read-back ps odd post (r .0) .0 (r .1)) in
+                omega (arith, ltb→lt (2 * ridesMost) (suc (length (r .0))) (r .2))
 
         -- "all words present"
-        present : 2 + 2 * length (nodes ps) + 2 * length (arcs ps) ≤ length lent
+        present : 2 + 3 * length (nodes ps) + 2 * length (arcs ps) ≤ length lent
         present = omega (arith, length-append (encode ps) post, encode-length ps)
 
-        nodes-made-well : T (nodesMade k 1 (nodePairs lent))
+        nodes-made-well : T (nodesMade k 1 (nodeThrees lent))
         nodes-made-well = rw (node-words ps post) (nodes-good [] (nodes ps) refl)
 
         arcs-made-well : T (arcsMade k (length (nodes ps)) (arcPairs lent))

@@ -14,7 +14,17 @@ use Rattle.text.specs.Number.{fieldValue}
 use Rattle.text.specs.Time.{timeValue}
 use Rattle.text.specs.Values.{valueAt, lineValues, length-values, values-at}
 use Rattle.text.specs.Values.{value-other-kind, value-arrive, value-depart, value-other-field}
-use Rattle.text.specs.Shape.{stationOf, stopOf, stationShape, field, stopShape, shapeBy, shapeOf}
+use Rattle.text.specs.Shape.{
+  stationOf,
+  walkOf,
+  stopOf,
+  stationShape,
+  walkShape,
+  field,
+  stopShape,
+  shapeBy,
+  shapeOf,
+}
 use Rattle.text.specs.declared.Line.{Line}
 use Rattle.text.specs.declared.Line.the-variants.{Shapeless}
 
@@ -64,6 +74,10 @@ module _ (line values old : List ℕ) (count : ℕ)
     unfolding shapeBy
     station-kind e = simp (eq-eqb (getD line 1 0) 44 comma, e)
 
+    walk-kind : kind ≡ 87 → shapeOf line ≡ walkShape fields
+    unfolding shapeBy
+    walk-kind e = simp (eq-eqb (getD line 1 0) 44 comma, e)
+
     pub station-fields : kind ≡ 83 → (count ≡ 3 → ⊥) → Shapeless ≡ shapeOf line
     unfolding stationShape
     station-fields e n =
@@ -79,6 +93,22 @@ module _ (line values old : List ℕ) (count : ℕ)
         (λ i g.
         read 3 i three (omega arith) g ∙ sym (value-other-kind kind i (field fields i) _ refl (λ k. omega arith))) in
         h ∙ rw (station-kind e, three, v 0 (omega arith), v 1 (omega arith), v 2 (omega arith))
+
+    pub walk-fields : kind ≡ 87 → (count ≡ 4 → ⊥) → Shapeless ≡ shapeOf line
+    unfolding walkShape
+    walk-fields e n =
+        let other : length fields ≡ 4 → ⊥ = (λ l. n (omega (arith, counted-fields))) in
+        sym (walk-kind e ∙ simp (ne-eqb (length fields) 4 other))
+
+    pub walk-shape : kind ≡ 87 → count ≡ 4 → (r : Line)
+        → r ≡ walkOf (getD values 0 0) (getD values 1 0) (getD values 2 0) (getD values 3 0) → r ≡ shapeOf line
+    unfolding walkShape
+    walk-shape e n r h =
+        let four : length fields ≡ 4 = omega (arith, counted-fields) in
+        let v : (i : ℕ) → i < 4 → getD values i 0 ≡ fieldValue (field fields i) =
+        (λ i g.
+        read 4 i four (omega arith) g ∙ sym (value-other-kind kind i (field fields i) _ refl (λ k. omega arith))) in
+        h ∙ rw (walk-kind e, four, v 0 (omega arith), v 1 (omega arith), v 2 (omega arith), v 3 (omega arith))
 
     pub stop-fields : kind ≡ 84 → (count ≡ 7 → ⊥) → Shapeless ≡ shapeOf line
     unfolding stopShape
@@ -114,7 +144,13 @@ module _ (line values old : List ℕ) (count : ℕ)
           number 6 (omega arith) (λ x. omega arith) (λ x. omega arith),
         )
 
-pub other-kind : (line : List ℕ) → getD line 1 0 ≡ 44 → (getD line 0 0 ≡ 83 → ⊥) → (getD line 0 0 ≡ 84 → ⊥)
-    → Shapeless ≡ shapeOf line
+pub other-kind : (line : List ℕ) → getD line 1 0 ≡ 44 → (getD line 0 0 ≡ 83 → ⊥) → (getD line 0 0 ≡ 87 → ⊥)
+    → (getD line 0 0 ≡ 84 → ⊥) → Shapeless ≡ shapeOf line
 unfolding shapeBy
-other-kind line c s t = simp (eq-eqb (getD line 1 0) 44 c, ne-eqb (getD line 0 0) 83 s, ne-eqb (getD line 0 0) 84 t)
+other-kind line c s w t =
+    simp (
+      eq-eqb (getD line 1 0) 44 c,
+      ne-eqb (getD line 0 0) 83 s,
+      ne-eqb (getD line 0 0) 87 w,
+      ne-eqb (getD line 0 0) 84 t,
+    )

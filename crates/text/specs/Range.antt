@@ -1,7 +1,8 @@
 -- "Value ranges: change minutes 0 to 240, change penalty 1 to 1,000, times 0 to 2,879 (minutes from midnight, two
 -- days), ride penalty 0 to 100." Document 02, Two: "Each T line gains a last field: 0 both, 1 boarding only, 2 setting
--- down only, any other number 3." By the field's kind number: 1 change minutes, 2 change penalty, 3 time, 4 ride
--- penalty, 5 mark. "An empty field has no range": as a 0 it passes, for times and ride penalties may be 0.
+-- down only, any other number 3." One, of walks: "minutes 1 to 60, penalty 1 to 1,000". By the field's kind number: 1
+-- change minutes, 2 change or walk penalty, 3 time, 4 ride penalty, 5 mark, 6 walk minutes. "An empty field has no
+-- range": as a 0 it passes, for times and ride penalties may be 0.
 use mathlib.Core.Path.{_≡_, refl, _∙_}
 use mathlib.Core.Bool.{Bool, true, false, cond, _&&_}
 use Prim.Native.Nat.{ℕ, _≤_}
@@ -19,7 +20,8 @@ inRange kind v =
     (cond (eqb kind 2) (within 1 1000 v)
     (cond (eqb kind 3) (within 0 2879 v)
     (cond (eqb kind 4) (within 0 100 v)
-    (cond (eqb kind 5) (within 0 2 v) true))))
+    (cond (eqb kind 5) (within 0 2 v)
+    (cond (eqb kind 6) (within 1 60 v) true)))))
 
 -- 0, or the refusal's number
 unfoldable pub rangeNumber : ℕ → ℕ → ℕ
@@ -80,3 +82,7 @@ ride-bound v e = (within-bounds 0 100 v e) .1
 pub mark-bound : (v : ℕ) → inRange 5 v ≡ true → v ≤ 2
 unfolding inRange
 mark-bound v e = (within-bounds 0 2 v e) .1
+
+pub walk-bound : (v : ℕ) → inRange 6 v ≡ true → (1 ≤ v) × (v ≤ 60)
+unfolding inRange
+walk-bound v e = within-bounds 1 60 v e

@@ -1,4 +1,4 @@
--- The two shapes of a line.
+-- The three shapes of a line.
 use mathlib.Core.Path.{_≡_}
 use mathlib.Core.Bool.{Bool, true, false, not, cond, _&&_}
 use mathlib.Core.List.{List, []}
@@ -10,7 +10,7 @@ use Rattle.text.specs.Piece.{pieces}
 use Rattle.text.specs.Number.{emptyField, isNumber, fieldValue}
 use Rattle.text.specs.Time.{timeValue}
 use Rattle.text.specs.declared.Line.{Line}
-use Rattle.text.specs.declared.Line.the-variants.{Station, Stop, Shapeless}
+use Rattle.text.specs.declared.Line.the-variants.{Station, Walk, Stop, Shapeless}
 
 -- "Station: `S,station,change minutes,change penalty`", from the values behind the S
 unfoldable pub stationOf : (number minutes points : ℕ) → Line
@@ -27,6 +27,19 @@ unfoldable pub stationShape : List (List ℕ) → Line
 stationShape f =
     cond (eqb (length f) 3)
     (stationOf (fieldValue (field f 0)) (fieldValue (field f 1)) (fieldValue (field f 2)))
+    Shapeless
+
+-- document 02, One: "Lines `W,from,to,minutes,penalty`", from the values behind the W
+unfoldable pub walkOf : (from to minutes points : ℕ) → Line
+walkOf from to minutes points =
+    cond (isNumber from && isNumber to && isNumber minutes && isNumber points)
+    (Walk (record { from = from; to = to; minutes = minutes; points = points }))
+    Shapeless
+
+unfoldable pub walkShape : List (List ℕ) → Line
+walkShape f =
+    cond (eqb (length f) 4)
+    (walkOf (fieldValue (field f 0)) (fieldValue (field f 1)) (fieldValue (field f 2)) (fieldValue (field f 3)))
     Shapeless
 
 -- "Arrive is empty exactly at stop 1."
@@ -76,20 +89,48 @@ stopShape time f =
     (time (field f 4)) (fieldValue (field f 5)) (fieldValue (field f 6)))
     Shapeless
 
--- "Is it of a shape above?" A line begins with S (byte 83) or T (byte 84) and a comma (byte 44). "Fields stand ..
--- parted by commas".
+-- "Is it of a shape above?" A line begins with S (byte 83), W (byte 87) or T (byte 84) and a comma (byte 44). "Fields
+-- stand .. parted by commas".
 unfoldable pub shapeBy : (time : List ℕ → ℕ) → List ℕ → Line
 shapeBy time line =
     cond (eqb (getD line 1 0) 44)
     (cond (eqb (getD line 0 0) 83) (stationShape (pieces 44 (drop 2 line)))
-    (cond (eqb (getD line 0 0) 84) (stopShape time (pieces 44 (drop 2 line))) Shapeless))
+    (cond (eqb (getD line 0 0) 87) (walkShape (pieces 44 (drop 2 line)))
+    (cond (eqb (getD line 0 0) 84) (stopShape time (pieces 44 (drop 2 line))) Shapeless)))
     Shapeless
 
 -- times are written `hh:mm`
 abbrev pub shapeOf : List ℕ → Line
 shapeOf line = shapeBy timeValue line
 
--- ---- the tests on seven values, one after the other
+-- ---- the tests on a walk's four values, one after the other
+module _ (from to minutes points : ℕ) where
+  pub from-unfit : 9999 < from → Shapeless ≡ walkOf from to minutes points
+  unfolding walkOf
+  from-unfit h = simp (lt-leb from 9999 h)
+
+  module _ (f : from ≤ 9999) where
+    pub to-unfit : 9999 < to → Shapeless ≡ walkOf from to minutes points
+    unfolding walkOf
+    to-unfit h = simp (le-leb from 9999 f, lt-leb to 9999 h)
+
+    module _ (t : to ≤ 9999) where
+      pub minutes-unfit : 9999 < minutes → Shapeless ≡ walkOf from to minutes points
+      unfolding walkOf
+      minutes-unfit h = simp (le-leb from 9999 f, le-leb to 9999 t, lt-leb minutes 9999 h)
+
+      module _ (m : minutes ≤ 9999) where
+        pub points-unfit : 9999 < points → Shapeless ≡ walkOf from to minutes points
+        unfolding walkOf
+        points-unfit h =
+            simp (le-leb from 9999 f, le-leb to 9999 t, le-leb minutes 9999 m, lt-leb points 9999 h)
+
+        pub walk-shaped : points ≤ 9999
+            → Walk (record { from = from; to = to; minutes = minutes; points = points }) ≡ walkOf from to minutes points
+        unfolding walkOf
+        walk-shaped h = simp (le-leb from 9999 f, le-leb to 9999 t, le-leb minutes 9999 m, le-leb points 9999 h)
+
+-- ---- the tests on a stop's seven values, one after the other
 module _ (trip stop station arrive depart points mark : ℕ) where
   abbrev pub fitting : Bool
   fitting = stopFits trip stop station arrive depart points mark

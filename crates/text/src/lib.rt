@@ -1,4 +1,4 @@
-// What a timetable text says, line by line: pieces, numbers, times, the two shapes of a line, and the value ranges.
+// What a timetable text says, line by line: pieces, numbers, times, the three shapes of a line, and the value ranges.
 ghost use mathlib.Core.Path.{_≡_};
 ghost use Prim.Native.Nat.{_+_, _≤_, _<_, min};
 ghost use lib.ListN.{length, take, drop};
@@ -6,7 +6,7 @@ ghost use Rattle.words.specs.Put.{put};
 ghost use Rattle.text.specs.Piece.{pieceLength};
 ghost use Rattle.text.specs.Number.{digitValue, fieldValue};
 ghost use Rattle.text.specs.Time.{pairValue, timeValue};
-ghost use Rattle.text.specs.Shape.{stationOf, stopFits, stopOf, arriveFits, departFits, filled, shapeOf};
+ghost use Rattle.text.specs.Shape.{stationOf, walkOf, stopFits, stopOf, arriveFits, departFits, filled, shapeOf};
 ghost use Rattle.text.specs.Values.{valueAt, lineValues};
 ghost use Rattle.text.specs.Range.{rangeNumber};
 
@@ -21,6 +21,8 @@ const COLON: u8 = 58;
 const STATION: u8 = 83;
 
 const STOP: u8 = 84;
+
+const WALK: u8 = 87;
 
 // The value of an empty field and of a field that is no number: both above every number.
 pub const EMPTY: u32 = 10000;
@@ -41,8 +43,10 @@ const MINUTES_MOST: u32 = 59;
 // The value of a time of good form that is out of range: the first minute after the two days.
 const PAST_TIMES: u32 = 2880;
 
-// The fields after the first of a station line and of a stop line.
+// The fields after the first of a station line, of a walk line and of a stop line.
 const STATION_FIELDS: usize = 3;
+
+const WALK_FIELDS: usize = 4;
 
 const STOP_FIELDS: usize = 7;
 
@@ -65,9 +69,19 @@ pub const RIDE_PENALTY: u8 = 4;
 
 pub const MARK: u8 = 5;
 
+pub const WALK_MINUTES: u8 = 6;
+
 // A line `S,station,change minutes,change penalty`.
 pub struct StationLine {
     pub number: u32,
+    pub minutes: u32,
+    pub points: u32,
+}
+
+// A line `W,from,to,minutes,penalty`.
+pub struct WalkLine {
+    pub from: u32,
+    pub to: u32,
     pub minutes: u32,
     pub points: u32,
 }
@@ -87,6 +101,7 @@ pub struct StopLine {
 
 pub enum Line {
     Station(StationLine),
+    Walk(WalkLine),
     Stop(StopLine),
     Shapeless,
 }
@@ -258,6 +273,30 @@ fn station_line(number: u32, minutes: u32, points: u32) -> Line
     })
 }
 
+// The walk line of four values.
+fn walk_line(from: u32, to: u32, minutes: u32, points: u32) -> Line
+    ensures { λ r. ⌜ r ≡ walkOf from to minutes points ⌝ }
+{
+    if NUMBER_MOST < from {
+        return Line::Shapeless;
+    }
+    if NUMBER_MOST < to {
+        return Line::Shapeless;
+    }
+    if NUMBER_MOST < minutes {
+        return Line::Shapeless;
+    }
+    if NUMBER_MOST < points {
+        return Line::Shapeless;
+    }
+    Line::Walk(WalkLine {
+        from,
+        to,
+        minutes,
+        points,
+    })
+}
+
 // Arrive is empty exactly at stop 1.
 fn arrive_fits(stop: u32, arrive: u32) -> bool
     ensures { λ r. ⌜ r ≡ arriveFits stop arrive ⌝ }
@@ -371,6 +410,12 @@ pub fn shape(line: &[u8]) -> Line
         }
         return station_line(values[0], values[1], values[2]);
     }
+    if kind == WALK {
+        if count != WALK_FIELDS {
+            return Line::Shapeless;
+        }
+        return walk_line(values[0], values[1], values[2], values[3]);
+    }
     if kind == STOP {
         if count != STOP_FIELDS {
             return Line::Shapeless;
@@ -411,6 +456,10 @@ pub fn range_number(kind: u8, value: u32) -> u32
         },
         MARK => match value {
             0..=2 => 0,
+            _ => 3,
+        },
+        WALK_MINUTES => match value {
+            1..=60 => 0,
             _ => 3,
         },
         _ => 0,

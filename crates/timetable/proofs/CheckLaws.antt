@@ -1,14 +1,17 @@
 -- The ways out of the functions that decide question 9.
 use mathlib.Core.Path.{_≡_, refl, sym, ap, _∙_}
-use mathlib.Core.Bool.{Bool, true, false, not, _&&_}
+use mathlib.Core.Bool.{Bool, true, false, not, cond, _&&_}
 use mathlib.Core.List.{List, _∷_}
-use Prim.Native.Nat.{ℕ, _+_, _≤_, _<_}
+use Prim.Native.Nat.{ℕ, suc, _+_, _*_, _≤_, _<_}
+use native.Mathlib.Nat.{sub-zero}
 use native.Mathlib.Omega.{arith}
-use borrow.Author.Tests.{le-leb, lt-leb, lt-ltb, le-ltb, eq-eqb, ne-eqb, not-true, not-false}
+use borrow.Author.Tests.{le-leb, lt-leb, lt-ltb, le-ltb, eq-eqb, ne-eqb, leb-true, leb-false, not-true, not-false}
 use lib.Dec.{leb, ltb, eqb}
+use lib.ListN.{getD}
 use Rattle.lists.specs.Tests.{and-true, and-false}
 use Rattle.timetable.specs.Timetable.{
   Station,
+  Walk,
   Stop,
   listed,
   leaves,
@@ -18,10 +21,27 @@ use Rattle.timetable.specs.Timetable.{
   validTrip,
   validStation,
   validStations,
+  validWalk,
+  walkBefore,
+  validWalks,
   validTrips,
   climb,
 }
-use Rattle.timetable.specs.Words.{stationAt, stopAt, startAt, numberAt, tripAt, rise}
+use Rattle.timetable.specs.Words.{
+  countTo,
+  stationCount,
+  stationAt,
+  stopAt,
+  startAt,
+  numberAt,
+  tripAt,
+  footPlace,
+  walksTo,
+  walkIn,
+  walksIn,
+  walkAt,
+  rise,
+}
 use Rattle.timetable.specs.Check.{
   begins,
   passes,
@@ -30,6 +50,9 @@ use Rattle.timetable.specs.Check.{
   tripsAt,
   startsAt,
   numbersAt,
+  walksAt,
+  walkStands,
+  footedFrom,
   tripsTest,
   between,
   between-more,
@@ -104,6 +127,111 @@ module _ (w : List ℕ) (n i : ℕ) (left : validStations (stationsAt w 0 n) ≡
 
     pub station-good : not t ≡ false → validStations (stationsAt w 0 n) ≡ validStations (stationsAt w (i + 1) n)
     station-good e = next ∙ rw (not-false t e)
+
+-- ---- walks, one by one
+module _ (w : List ℕ) (n k walks : ℕ) (v : Walk) (is : v ≡ walkAt w k) (t : Bool) (test : t ≡ validWalk n v) where
+  pub walk-falls : not t ≡ true → false ≡ walkStands w n k walks
+  unfolding walkStands
+  walk-falls h = simp (← is, ← test, not-true t h)
+
+  module _ (good : not t ≡ false) where
+    pub walk-last : walks ≤ k + 1 → true ≡ walkStands w n k walks
+    unfolding walkStands
+    walk-last h = simp (← is, ← test, not-false t good, le-leb walks (k + 1) h)
+
+    pub walk-next : k + 1 < walks → (u : Walk) → u ≡ walkAt w (k + 1) → (r : Bool) → r ≡ walkBefore v u
+        → r ≡ walkStands w n k walks
+    unfolding walkStands
+    walk-next h u e r f = f ∙ simp (← is, ← e, ← test, not-false t good, lt-leb walks (k + 1) h)
+
+module _ (w : List ℕ) (n walks k : ℕ) (left : validWalks n (walksAt w 0 walks) ≡ validWalks n (walksAt w k walks))
+  where
+    pub walks-done : walks ≤ k → true ≡ validWalks n (walksAt w 0 walks)
+    unfolding validWalks
+    walks-done h = sym (left ∙ ap (validWalks n) (between-none (walkAt w) k walks h))
+
+    module _ (h : k < walks) (t : Bool) (test : t ≡ walkStands w n k walks) where
+      stands : validWalks n (walksAt w k walks) ≡ (t && validWalks n (walksAt w (k + 1) walks))
+      unfolding validWalks walkStands
+      stands = ap (validWalks n) (between-more (walkAt w) k walks h) ∙ by-place (leb walks (k + 1)) refl
+        where
+          by-place : (b : Bool) → leb walks (k + 1) ≡ b
+              → validWalks n (walkAt w k ∷ walksAt w (k + 1) walks) ≡ (t && validWalks n (walksAt w (k + 1) walks))
+          by-place true e =
+              rw (
+                between-none (walkAt w) (k + 1) walks (leb-true walks (k + 1) e),
+                test,
+                e,
+                and-true (validWalk n (walkAt w k)),
+                and-true (validWalk n (walkAt w k)),
+              )
+          by-place false e = rw (between-more (walkAt w) (k + 1) walks (leb-false walks (k + 1) e), test, e)
+
+      pub walk-bad : not t ≡ true → false ≡ validWalks n (walksAt w 0 walks)
+      walk-bad e = sym (left ∙ stands ∙ rw (not-true t e))
+
+      pub walk-good : not t ≡ false → validWalks n (walksAt w 0 walks) ≡ validWalks n (walksAt w (k + 1) walks)
+      walk-good e = left ∙ stands ∙ rw (not-false t e)
+
+-- ---- walks, counted one by one
+module _ (w : List ℕ) (p n y k count : ℕ)
+    (so-far : countTo (between (walkIn w p) 0 n) y ≡ count + countTo (between (walkIn w p) k n) y) where
+  pub count-done : n ≤ k → count ≡ countTo (walksIn w p n) y
+  unfolding countTo between
+  count-done h =
+      let none : countTo (between (walkIn w p) k n) y ≡ 0 =
+      ap (λ l. countTo l y) (between-none (walkIn w p) k n h) in
+      let all : countTo (between (walkIn w p) 0 n) y ≡ countTo (walksIn w p n) y = rw sub-zero in
+      omega (arith, so-far, none, all)
+
+  pub count-more : k < n → (from one : ℕ) → from ≡ getD w (p + 4 * k) 0 → one ≡ cond (leb from y) 1 0
+      → countTo (between (walkIn w p) 0 n) y ≡ count + one + countTo (between (walkIn w p) (k + 1) n) y
+  unfolding countTo walkIn
+  count-more h from one e f =
+      let rest : ℕ = countTo (between (walkIn w p) (k + 1) n) y in
+      let next : countTo (between (walkIn w p) k n) y ≡ cond (leb from y) (suc rest) rest =
+      ap (λ l. countTo l y) (between-more (walkIn w p) k n h) ∙ rw (← e) in
+      omega (arith, so-far, next, f, by-test (leb from y) rest)
+    where
+      by-test : (b : Bool) (m : ℕ) → cond b (suc m) m ≡ cond b 1 0 + m
+      by-test true m = omega arith
+      by-test false m = omega arith
+
+-- ---- counts of walks, station by station
+module _ (w : List ℕ) (walks stations y : ℕ) (whole : Bool)
+    (left : whole ≡ footedFrom w (walksAt w 0 walks) y (stations + 1)) where
+  pub feet-done : stations < y → true ≡ whole
+  unfolding footedFrom
+  feet-done h =
+      sym
+      (left
+      ∙ rw (
+        between-none (walksTo w) y (stations + 1) (omega arith),
+        between-none (countTo (walksAt w 0 walks)) y (stations + 1) (omega arith),
+      ))
+
+  module _ (h : y ≤ stations) (p a b : ℕ) (there : p ≡ footPlace w + (stationCount w + 1)) (is-a : a ≡ walksTo w y)
+      (is-b : b ≡ countTo (walksIn w p walks) y) where
+    counted : b ≡ countTo (walksAt w 0 walks) y
+    unfolding walkIn walkAt between
+    counted = is-b ∙ rw (there, sub-zero)
+
+    one : whole ≡ (eqb a b && footedFrom w (walksAt w 0 walks) (y + 1) (stations + 1))
+    unfolding footedFrom
+    one =
+        left
+        ∙ rw (
+          between-more (walksTo w) y (stations + 1) (omega arith),
+          between-more (countTo (walksAt w 0 walks)) y (stations + 1) (omega arith),
+          ← is-a,
+          ← counted,
+        )
+
+    pub feet-differ : (a ≡ b → ⊥) → false ≡ whole
+    feet-differ g = sym (one ∙ rw (ne-eqb a b g))
+
+    pub feet-agree : a ≡ b → whole ≡ footedFrom w (walksAt w 0 walks) (y + 1) (stations + 1)
+    feet-agree g = one ∙ rw (eq-eqb a b g)
 
 -- ---- stops of a trip, one by one
 pub run-starts : (w : List ℕ) (n : ℕ) (s : Stop) (i first end : ℕ) → s ≡ stopAt w first

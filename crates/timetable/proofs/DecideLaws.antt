@@ -2,13 +2,13 @@
 use mathlib.Core.Path.{_≡_, sym, _∙_}
 use mathlib.Core.Bool.{Bool, true, false, not, _&&_}
 use mathlib.Core.List.{List}
-use Prim.Native.Nat.{ℕ, _≤_, _<_}
+use Prim.Native.Nat.{ℕ, _+_, _≤_, _<_}
 use borrow.Author.Tests.{le-leb, lt-leb, eq-eqb, ne-eqb, not-true, not-false}
-use lib.Dec.{eqb}
+use lib.Dec.{leb, eqb}
 use lib.ListN.{getD}
-use Rattle.timetable.specs.Timetable.{validStations, climb}
-use Rattle.timetable.specs.Words.{startAt, isTimetable}
-use Rattle.timetable.specs.Check.{stationsAt, numbersAt, tripsTest, decided}
+use Rattle.timetable.specs.Timetable.{validStations, validWalks, climb}
+use Rattle.timetable.specs.Words.{startAt, walksTo, isTimetable}
+use Rattle.timetable.specs.Check.{stationsAt, numbersAt, walksAt, footedFrom, tripsTest, decided}
 
 module _ (w : List ℕ) (s : ℕ) (is-s : s ≡ getD w 0 0) where
   pub no-stations : s < 1 → false ≡ isTimetable w
@@ -41,7 +41,14 @@ module _ (w : List ℕ) (s : ℕ) (is-s : s ≡ getD w 0 0) where
           abbrev climbs : Bool
           climbs = climb 0 (numbersAt w 0 t)
 
-          headed : isTimetable w ≡ (eqb a 0 && climbs && validStations (stationsAt w 0 s) && tripsTest w s n 0 0 t)
+          headed : isTimetable w
+              ≡ (eqb a 0
+              && climbs
+              && validStations (stationsAt w 0 s)
+              && leb (walksTo w s) 256
+              && validWalks s (walksAt w 0 (walksTo w s))
+              && footedFrom w (walksAt w 0 (walksTo w s)) 0 (s + 1)
+              && tripsTest w s n 0 0 t)
           headed =
               decided w
               ∙ simp (
@@ -63,10 +70,44 @@ module _ (w : List ℕ) (s : ℕ) (is-s : s ≡ getD w 0 0) where
             bad-numbers h = sym (headed ∙ simp (eq-eqb a 0 start, ← is-c, not-true c h))
 
             module _ (climbing : not c ≡ false) (v : Bool) (is-v : v ≡ validStations (stationsAt w 0 s)) where
-              pub bad-stations : not v ≡ true → false ≡ isTimetable w
-              bad-stations h =
-                  sym (headed ∙ simp (eq-eqb a 0 start, ← is-c, not-false c climbing, ← is-v, not-true v h))
+              numbered : isTimetable w
+                  ≡ (v
+                  && leb (walksTo w s) 256
+                  && validWalks s (walksAt w 0 (walksTo w s))
+                  && footedFrom w (walksAt w 0 (walksTo w s)) 0 (s + 1)
+                  && tripsTest w s n 0 0 t)
+              numbered = headed ∙ simp (eq-eqb a 0 start, ← is-c, not-false c climbing, ← is-v)
 
-              pub trips-decide : not v ≡ false → (r : Bool) → r ≡ tripsTest w s n 0 0 t → r ≡ isTimetable w
-              trips-decide h r e =
-                  e ∙ sym (headed ∙ simp (eq-eqb a 0 start, ← is-c, not-false c climbing, ← is-v, not-false v h))
+              pub bad-stations : not v ≡ true → false ≡ isTimetable w
+              bad-stations h = sym (numbered ∙ simp (not-true v h))
+
+              module _ (placed : not v ≡ false) (m : ℕ) (is-m : m ≡ walksTo w s) where
+                pub many-walks : 256 < m → false ≡ isTimetable w
+                many-walks h = sym (numbered ∙ simp (not-false v placed, ← is-m, lt-leb m 256 h))
+
+                module _ (few-walks : m ≤ 256) (f : Bool) (is-f : f ≡ validWalks s (walksAt w 0 m)) where
+                  pub bad-walks : not f ≡ true → false ≡ isTimetable w
+                  bad-walks h =
+                      sym
+                      (numbered
+                      ∙ simp (not-false v placed, ← is-m, le-leb m 256 few-walks, ← is-f, not-true f h))
+
+                  module _ (walked : not f ≡ false) (g : Bool) (is-g : g ≡ footedFrom w (walksAt w 0 m) 0 (s + 1))
+                    where
+                      feet : isTimetable w ≡ (g && tripsTest w s n 0 0 t)
+                      feet =
+                          numbered
+                          ∙ simp (
+                            not-false v placed,
+                            ← is-m,
+                            le-leb m 256 few-walks,
+                            ← is-f,
+                            not-false f walked,
+                            ← is-g,
+                          )
+
+                      pub bad-feet : not g ≡ true → false ≡ isTimetable w
+                      bad-feet h = sym (feet ∙ simp (not-true g h))
+
+                      pub trips-decide : not g ≡ false → (r : Bool) → r ≡ tripsTest w s n 0 0 t → r ≡ isTimetable w
+                      trips-decide h r e = e ∙ sym (feet ∙ simp (not-false g h))

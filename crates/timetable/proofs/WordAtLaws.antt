@@ -3,8 +3,18 @@ use mathlib.Core.Path.{_≡_, _∙_}
 use mathlib.Core.List.{List}
 use Prim.Native.Nat.{ℕ, _+_, _*_}
 use lib.ListN.{getD}
-use Rattle.timetable.specs.Timetable.{Station, Stop}
-use Rattle.timetable.specs.Words.{stationAt, stopIn, stopAt, startAt, numberAt}
+use Rattle.timetable.specs.Timetable.{Station, Walk, Stop}
+use Rattle.timetable.specs.Words.{
+  stationCount,
+  stationAt,
+  stopIn,
+  stopAt,
+  startAt,
+  numberAt,
+  footPlace,
+  walksTo,
+  walkAt,
+}
 
 module _ (w : List ℕ) (i : ℕ) where
   pub station-there : (a b : ℕ) → a ≡ getD w (3 + 2 * i) 0 → b ≡ getD w (3 + 2 * i + 1) 0
@@ -31,3 +41,13 @@ module _ (w : List ℕ) (i : ℕ) where
         → r ≡ getD w (3 + 2 * n + 5 * m + (t + 1) + i) 0 → r ≡ numberAt w i
     unfolding numberAt
     number-there m t r e g f = f ∙ rw (is, e, g)
+
+  pub feet-there : (p r : ℕ) → p ≡ footPlace w → r ≡ getD w (p + i) 0 → r ≡ walksTo w i
+  unfolding walksTo
+  feet-there p r e f = f ∙ rw e
+
+  pub walk-there : (p a b c d : ℕ) → p ≡ footPlace w + (stationCount w + 1) → a ≡ getD w (p + 4 * i) 0
+      → b ≡ getD w (p + 4 * i + 1) 0 → c ≡ getD w (p + 4 * i + 2) 0 → d ≡ getD w (p + 4 * i + 3) 0
+      → _≡_ {A = Walk} (record { from = a; to = b; minutes = c; points = d }) (walkAt w i)
+  unfolding walkAt
+  walk-there p a b c d e f g h k = rw (f, g, h, k, e)

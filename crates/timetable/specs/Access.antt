@@ -24,10 +24,7 @@ use Rattle.timetable.specs.Timetable.{
   follows,
   validTrip,
   validTrips,
-  validStations,
   runs,
-  numbered,
-  counted,
   valid,
 }
 use Rattle.timetable.specs.Words.{
@@ -42,19 +39,10 @@ use Rattle.timetable.specs.Words.{
   timetableOf,
   rise,
   chained,
+  footed,
   isTimetable,
 }
-use Rattle.timetable.specs.Check.{
-  length-trips,
-  length-trip,
-  zeroed,
-  rising,
-  headed,
-  numbersTest,
-  stationsTest,
-  allTripsTest,
-  decided,
-}
+use Rattle.timetable.specs.Check.{length-trips, length-trip, zeroed, rising, decision, decided}
 
 -- the numbers from k on, one by one
 pub map-numbers : {A : Type 0} (f : ℕ → A) (k n i : ℕ) (d : A) → i < n → getD (map f (range k n)) i d ≡ f (k + i)
@@ -217,11 +205,16 @@ rise-last w k (suc m) n e =
 module _ (w : List ℕ) (yes : isTimetable w ≡ true) where
   pub spelled-valid : valid (timetableOf w) ≡ true
   unfolding isTimetable
-  spelled-valid = and-right (chained w) (valid (timetableOf w)) yes
+  spelled-valid = search (and-left, and-right)
 
   pub is-chained : chained w ≡ true
   unfolding isTimetable
-  is-chained = and-left (chained w) (valid (timetableOf w)) yes
+  is-chained = search and-left
+
+  -- the counts of walks by station are those of the walks
+  pub is-footed : footed w ≡ true
+  unfolding isTimetable
+  is-footed = search and-right
 
   pub start-first : startAt w 0 ≡ 0
   unfolding chained
@@ -241,12 +234,8 @@ module _ (w : List ℕ) (yes : isTimetable w ≡ true) where
       let same : 0 + k ≡ k = omega arith in
       omega (arith, ap (startAt w) same, rise-at w 0 (tripCount w) (stopCount w) k rises h)
 
-  is-headed : headed w ≡ true
-  is-headed =
-      and-left (headed w) (zeroed w)
-      (and-left (headed w && zeroed w) (numbersTest w)
-      (and-left (headed w && zeroed w && numbersTest w) (stationsTest w)
-      (and-left (headed w && zeroed w && numbersTest w && stationsTest w) (allTripsTest w) (sym (decided w) ∙ yes))))
+  is-decided : decision w ≡ true
+  is-decided = sym (decided w) ∙ yes
 
   pub record Counts : Type 0 where
     pub some-station : 1 ≤ stationCount w
@@ -256,17 +245,16 @@ module _ (w : List ℕ) (yes : isTimetable w ≡ true) where
 
   pub counts : Counts
   counts =
-      let s : Bool = leb 1 (stationCount w) in
-      let m : Bool = leb (stationCount w) 64 in
-      let t : Bool = leb (tripCount w) 256 in
-      let n : Bool = leb (stopCount w) 2048 in
-      let smt = and-left (s && m && t) n is-headed in
-      let sm = and-left (s && m) t smt in
+      let d = is-decided in
+      let s : leb 1 (stationCount w) ≡ true = search and-left depth 12 in
+      let m : leb (stationCount w) 64 ≡ true = search (and-left, and-right) depth 12 in
+      let t : leb (tripCount w) 256 ≡ true = search (and-left, and-right) depth 12 in
+      let n : leb (stopCount w) 2048 ≡ true = search (and-left, and-right) depth 12 in
       record {
-        some-station = leb-true 1 (stationCount w) (and-left s m sm);
-        stations = leb-true (stationCount w) 64 (and-right s m sm);
-        trips = leb-true (tripCount w) 256 (and-right (s && m) t smt);
-        stops = leb-true (stopCount w) 2048 (and-right (s && m && t) n is-headed);
+        some-station = leb-true 1 (stationCount w) s;
+        stations = leb-true (stationCount w) 64 m;
+        trips = leb-true (tripCount w) 256 t;
+        stops = leb-true (stopCount w) 2048 n;
       }
 
   one-valid : (k : ℕ) → k < tripCount w
@@ -274,7 +262,8 @@ module _ (w : List ℕ) (yes : isTimetable w ≡ true) where
   unfolding valid
   one-valid k h =
       let t = timetableOf w in
-      let all = and-right (counted t && numbered t && validStations (t .stations)) _ spelled-valid in
+      let v = spelled-valid in
+      let all : validTrips (length (t .stations)) (t .trips) ≡ true = search and-right in
       trip-valid (length (t .stations)) (t .trips) k [] all (omega (arith, length-trips w))
 
   pub trip-stops : (k : ℕ) → k < tripCount w → startAt w k + 2 ≤ startAt w (k + 1)

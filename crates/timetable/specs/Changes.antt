@@ -30,6 +30,7 @@ unfoldable pub cancelled : Timetable → (n : ℕ) → Timetable
 cancelled t n =
     record {
       stations = t .stations;
+      walks = t .walks;
       numbers = without (placeOf n (t .numbers)) (t .numbers);
       trips = without (placeOf n (t .numbers)) (t .trips);
     }
@@ -39,6 +40,7 @@ unfoldable pub added : Timetable → (n : ℕ) → Trip → Timetable
 added t n trip =
     record {
       stations = t .stations;
+      walks = t .walks;
       numbers = inserted (placeOf n (t .numbers)) n (t .numbers);
       trips = inserted (placeOf n (t .numbers)) trip (t .trips);
     }

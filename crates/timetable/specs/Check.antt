@@ -1,7 +1,7 @@
 -- How the code decides question 9, part by part. No reader of the promise needs this file: `decided` shows that the
 -- parts come to `isTimetable`.
 use mathlib.Core.Path.{_≡_, sym, ap, _∙_}
-use mathlib.Core.Bool.{Bool, true, _&&_}
+use mathlib.Core.Bool.{Bool, true, _&&_, _||_}
 use mathlib.Core.List.{List, [], _∷_, map}
 use Prim.Native.Nat.{ℕ, zero, suc, _+_, _-_, _≤_, _<_}
 use native.Mathlib.Nat.{sub-zero}
@@ -10,11 +10,12 @@ use native.Mathlib.Omega.{arith}
 use borrow.Author.Tests.{leb-true, eqb-true, eq-eqb}
 use lib.Dec.{leb, eqb}
 use lib.ListN.{length, length-append, length-map}
-use Rattle.lists.specs.Lists.{range}
+use Rattle.lists.specs.Lists.{range, same}
 use Rattle.lists.specs.Ranges.{length-range}
-use Rattle.lists.specs.Tests.{and-left, and-right, and-both, same-tests}
+use Rattle.lists.specs.Tests.{and-left, and-right, same-tests}
 use Rattle.timetable.specs.Timetable.{
   Station,
+  Walk,
   Stop,
   Trip,
   stopsOf,
@@ -22,6 +23,9 @@ use Rattle.timetable.specs.Timetable.{
   leaves,
   follows,
   validStations,
+  validWalk,
+  walkBefore,
+  validWalks,
   validTrips,
   numbered,
   counted,
@@ -29,6 +33,8 @@ use Rattle.timetable.specs.Timetable.{
   valid,
 }
 use Rattle.timetable.specs.Words.{
+  countTo,
+  footWords,
   stationCount,
   tripCount,
   stopCount,
@@ -37,9 +43,13 @@ use Rattle.timetable.specs.Words.{
   startAt,
   tripAt,
   numberAt,
+  walksTo,
+  walkCount,
+  walkAt,
   timetableOf,
   rise,
   chained,
+  footed,
   isTimetable,
 }
 
@@ -55,7 +65,7 @@ passes n b s = follows n b s && leb (s .arrive) (s .depart) && leaves s
 unfoldable pub between : {A : Type 0} → (ℕ → A) → ℕ → ℕ → List A
 between f i n = map f (range i (n - i))
 
--- the stations, stops, trips, starts and numbers from one place up to another
+-- the stations, stops, trips, starts, numbers and walks from one place up to another
 abbrev pub stationsAt : List ℕ → ℕ → ℕ → List Station
 stationsAt w = between (stationAt w)
 
@@ -70,6 +80,18 @@ startsAt w = between (startAt w)
 
 abbrev pub numbersAt : List ℕ → ℕ → ℕ → List ℕ
 numbersAt w = between (numberAt w)
+
+abbrev pub walksAt : List ℕ → ℕ → ℕ → List Walk
+walksAt w = between (walkAt w)
+
+-- walk k is valid, of n stations, and comes before the next one of so many
+unfoldable pub walkStands : List ℕ → (n k walks : ℕ) → Bool
+walkStands w n k walks =
+    validWalk n (walkAt w k) && (leb walks (k + 1) || walkBefore (walkAt w k) (walkAt w (k + 1)))
+
+-- the counts of walks from station y on, before station n, are those of the walks
+unfoldable pub footedFrom : List ℕ → List Walk → (y n : ℕ) → Bool
+footedFrom w l y n = same (between (walksTo w) y n) (between (countTo l) y n)
 
 -- the trips from number k on, the first of which begins at stop `first`
 unfoldable pub tripsTest : List ℕ → (n stops k first trips : ℕ) → Bool
@@ -133,8 +155,25 @@ module _ (w : List ℕ) where
   abbrev pub numbersTest : Bool
   numbersTest = climb 0 (numbersAt w 0 (tripCount w))
 
+  abbrev pub fewWalks : Bool
+  fewWalks = leb (walkCount w) 256
+
+  abbrev pub walksTest : Bool
+  walksTest = validWalks (stationCount w) (walksAt w 0 (walkCount w))
+
+  abbrev pub feetTest : Bool
+  feetTest = footedFrom w (walksAt w 0 (walkCount w)) 0 (stationCount w + 1)
+
   abbrev pub decision : Bool
-  decision = headed && eqb (startAt w 0) 0 && numbersTest && stationsTest && allTripsTest
+  decision =
+      headed
+      && eqb (startAt w 0) 0
+      && numbersTest
+      && stationsTest
+      && fewWalks
+      && walksTest
+      && feetTest
+      && allTripsTest
 
   pub length-stations : length ((timetableOf w) .stations) ≡ stationCount w
   unfolding timetableOf
@@ -157,13 +196,38 @@ module _ (w : List ℕ) where
       let start = eqb-true (startAt w 0) 0 z in
       omega (arith, start, stops-between w 0 (tripCount w) (stopCount w) (rw start r))
 
-  is-counted : zeroed ≡ true → rising ≡ true → counted (timetableOf w) ≡ headed
+  pub walks-there : (timetableOf w) .walks ≡ walksAt w 0 (walkCount w)
+  unfolding timetableOf between
+  walks-there = rw sub-zero
+
+  pub length-walks : length ((timetableOf w) .walks) ≡ walkCount w
+  unfolding timetableOf
+  length-walks = length-map (range 0 (walkCount w)) (walkAt w) ∙ length-range 0 (walkCount w)
+
+  abbrev inCounts : Bool
+  inCounts =
+      leb 1 (stationCount w)
+      && leb (stationCount w) 64
+      && fewWalks
+      && leb (tripCount w) 256
+      && leb (stopCount w) 2048
+
+  is-counted : zeroed ≡ true → rising ≡ true → counted (timetableOf w) ≡ inCounts
   unfolding counted
-  is-counted z r = rw (length-stations, length-trips, length-stops z r)
+  is-counted z r = rw (length-stations, length-walks, length-trips, length-stops z r)
 
   stations-same : validStations ((timetableOf w) .stations) ≡ stationsTest
   unfolding timetableOf between
   stations-same = rw sub-zero
+
+  walks-same : validWalks (length ((timetableOf w) .stations)) ((timetableOf w) .walks) ≡ walksTest
+  walks-same = rw (length-stations, walks-there)
+
+  feet-same : footed w ≡ feetTest
+  unfolding footed footWords footedFrom between
+  feet-same =
+      let all : suc (stationCount w) ≡ stationCount w + 1 - 0 = omega arith in
+      λ i. same (map (walksTo w) (range 0 (all i))) (map (countTo (walks-there i)) (range 0 (all i)))
 
   abbrev tripsValid : Bool
   tripsValid = validTrips (stationCount w) (tripsAt w 0 (tripCount w))
@@ -189,10 +253,12 @@ module _ (w : List ℕ) where
   unfolding numbered timetableOf between
   numbers-same = rw (eq-eqb _ _ (length-numbers ∙ sym length-trips), sub-zero)
 
-  is-valid : zeroed ≡ true → rising ≡ true
-      → valid (timetableOf w) ≡ (headed && numbersTest && stationsTest && tripsValid)
+  abbrev parts : Bool
+  parts = inCounts && numbersTest && stationsTest && walksTest && tripsValid
+
+  is-valid : zeroed ≡ true → rising ≡ true → valid (timetableOf w) ≡ parts
   unfolding valid
-  is-valid z r = rw (is-counted z r, numbers-same, stations-same, trips-same)
+  is-valid z r = rw (is-counted z r, numbers-same, stations-same, walks-same, trips-same)
 
   pub decided : isTimetable w ≡ decision
   unfolding isTimetable chained
@@ -200,32 +266,37 @@ module _ (w : List ℕ) where
     where
       forth : isTimetable w ≡ true → decision ≡ true
       forth e =
-          let chain = and-left (zeroed && rising) (valid (timetableOf w)) e in
-          let z = and-left zeroed rising chain in
-          let r = and-right zeroed rising chain in
-          let v = sym (is-valid z r) ∙ and-right (zeroed && rising) (valid (timetableOf w)) e in
-          let hns = and-left (headed && numbersTest && stationsTest) tripsValid v in
-          let hn = and-left (headed && numbersTest) stationsTest hns in
-          and-both (headed && zeroed && numbersTest && stationsTest) allTripsTest
-          (and-both (headed && zeroed && numbersTest) stationsTest
-          (and-both (headed && zeroed) numbersTest
-          (and-both headed zeroed (and-left headed numbersTest hn) z)
-          (and-right headed numbersTest hn))
-          (and-right (headed && numbersTest) stationsTest hns))
-          (test-same ∙ and-both rising tripsValid r (and-right (headed && numbersTest && stationsTest) tripsValid v))
+          let z : zeroed ≡ true = search and-left in
+          let r : rising ≡ true = search (and-left, and-right) depth 12 in
+          let f : footed w ≡ true = search and-right in
+          let v : valid (timetableOf w) ≡ true = search (and-left, and-right) depth 12 in
+          let all : parts ≡ true = sym (is-valid z r) ∙ v in
+          let some : leb 1 (stationCount w) ≡ true = search and-left depth 12 in
+          let s : leb (stationCount w) 64 ≡ true = search (and-left, and-right) depth 12 in
+          let few : fewWalks ≡ true = search (and-left, and-right) depth 12 in
+          let t : leb (tripCount w) 256 ≡ true = search (and-left, and-right) depth 12 in
+          let n : leb (stopCount w) 2048 ≡ true = search (and-left, and-right) depth 12 in
+          let numbers : numbersTest ≡ true = search (and-left, and-right) depth 12 in
+          let stations : stationsTest ≡ true = search (and-left, and-right) depth 12 in
+          let walks : walksTest ≡ true = search (and-left, and-right) depth 12 in
+          let trips : tripsValid ≡ true = search and-right in
+          simp (some, s, t, n, z, numbers, stations, few, walks, sym feet-same ∙ f, test-same, r, trips)
 
       back : decision ≡ true → isTimetable w ≡ true
       back e =
-          let hzns = and-left (headed && zeroed && numbersTest && stationsTest) allTripsTest e in
-          let hzn = and-left (headed && zeroed && numbersTest) stationsTest hzns in
-          let hz = and-left (headed && zeroed) numbersTest hzn in
-          let rt = sym test-same ∙ and-right (headed && zeroed && numbersTest && stationsTest) allTripsTest e in
-          let z = and-right headed zeroed hz in
-          let r = and-left rising tripsValid rt in
-          and-both (zeroed && rising) (valid (timetableOf w)) (and-both zeroed rising z r)
-          (is-valid z r
-          ∙ and-both (headed && numbersTest && stationsTest) tripsValid
-          (and-both (headed && numbersTest) stationsTest
-          (and-both headed numbersTest (and-left headed zeroed hz) (and-right (headed && zeroed) numbersTest hzn))
-          (and-right (headed && zeroed && numbersTest) stationsTest hzns))
-          (and-right rising tripsValid rt))
+          let z : zeroed ≡ true = search (and-left, and-right) depth 12 in
+          let both : (rising && tripsValid) ≡ true = sym test-same ∙ search and-right in
+          let r : rising ≡ true = search and-left depth 12 in
+          let trips : tripsValid ≡ true = search and-right in
+          let some : leb 1 (stationCount w) ≡ true = search and-left depth 12 in
+          let s : leb (stationCount w) 64 ≡ true = search (and-left, and-right) depth 12 in
+          let few : fewWalks ≡ true = search (and-left, and-right) depth 12 in
+          let t : leb (tripCount w) 256 ≡ true = search (and-left, and-right) depth 12 in
+          let n : leb (stopCount w) 2048 ≡ true = search (and-left, and-right) depth 12 in
+          let numbers : numbersTest ≡ true = search (and-left, and-right) depth 12 in
+          let stations : stationsTest ≡ true = search (and-left, and-right) depth 12 in
+          let walks : walksTest ≡ true = search (and-left, and-right) depth 12 in
+          let feet : feetTest ≡ true = search (and-left, and-right) depth 12 in
+          let v : valid (timetableOf w) ≡ true =
+          is-valid z r ∙ simp (some, s, few, t, n, numbers, stations, walks, trips) in
+          simp (z, r, v, feet-same, feet)

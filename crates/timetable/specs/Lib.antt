@@ -4,6 +4,7 @@ pub mod Words
 pub mod WordLaws
 pub mod Check
 pub mod Access
+pub mod Walks
 pub mod Parts
 pub mod Changes
 pub mod Worked

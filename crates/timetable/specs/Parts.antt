@@ -1,4 +1,5 @@
--- Where the words of stations, of stops and of numbers stand: a run of any of them is a part of the timetable's words.
+-- Where the words of stations, of stops, of numbers and of walks stand: a run of any of them is a part of the
+-- timetable's words.
 use mathlib.Core.Path.{_≡_, refl, sym, ap, _∙_}
 use mathlib.Core.List.{List, _∷_, map}
 use Prim.Native.Nat.{ℕ, zero, suc, _+_, _-_, _*_, _≤_, _<_}
@@ -10,6 +11,8 @@ use Rattle.lists.specs.Lists.{range}
 use Rattle.timetable.specs.Words.{
   stationWords,
   stopWords,
+  walkWords,
+  stationCount,
   tripCount,
   stopCount,
   stationAt,
@@ -17,8 +20,11 @@ use Rattle.timetable.specs.Words.{
   stopPlace,
   stopAt,
   numberAt,
+  footPlace,
+  walkPlace,
+  walkAt,
 }
-use Rattle.timetable.specs.Check.{stationsAt, stopsAt, numbersAt, between}
+use Rattle.timetable.specs.Check.{stationsAt, stopsAt, numbersAt, walksAt, between}
 
 -- the words from i on begin with word i
 take-one : (w : List ℕ) (i n : ℕ) → i < length w → take (suc n) (drop i w) ≡ getD w i 0 ∷ take n (drop (i + 1) w)
@@ -79,6 +85,27 @@ module _ (w : List ℕ) where
       ∙ ap (λ l. getD w (numbersPlace + k) 0 ∷ l)
       (ap (λ j. take n (drop j w)) next ∙ sym (numbers-back (suc k) n (omega arith))))
 
+  walks-back : (k n : ℕ) → walkPlace w (k + n) ≤ length w
+      → walkWords (map (walkAt w) (range k n)) ≡ take (4 * n) (drop (walkPlace w k) w)
+  unfolding walkWords walkAt
+  walks-back k zero h = refl
+  walks-back k (suc n) h =
+      let p = walkPlace w k in
+      let four : 4 * suc n ≡ suc (suc (suc (suc (4 * n)))) = omega arith in
+      let two : p + 1 + 1 ≡ p + 2 = omega arith in
+      let three : p + 2 + 1 ≡ p + 3 = omega arith in
+      let next : p + 3 + 1 ≡ walkPlace w (suc k) = omega arith in
+      let rest = ap (λ j. take (4 * n) (drop j w)) next ∙ sym (walks-back (suc k) n (omega arith)) in
+      let d = take-one w (p + 3) (4 * n) (omega arith) ∙ ap (λ l. getD w (p + 3) 0 ∷ l) rest in
+      let c = take-one w (p + 2) (suc (4 * n)) (omega arith)
+      ∙ ap (λ l. getD w (p + 2) 0 ∷ l) (ap (λ j. take (suc (4 * n)) (drop j w)) three ∙ d) in
+      let b = take-one w (p + 1) (suc (suc (4 * n))) (omega arith)
+      ∙ ap (λ l. getD w (p + 1) 0 ∷ l) (ap (λ j. take (suc (suc (4 * n))) (drop j w)) two ∙ c) in
+      sym
+      (ap (λ m. take m (drop p w)) four
+      ∙ take-one w p (suc (suc (suc (4 * n)))) (omega arith)
+      ∙ ap (λ l. getD w p 0 ∷ l) b)
+
   -- ---- from one place up to another
   pub stations-part : (n : ℕ) → 3 + 2 * n ≤ length w → stationWords (stationsAt w 0 n) ≡ take (2 * n) (drop 3 w)
   unfolding between
@@ -97,3 +124,13 @@ module _ (w : List ℕ) where
       → numbersAt w i n ≡ take (n - i) (drop (numbersPlace + i) w)
   unfolding between
   numbers-part i n h g = numbers-back i (n - i) (omega arith)
+
+  pub walks-part : (n : ℕ) → walkPlace w n ≤ length w
+      → walkWords (walksAt w 0 n) ≡ take (4 * n) (drop (footPlace w + (stationCount w + 1)) w)
+  unfolding between
+  walks-part n h =
+      let all : n - 0 ≡ n = omega arith in
+      let none : walkPlace w 0 ≡ footPlace w + (stationCount w + 1) = omega arith in
+      ap (λ m. walkWords (map (walkAt w) (range 0 m))) all
+      ∙ walks-back 0 n (omega arith)
+      ∙ ap (λ j. take (4 * n) (drop j w)) none

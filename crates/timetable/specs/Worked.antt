@@ -14,6 +14,7 @@ unfoldable pub variant : (change arrival : ℕ) → Timetable
 variant c v =
     record {
       stations = station 2 10 ∷ station c 10 ∷ station 5 10 ∷ [];
+      walks = [];
       numbers = 1 ∷ 2 ∷ 3 ∷ [];
       trips =
           (stop 1 0 480 0 ∷ stop 2 500 501 0 ∷ stop 3 560 0 0 ∷ [])

@@ -1,7 +1,10 @@
 // The abstract timetable, the words that hold it, and question 9: can a text and changes after it lead to these words?
 ghost use mathlib.Core.Path.{_≡_};
 ghost use Prim.Native.Nat.{_+_, _-_, _*_, _≤_, _<_};
-ghost use lib.ListN.{length};
+ghost use mathlib.Core.Bool.{cond};
+ghost use mathlib.Core.List.{_++_};
+ghost use lib.Dec.{leb};
+ghost use lib.ListN.{length, take};
 ghost use Rattle.timetable.specs.Timetable.{
   validStation,
   listed,
@@ -11,12 +14,20 @@ ghost use Rattle.timetable.specs.Timetable.{
   runs,
   validTrip,
   validStations,
+  validWalk,
+  walkBefore,
+  validWalks,
   climb,
 };
 ghost use Rattle.words.specs.Put.{put};
 ghost use Rattle.timetable.specs.Words.{
   stationWords,
   stopWords,
+  walkWords,
+  countTo,
+  footWords,
+  walksIn,
+  front,
   joined,
   stationCount,
   tripCount,
@@ -26,10 +37,24 @@ ghost use Rattle.timetable.specs.Words.{
   stopAt,
   startAt,
   numberAt,
+  footPlace,
+  walksTo,
+  walkCount,
+  walkAt,
   isTimetable,
   timetableNumber,
 };
-ghost use Rattle.timetable.specs.Check.{begins, passes, stationsAt, stopsAt, numbersAt, tripsTest};
+ghost use Rattle.timetable.specs.Check.{
+  begins,
+  passes,
+  stationsAt,
+  stopsAt,
+  numbersAt,
+  walksAt,
+  walkStands,
+  footedFrom,
+  tripsTest,
+};
 
 // The words that every lent timetable slice has at least.
 pub const WORDS_LEAST: usize = 16384;
@@ -40,12 +65,17 @@ pub const TRIPS_MOST: u32 = 256;
 
 pub const STOPS_MOST: u32 = 2048;
 
-// The words of all stations and stops, at the limits, the places where trips begin, and their numbers.
+pub const WALKS_MOST: u32 = 256;
+
+// The words of all stations and stops, at the limits, the places where trips begin, their numbers, and the words of all
+// walks.
 pub const BODY_WORDS: usize = 2 * STATIONS_MOST as usize + 5 * STOPS_MOST as usize;
 
 pub const STARTS_WORDS: usize = TRIPS_MOST as usize + 1;
 
 pub const NUMBERS_WORDS: usize = TRIPS_MOST as usize;
+
+pub const WALKING_WORDS: usize = 4 * WALKS_MOST as usize;
 
 // The greatest number of a trip.
 pub const NUMBER_MOST: u32 = 9999;
@@ -53,6 +83,8 @@ pub const NUMBER_MOST: u32 = 9999;
 const CHANGE_MINUTES_MOST: u32 = 240;
 
 const CHANGE_PENALTY_MOST: u32 = 1000;
+
+const WALK_MINUTES_MOST: u32 = 60;
 
 pub const LAST_MINUTE: u32 = 2879;
 
@@ -62,6 +94,14 @@ const MARK_MOST: u32 = 2;
 
 // A station: what a change there takes and costs.
 pub struct Station {
+    pub minutes: u32,
+    pub points: u32,
+}
+
+// A walk from one station to another, or along one: what a change on foot takes and costs.
+pub struct Walk {
+    pub from: u32,
+    pub to: u32,
     pub minutes: u32,
     pub points: u32,
 }
@@ -142,6 +182,63 @@ pub fn number_at(words: &[u16], k: usize) -> u32
     words::word(words, place)
 }
 
+// Where what is said of walks begins.
+fn foot_place(words: &[u16]) -> usize
+    requires { ⌜ (16384 ≤ length (now words))
+        × (stationCount (now words) ≤ 64)
+        × (tripCount (now words) ≤ 256)
+        × (stopCount (now words) ≤ 2048) ⌝ }
+    ensures { λ r. ⌜ (r ≡ footPlace (now (words .entry))) × (r ≤ 10884) ⌝ }
+{
+    let stops = 3 + 2 * words::word(words, 0) as usize;
+    let starts = stops + 5 * words::word(words, 2) as usize;
+    let trips = words::word(words, 1) as usize;
+    starts + (trips + 1) + trips
+}
+
+// How many walks there are from stations up to y.
+pub fn walks_to(words: &[u16], y: usize) -> usize
+    requires { ⌜ (16384 ≤ length (now words))
+        × (stationCount (now words) ≤ 64)
+        × (tripCount (now words) ≤ 256)
+        × (stopCount (now words) ≤ 2048)
+        × (y ≤ 64) ⌝ }
+    ensures { λ r. ⌜ (r ≡ walksTo (now (words .entry)) y) × (r < 65536) ⌝ }
+{
+    let place = foot_place(words) + y;
+    words::word(words, place) as usize
+}
+
+// Where the words of the walks begin.
+fn walks_place(words: &[u16]) -> usize
+    requires { ⌜ (16384 ≤ length (now words))
+        × (stationCount (now words) ≤ 64)
+        × (tripCount (now words) ≤ 256)
+        × (stopCount (now words) ≤ 2048) ⌝ }
+    ensures { λ r. ⌜ (r ≡ footPlace (now (words .entry)) + (stationCount (now (words .entry)) + 1)) × (r ≤ 10949) ⌝ }
+{
+    let feet = foot_place(words);
+    feet + (words::word(words, 0) as usize + 1)
+}
+
+// Walk k, counted from 0.
+pub fn walk_at(words: &[u16], k: usize) -> Walk
+    requires { ⌜ (16384 ≤ length (now words))
+        × (stationCount (now words) ≤ 64)
+        × (tripCount (now words) ≤ 256)
+        × (stopCount (now words) ≤ 2048)
+        × (k < 256) ⌝ }
+    ensures { λ r. ⌜ r ≡ walkAt (now (words .entry)) k ⌝ }
+{
+    let place = walks_place(words) + 4 * k;
+    Walk {
+        from: words::word(words, place),
+        to: words::word(words, place + 1),
+        minutes: words::word(words, place + 2),
+        points: words::word(words, place + 3),
+    }
+}
+
 // Copies the words of all stations to the beginning of body.
 pub fn copy_stations(words: &[u16], body: &mut [u16])
     requires { ⌜ (16384 ≤ length (now words)) × (stationCount (now words) ≤ 64) × (length (now body) ≡ 10368) ⌝ }
@@ -196,9 +293,91 @@ pub fn copy_numbers(words: &[u16], first: usize, end: usize, numbers: &mut [u16]
     words::copy(numbers, at, part, count);
 }
 
-// Writes the words of a timetable of so many stations, trips and stops: the words of its stations and stops, which
-// body begins with, after the three counts, and after them where its trips begin and which numbers they have.
-pub fn write_words(
+// Copies the words of all walks to the beginning of walking. Returns their number.
+pub fn copy_walks(words: &[u16], walking: &mut [u16]) -> usize
+    requires { ⌜ (16384 ≤ length (now words))
+        × (stationCount (now words) ≤ 64)
+        × (tripCount (now words) ≤ 256)
+        × (stopCount (now words) ≤ 2048)
+        × (walkCount (now words) ≤ 256)
+        × (length (now walking) ≡ 1024) ⌝ }
+    ensures { λ _. ⌜ now (walking .exit)
+        ≡ put 0 (walkWords (walksAt (now (words .entry)) 0 (walkCount (now (words .entry))))) (now (walking .entry)) ⌝ }
+    ensures { λ r. ⌜ r ≡ walkCount (now (words .entry)) ⌝ }
+    ensures { λ _. ⌜ length (now (walking .exit)) ≡ length (now (walking .entry)) ⌝ }
+{
+    let walks = walks_to(words, words::word(words, 0) as usize);
+    let count = 4 * walks;
+    let from = walks_place(words);
+    let part = &words[from..from + count];
+    words::copy(walking, 0, part, count);
+    walks
+}
+
+// 1 for a walk from a station up to y.
+fn one_to(from: u32, y: u32) -> usize
+    ensures { λ r. ⌜ (r ≡ cond (leb from y) 1 0) × (r ≤ 1) ⌝ }
+{
+    if from <= y {
+        return 1;
+    }
+    0
+}
+
+// How many of so many walks, whose words begin at a place, are from stations up to y.
+fn count_to(words: &[u16], place: usize, walks: usize, y: u32) -> usize
+    requires { ⌜ (place + 4 * walks ≤ length (now words)) × (place ≤ 16384) × (walks ≤ 256) ⌝ }
+    ensures { λ r. ⌜ (r ≡ countTo (walksIn (now (words .entry)) place walks) y) × (r ≤ 256) ⌝ }
+{
+    let mut count = 0;
+    let mut k = 0;
+    while k < walks {
+        let from = words::word(words, place + 4 * k);
+        count += one_to(from, y);
+        k += 1;
+    }
+    count
+}
+
+// Writes the counts of walks by station, from index at on.
+fn write_feet(timetable: &mut [u16], at: usize, stations: usize, walks: usize, walking: &[u16])
+    requires { ⌜ (stations ≤ 64)
+        × (walks ≤ 256)
+        × (at ≤ 10884)
+        × (16384 ≤ length (now timetable))
+        × (length (now walking) ≡ 1024) ⌝ }
+    ensures { λ _. ⌜ now (timetable .exit)
+        ≡ put at (footWords stations (walksIn (now (walking .entry)) 0 walks)) (now (timetable .entry)) ⌝ }
+    ensures { λ _. ⌜ length (now (timetable .exit)) ≡ length (now (timetable .entry)) ⌝ }
+{
+    let mut y = 0;
+    while y <= stations {
+        timetable[at + y] = count_to(walking, 0, walks, y as u32) as u16;
+        y += 1;
+    }
+}
+
+// Writes what is said of so many walks, from index at on: their counts by station, and their words, which walking
+// begins with.
+fn write_walks(timetable: &mut [u16], at: usize, stations: usize, walks: usize, walking: &[u16])
+    requires { ⌜ (stations ≤ 64)
+        × (walks ≤ 256)
+        × (at ≤ 10884)
+        × (16384 ≤ length (now timetable))
+        × (length (now walking) ≡ 1024) ⌝ }
+    ensures { λ _. ⌜ now (timetable .exit)
+        ≡ put at
+        (footWords stations (walksIn (now (walking .entry)) 0 walks) ++ take (4 * walks) (now (walking .entry)))
+        (now (timetable .entry)) ⌝ }
+    ensures { λ _. ⌜ length (now (timetable .exit)) ≡ length (now (timetable .entry)) ⌝ }
+{
+    write_feet(timetable, at, stations, walks, walking);
+    words::copy(timetable, at + (stations + 1), walking, 4 * walks);
+}
+
+// Writes the three counts, the words of stations and stops, which body begins with, where the trips begin, and which
+// numbers they have.
+fn write_front(
     timetable: &mut [u16],
     stations: usize,
     trips: usize,
@@ -215,7 +394,7 @@ pub fn write_words(
         × (length (now starts) ≡ 257)
         × (length (now numbers) ≡ 256) ⌝ }
     ensures { λ _. ⌜ now (timetable .exit)
-        ≡ put 0 (joined stations trips stops (now (body .entry)) (now (starts .entry)) (now (numbers .entry)))
+        ≡ put 0 (front stations trips stops (now (body .entry)) (now (starts .entry)) (now (numbers .entry)))
         (now (timetable .entry)) ⌝ }
     ensures { λ _. ⌜ length (now (timetable .exit)) ≡ length (now (timetable .entry)) ⌝ }
 {
@@ -226,6 +405,39 @@ pub fn write_words(
     words::copy(timetable, 3, body, body_length);
     words::copy(timetable, starts_at, starts, starts_length);
     words::copy(timetable, starts_at + starts_length, numbers, trips);
+}
+
+// Writes the words of a timetable of so many stations, trips, stops and walks: the words of its stations and stops,
+// which body begins with, after the three counts; after them where its trips begin and which numbers they have; then
+// the counts of its walks by station and the words of its walks, which walking begins with.
+pub fn write_words(
+    timetable: &mut [u16],
+    stations: usize,
+    trips: usize,
+    stops: usize,
+    walks: usize,
+    body: &[u16],
+    starts: &[u16],
+    numbers: &[u16],
+    walking: &[u16],
+)
+    requires { ⌜ (stations ≤ 64)
+        × (trips ≤ 256)
+        × (stops ≤ 2048)
+        × (walks ≤ 256)
+        × (16384 ≤ length (now timetable))
+        × (length (now body) ≡ 10368)
+        × (length (now starts) ≡ 257)
+        × (length (now numbers) ≡ 256)
+        × (length (now walking) ≡ 1024) ⌝ }
+    ensures { λ _. ⌜ now (timetable .exit)
+        ≡ put 0 (joined stations trips stops walks (now (body .entry)) (now (starts .entry)) (now (numbers .entry))
+        (now (walking .entry))) (now (timetable .entry)) ⌝ }
+    ensures { λ _. ⌜ length (now (timetable .exit)) ≡ length (now (timetable .entry)) ⌝ }
+{
+    let feet_at = 3 + (2 * stations + 5 * stops) + (trips + 1) + trips;
+    write_front(timetable, stations, trips, stops, body, starts, numbers);
+    write_walks(timetable, feet_at, stations, walks, walking);
 }
 
 // ---- question 9, from its parts
@@ -372,6 +584,106 @@ fn stations_are_valid(words: &[u16], n: usize) -> bool
     true
 }
 
+// The walk's stations are listed, of n stations, and its minutes and penalty are in range.
+fn walk_is_valid(n: u32, v: Walk) -> bool
+    ensures { λ r. ⌜ r ≡ validWalk n v ⌝ }
+{
+    if v.from < 1 {
+        return false;
+    }
+    if n < v.from {
+        return false;
+    }
+    if v.to < 1 {
+        return false;
+    }
+    if n < v.to {
+        return false;
+    }
+    if v.minutes < 1 {
+        return false;
+    }
+    if WALK_MINUTES_MOST < v.minutes {
+        return false;
+    }
+    if v.points < 1 {
+        return false;
+    }
+    v.points <= CHANGE_PENALTY_MOST
+}
+
+// Walk v can come before walk u.
+fn walk_is_before(v: Walk, u: Walk) -> bool
+    ensures { λ r. ⌜ r ≡ walkBefore v u ⌝ }
+{
+    if v.from < u.from {
+        return true;
+    }
+    if v.from != u.from {
+        return false;
+    }
+    v.to < u.to
+}
+
+// Walk k of so many is valid and comes before the next.
+fn walk_stands(words: &[u16], n: u32, k: usize, walks: usize) -> bool
+    requires { ⌜ (16384 ≤ length (now words))
+        × (stationCount (now words) ≤ 64)
+        × (tripCount (now words) ≤ 256)
+        × (stopCount (now words) ≤ 2048)
+        × (k < walks)
+        × (walks ≤ 256) ⌝ }
+    ensures { λ r. ⌜ r ≡ walkStands (now (words .entry)) n k walks ⌝ }
+{
+    let v = walk_at(words, k);
+    if !walk_is_valid(n, v) {
+        return false;
+    }
+    if walks <= k + 1 {
+        return true;
+    }
+    walk_is_before(v, walk_at(words, k + 1))
+}
+
+fn walks_are_valid(words: &[u16], n: u32, walks: usize) -> bool
+    requires { ⌜ (16384 ≤ length (now words))
+        × (stationCount (now words) ≤ 64)
+        × (tripCount (now words) ≤ 256)
+        × (stopCount (now words) ≤ 2048)
+        × (walks ≤ 256) ⌝ }
+    ensures { λ r. ⌜ r ≡ validWalks n (walksAt (now (words .entry)) 0 walks) ⌝ }
+{
+    let mut k = 0;
+    while k < walks {
+        if !walk_stands(words, n, k, walks) {
+            return false;
+        }
+        k += 1;
+    }
+    true
+}
+
+// The counts of walks by station are those of the walks.
+fn walks_are_counted(words: &[u16], stations: usize, walks: usize) -> bool
+    requires { ⌜ (16384 ≤ length (now words))
+        × (stationCount (now words) ≤ 64)
+        × (tripCount (now words) ≤ 256)
+        × (stopCount (now words) ≤ 2048)
+        × (stations ≤ 64)
+        × (walks ≤ 256) ⌝ }
+    ensures { λ r. ⌜ r ≡ footedFrom (now (words .entry)) (walksAt (now (words .entry)) 0 walks) 0 (stations + 1) ⌝ }
+{
+    let place = walks_place(words);
+    let mut y = 0;
+    while y <= stations {
+        if walks_to(words, y) != count_to(words, place, walks, y as u32) {
+            return false;
+        }
+        y += 1;
+    }
+    true
+}
+
 // The numbers of the trips rise, from 1 at least to the greatest at most.
 fn numbers_climb(words: &[u16], trips: usize) -> bool
     requires { ⌜ (16384 ≤ length (now words))
@@ -453,6 +765,16 @@ pub fn is_timetable(words: &[u16]) -> bool
         return false;
     }
     if !stations_are_valid(words, stations as usize) {
+        return false;
+    }
+    let walks = walks_to(words, stations as usize);
+    if (WALKS_MOST as usize) < walks {
+        return false;
+    }
+    if !walks_are_valid(words, stations, walks) {
+        return false;
+    }
+    if !walks_are_counted(words, stations as usize, walks) {
         return false;
     }
     trips_are_valid(words, stations, trips as usize, stops as usize)

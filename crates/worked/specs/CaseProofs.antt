@@ -67,7 +67,7 @@ three-stations = refl
 lines-M : lineCount M ≡ 2
 lines-M = sym (length-map (lines (M .trips)) (map (numberOf M))) ∙ ap length case-e
 
-words-long : length (words M) ≡ 51
+words-long : length (words M) ≡ 55
 words-long = ap length M-words
 
 tables-long : length (tableWords M) ≡ 56
@@ -106,7 +106,7 @@ unfolding M variant ridesOf mayBoard mayAlight ridePoints changesOf directs
 direct-none = refl
 
 -- ---- the calls on M
-known-M : Known textM M 10 2
+pub known-M : Known textM M 10 2
 known-M = record { accepted = M-accepted; counted = lines-M; few-lines = omega arith; few-counted = omega arith }
 
 known-f : Known (textWith "3" "08:34") (variant 3 514) 10 3
@@ -121,12 +121,12 @@ known-i = record { accepted = accepted-i; counted = lines-i; few-lines = omega a
 
 module _ (s : Slices) where
   store-of : (a x y : ℕ) (rest : List ℕ) → storeWords (net M) a ≡ x ∷ y ∷ rest → 1 ≤ a → a ≤ 3
-      → x + y ≤ 4 → 2 + 2 * x + 2 * y ≡ length (x ∷ y ∷ rest) → Stores s textM a (x ∷ y ∷ rest)
+      → x + y ≤ 4 → 2 + 3 * x + 2 * y ≡ length (x ∷ y ∷ rest) → Stores s textM a (x ∷ y ∷ rest)
   store-of a x y rest known h g few counted =
       store-known s textM M 10 2 known-M a x y rest known h (omega (arith, three-stations))
       (omega arith) (omega arith) counted
 
-  store-b : Stores s textM 1 (1 ∷ 3 ∷ 2 ∷ 0 ∷ 2 ∷ 0 ∷ 3 ∷ 0 ∷ 3 ∷ 1 ∷ [])
+  store-b : Stores s textM 1 (1 ∷ 3 ∷ 2 ∷ 2 ∷ 0 ∷ 2 ∷ 0 ∷ 3 ∷ 0 ∷ 3 ∷ 1 ∷ [])
   store-b = store-of 1 1 3 _ case-b (omega arith) (omega arith) (omega arith) refl
 
   store-c : Stores s textM 2 (0 ∷ 1 ∷ 3 ∷ 0 ∷ [])
@@ -161,7 +161,7 @@ module _ (s : Slices) where
       trips-handed s textM M 10 2 known-M line h (omega (arith, lines-M))
       ∙ ap (λ l. getD l (line - 1) []) case-e
 
-  words-m : timetableAfter s textM ≡ words M ++ drop 51 (s .timetable)
+  words-m : timetableAfter s textM ≡ words M ++ drop 55 (s .timetable)
   words-m = read-writes s textM M 10 2 known-M ∙ ap (λ k. words M ++ drop k (s .timetable)) words-long
 
   words-e : tablesAfter s textM ≡ tableWords M ++ drop 56 (s .tables)
@@ -176,7 +176,7 @@ module _ (s : Slices) where
   words-k = rw (le-leb 16384 (length (s .timetable)) (s .timetable-long), case-k)
 
   -- ---- where there is room
-  module _ (room : Room s 10 15) where
+  module _ (room : Room s 11 15) where
     stored-four : 4 ≤ length (s .store)
     stored-four = omega (arith, room .store-long)
 
@@ -207,7 +207,7 @@ well-j : (post : List ℕ) → wellMade 3 (0 ∷ 1 ∷ 3 ∷ 0 ∷ post) ≡ tru
 well-j post = ap (λ k. wellMade k (0 ∷ 1 ∷ 3 ∷ 0 ∷ post)) (sym three-stations) ∙ defined .j-well-made post
 
 -- the theorem, where there is room for the longest store and answer
-pub cases : (s : Slices) → Room s 10 15 → Cases s
+pub cases : (s : Slices) → Room s 11 15 → Cases s
 cases s room =
     record {
       m = read-done s textM M 10 2 known-M;

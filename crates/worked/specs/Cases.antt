@@ -1,7 +1,8 @@
 -- Document 01: "Cases a to k stand together under one theorem about the definitions." Here they are as replies and
 -- words of the calls: from the bytes of a text to the words of an answer, in slices of any length that suffices, with
 -- any words in them before. The theorem is `cases` in CaseProofs.antt. demands/specs/Cases.antt has the same cases as
--- lists, rows and stores. Night.antt has a timetable whose values are unlike each other. Both are for a reader.
+-- lists, rows and stores. Night.antt has a timetable whose values are unlike each other, and Walks.antt timetables with
+-- walks. All are for a reader.
 use mathlib.Core.Path.{_≡_}
 use mathlib.Core.Bool.{true}
 use mathlib.Core.List.{List, [], _∷_, _++_}
@@ -46,7 +47,7 @@ textWith change arrival =
 pub record Cases (s : Slices) : Type 0 where
   -- "Timetable M": 10 lines. "Words past a result keep their values", here and below.
   pub m : read s textM ≡ returned 0 10
-  pub m-words : timetableAfter s textM ≡ words M ++ drop 51 (s .timetable)
+  pub m-words : timetableAfter s textM ≡ words M ++ drop 55 (s .timetable)
   pub m-with : textWith "3" "08:40" ≡ textM
   -- "(a) The two queries above.": `Q,1,3,470,2` with its rows, and `N,1,3,481,14`, each from the store of 1
   pub a : asked s textM 1 3 470 ≡ returned 0 2
@@ -54,10 +55,11 @@ pub record Cases (s : Slices) : Type 0 where
       ≡ twoRides 50 10 1 1 2 2 1 2 ++ oneRide 90 0 1 1 3 ++ drop 15 (s .answer)
   pub a-none : asked s textM 1 3 481 ≡ returned 14 0
   pub a-none-words : answerSlice s textM 1 3 481 ≡ s .answer
-  -- "(b) Store of 1: 1,3,2,0,2,0,3,0,3,1." "A store call returns its words", as many as there are
-  pub b : made s textM 1 ≡ returned 0 10
+  -- "(b) Store of 1", where document 02, One, has "case b reads 1,3,2,2,0,2,0,3,0,3,1"; "A store call returns its
+  -- words", as many as there are
+  pub b : made s textM 1 ≡ returned 0 11
   pub b-words : storeSlice s textM 1
-      ≡ (1 ∷ 3 ∷ 2 ∷ 0 ∷ 2 ∷ 0 ∷ 3 ∷ 0 ∷ 3 ∷ 1 ∷ []) ++ drop 10 (s .store)
+      ≡ (1 ∷ 3 ∷ 2 ∷ 2 ∷ 0 ∷ 2 ∷ 0 ∷ 3 ∷ 0 ∷ 3 ∷ 1 ∷ []) ++ drop 11 (s .store)
   -- "(c) Of 2: 0,1,3,0."
   pub c : made s textM 2 ≡ returned 0 4
   pub c-words : storeSlice s textM 2 ≡ (0 ∷ 1 ∷ 3 ∷ 0 ∷ []) ++ drop 4 (s .store)

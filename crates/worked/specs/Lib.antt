@@ -5,3 +5,5 @@ pub mod CaseProofs
 pub mod Night
 pub mod NightRows
 pub mod NightProofs
+pub mod Walks
+pub mod WalkProofs

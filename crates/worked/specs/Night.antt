@@ -1,6 +1,6 @@
 -- A second worked timetable beside M: six trips of one night, in which no two values are alike but where a tie or a
 -- line asks for it. Its cases are replies and words of the calls, as those of M are. They were worked out by the
--- implementation in tests/, which is written from document 01 alone (tests/tests/night.rs holds it and the library to
+-- implementation in tests/, which is written from the documents alone (tests/tests/night.rs holds it and the library to
 -- them). The theorem is `night-cases` in NightProofs.antt.
 --
 -- Trip 1 calls twice at station 4, and trips 5 and 6 share a line. Each step of the rule for equal cost settles a query
@@ -32,6 +32,7 @@ unfoldable pub night : Timetable
 night =
     record {
       stations = station 1 5 ∷ station 7 27 ∷ station 4 33 ∷ station 3 29 ∷ station 2 6 ∷ [];
+      walks = [];
       numbers = 1 ∷ 2 ∷ 3 ∷ 4 ∷ 5 ∷ 6 ∷ [];
       trips =
           (stop 4 0 50 12 ∷ stop 1 52 55 14 ∷ stop 4 58 60 19 ∷ stop 5 64 0 0 ∷ [])
@@ -44,7 +45,7 @@ night =
     }
 
 -- its words: the counts; the stations; the stops, trip by trip; where the trips begin, and the end; the numbers of the
--- trips
+-- trips; how many walks there are from no station, and up to each
 abbrev pub nightWords : List ℕ
 nightWords =
     (5 ∷ 6 ∷ 16 ∷ [])
@@ -57,6 +58,7 @@ nightWords =
     ++ (5 ∷ 0 ∷ 65 ∷ 17 ∷ 0 ∷ 3 ∷ 70 ∷ 0 ∷ 0 ∷ 0 ∷ [])
     ++ (0 ∷ 4 ∷ 7 ∷ 10 ∷ 12 ∷ 14 ∷ 16 ∷ [])
     ++ (1 ∷ 2 ∷ 3 ∷ 4 ∷ 5 ∷ 6 ∷ [])
+    ++ (0 ∷ 0 ∷ 0 ∷ 0 ∷ 0 ∷ 0 ∷ [])
 
 -- the words of its line tables: the counts, and where the stations' lists are told; where the lines stand; line by
 -- line; where the lists stand; the lists, of which that of station 4 has line 2 twice
@@ -83,7 +85,7 @@ threeRides d p t x y t′ x′ y′ t″ x″ y″ = d ∷ p ∷ 3 ∷ t ∷ x �
 pub record NightCases (s : Slices) : Type 0 where
   -- ---- reading, building line tables, and the trips of each line
   pub text : read s textNight ≡ returned 0 21
-  pub text-words : timetableAfter s textNight ≡ nightWords ++ drop 106 (s .timetable)
+  pub text-words : timetableAfter s textNight ≡ nightWords ++ drop 112 (s .timetable)
   pub tables : built s textNight ≡ returned 0 5
   pub tables-words : tablesAfter s textNight ≡ nightTables ++ drop 133 (s .tables)
   pub line-1 : tripsOf s textNight 1 ≡ 3 ∷ []
@@ -92,15 +94,15 @@ pub record NightCases (s : Slices) : Type 0 where
   pub line-4 : tripsOf s textNight 4 ≡ 4 ∷ []
   pub line-5 : tripsOf s textNight 5 ≡ 5 ∷ 6 ∷ []
   -- ---- the stores: the counts; the prefix nodes; the arcs
-  pub store-1 : Stores s textNight 1 ((1 ∷ 4 ∷ []) ++ (5 ∷ 0 ∷ []) ++ (3 ∷ 0 ∷ 3 ∷ 1 ∷ 4 ∷ 0 ∷ 5 ∷ 0 ∷ []))
+  pub store-1 : Stores s textNight 1 ((1 ∷ 4 ∷ []) ++ (5 ∷ 5 ∷ 0 ∷ []) ++ (3 ∷ 0 ∷ 3 ∷ 1 ∷ 4 ∷ 0 ∷ 5 ∷ 0 ∷ []))
   pub store-2 : Stores s textNight 2
       ((6 ∷ 10 ∷ [])
-      ++ (1 ∷ 0 ∷ 4 ∷ 0 ∷ 5 ∷ 1 ∷ 1 ∷ 2 ∷ 5 ∷ 2 ∷ 5 ∷ 4 ∷ [])
+      ++ (1 ∷ 1 ∷ 0 ∷ 4 ∷ 4 ∷ 0 ∷ 5 ∷ 5 ∷ 1 ∷ 1 ∷ 1 ∷ 2 ∷ 5 ∷ 5 ∷ 2 ∷ 5 ∷ 5 ∷ 4 ∷ [])
       ++ (1 ∷ 0 ∷ 1 ∷ 2 ∷ 3 ∷ 3 ∷ 3 ∷ 4 ∷ 3 ∷ 5 ∷ 3 ∷ 6 ∷ 4 ∷ 0 ∷ 5 ∷ 1 ∷ 5 ∷ 2 ∷ 5 ∷ 4 ∷ []))
   pub store-3 : Stores s textNight 3 (0 ∷ 0 ∷ [])
   pub store-4 : Stores s textNight 4
       ((3 ∷ 6 ∷ [])
-      ++ (1 ∷ 0 ∷ 5 ∷ 0 ∷ 5 ∷ 1 ∷ [])
+      ++ (1 ∷ 1 ∷ 0 ∷ 5 ∷ 5 ∷ 0 ∷ 5 ∷ 5 ∷ 1 ∷ [])
       ++ (1 ∷ 0 ∷ 3 ∷ 1 ∷ 3 ∷ 2 ∷ 3 ∷ 3 ∷ 5 ∷ 0 ∷ 5 ∷ 1 ∷ []))
   pub store-5 : Stores s textNight 5 (0 ∷ 1 ∷ 3 ∷ 0 ∷ [])
   -- ---- the rule for equal cost, step by step, in queries from the stores that were made. "departs latest": the change
@@ -134,9 +136,10 @@ pub record NightCases (s : Slices) : Type 0 where
   -- ---- sequences struck, whatever words stand behind the store: of source 2 the sequence 1, 5, 3 is left; of source 1
   -- the sequence 5, 3, where the second trip settles the tie
   pub struck : (post : List ℕ)
-      → Shows s textNight (2 ∷ 1 ∷ 1 ∷ 0 ∷ 5 ∷ 1 ∷ 3 ∷ 2 ∷ post) 2 3 40 (threeRides 30 98 3 1 3 1 2 4 2 2 3 ∷ [])
-  pub struck-none : (post : List ℕ) → ShowsNone s textNight (2 ∷ 1 ∷ 1 ∷ 0 ∷ 5 ∷ 1 ∷ 3 ∷ 2 ∷ post) 2 5 40
+      → Shows s textNight (2 ∷ 1 ∷ 1 ∷ 1 ∷ 0 ∷ 5 ∷ 5 ∷ 1 ∷ 3 ∷ 2 ∷ post) 2 3 40
+      (threeRides 30 98 3 1 3 1 2 4 2 2 3 ∷ [])
+  pub struck-none : (post : List ℕ) → ShowsNone s textNight (2 ∷ 1 ∷ 1 ∷ 1 ∷ 0 ∷ 5 ∷ 5 ∷ 1 ∷ 3 ∷ 2 ∷ post) 2 5 40
   pub struck-trip : (post : List ℕ)
-      → Shows s textNight (1 ∷ 1 ∷ 5 ∷ 0 ∷ 3 ∷ 1 ∷ post) 1 3 40 (twoRides 30 31 2 1 2 5 1 2 ∷ [])
+      → Shows s textNight (1 ∷ 1 ∷ 5 ∷ 5 ∷ 0 ∷ 3 ∷ 1 ∷ post) 1 3 40 (twoRides 30 31 2 1 2 5 1 2 ∷ [])
   -- and a store that names a sixth station
   pub ill-made : (post : List ℕ) → IllMade s textNight (0 ∷ 1 ∷ 6 ∷ 0 ∷ post) 1 3 40

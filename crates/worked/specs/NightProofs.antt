@@ -5,10 +5,8 @@ use mathlib.Core.Bool.{true, false, _&&_}
 use mathlib.Core.List.{List, [], _∷_, _++_, map}
 use Prim.Native.Nat.{ℕ, _+_, _*_, _-_, _≤_}
 use native.Mathlib.Omega.{arith}
-use borrow.Author.Tests.{leb-true, eqb-false}
 use lib.Dec.{leb, eqb}
 use lib.ListN.{length, getD, drop, length-map}
-use Rattle.lists.specs.Tests.{and-left, and-right}
 use Rattle.timetable.specs.Timetable.{numberOf, lastMinute}
 use Rattle.connections.specs.Connections.{net}
 use Rattle.connections.specs.Planner.{plannerList, rowsOf}
@@ -56,6 +54,7 @@ use Rattle.worked.specs.NightRows.{
 }
 use Rattle.worked.specs.Replied.{
   Known,
+  query-known,
   read-done,
   read-writes,
   built-done,
@@ -71,26 +70,13 @@ use Rattle.worked.specs.Replied.{
   no-rides,
 }
 
--- a query that names two of the five stations, and a minute
-query : (a b u : ℕ) → (leb 1 a && leb a 5) ≡ true → (leb 1 b && leb b 5) ≡ true → eqb b a ≡ false
-    → leb u lastMinute ≡ true → Query (net night) a u b
-unfolding night
-query a b u from to other minute =
-    record {
-      source-first = leb-true 1 a (and-left (leb 1 a) (leb a 5) from);
-      source-last = leb-true a 5 (and-right (leb 1 a) (leb a 5) from);
-      target =
-          record {
-            first = leb-true 1 b (and-left (leb 1 b) (leb b 5) to);
-            last = leb-true b 5 (and-right (leb 1 b) (leb b 5) to);
-            other = eqb-false b a other;
-          };
-      minute = leb-true u lastMinute minute;
-    }
-
 five-stations : length (night .stations) ≡ 5
 unfolding night
 five-stations = refl
+
+query : (a b u : ℕ) → (leb 1 a && leb a 5) ≡ true → (leb 1 b && leb b 5) ≡ true → eqb b a ≡ false
+    → leb u lastMinute ≡ true → Query (net night) a u b
+query a b u = query-known night 5 a b u five-stations
 
 five-lines : lineCount night ≡ 5
 five-lines = sym (length-map (lines (night .trips)) (map (numberOf night))) ∙ ap length night-lines
@@ -100,7 +86,7 @@ known = record { accepted = night-accepted; counted = five-lines; few-lines = om
 
 module _ (s : Slices) where
   store-of : (a x y : ℕ) (rest : List ℕ) → storeWords (net night) a ≡ x ∷ y ∷ rest → 1 ≤ a → a ≤ 5
-      → x + y ≤ 16 → 2 + 2 * x + 2 * y ≡ length (x ∷ y ∷ rest) → Stores s textNight a (x ∷ y ∷ rest)
+      → x + y ≤ 16 → 2 + 3 * x + 2 * y ≡ length (x ∷ y ∷ rest) → Stores s textNight a (x ∷ y ∷ rest)
   store-of a x y rest is h g few counted =
       store-known s textNight night 21 5 known a x y rest is h (omega (arith, five-stations))
       (omega arith) (omega arith) counted

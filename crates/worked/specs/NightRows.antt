@@ -6,7 +6,7 @@ use Prim.Native.Nat.{ℕ}
 use native.Mathlib.Omega.{arith}
 use borrow.Author.Tests.{le-leb}
 use lib.ListN.{length}
-use Rattle.timetable.specs.Words.{stationWords, stopWords, startWords, words}
+use Rattle.timetable.specs.Words.{stationWords, stopWords, startWords, walkWords, countTo, footWords, words}
 use Rattle.reading.specs.Reading.{Accepted, reading}
 use Rattle.accepted.specs.Cases.{bytes, readAll}
 use Rattle.results.specs.Results.{dominates, equal, entries, result}
@@ -28,7 +28,7 @@ unfolding readAll bytes textNight night
 night-accepted = refl
 
 pub night-words : words night ≡ nightWords
-unfolding words stationWords stopWords startWords night
+unfolding words stationWords stopWords startWords walkWords countTo footWords night
 night-words = refl
 
 -- ---- the lines
@@ -58,13 +58,13 @@ night-tables = refl
 
 -- ---- the stores
 pub stored-1 : storeWords (net night) 1
-    ≡ 1 ∷ 4 ∷ 5 ∷ 0 ∷ 3 ∷ 0 ∷ 3 ∷ 1 ∷ 4 ∷ 0 ∷ 5 ∷ 0 ∷ []
+    ≡ 1 ∷ 4 ∷ 5 ∷ 5 ∷ 0 ∷ 3 ∷ 0 ∷ 3 ∷ 1 ∷ 4 ∷ 0 ∷ 5 ∷ 0 ∷ []
 unfolding night ridesOf mayBoard mayAlight ridePoints changesOf plannerList connections dominates
     stored storeWords encode nodes arcs optimalStations optimals
 stored-1 = refl
 
 pub stored-2 : storeWords (net night) 2
-    ≡ 6 ∷ 10 ∷ (1 ∷ 0 ∷ 4 ∷ 0 ∷ 5 ∷ 1 ∷ 1 ∷ 2 ∷ 5 ∷ 2 ∷ 5 ∷ 4 ∷ [])
+    ≡ 6 ∷ 10 ∷ (1 ∷ 1 ∷ 0 ∷ 4 ∷ 4 ∷ 0 ∷ 5 ∷ 5 ∷ 1 ∷ 1 ∷ 1 ∷ 2 ∷ 5 ∷ 5 ∷ 2 ∷ 5 ∷ 5 ∷ 4 ∷ [])
     ++ (1 ∷ 0 ∷ 1 ∷ 2 ∷ 3 ∷ 3 ∷ 3 ∷ 4 ∷ 3 ∷ 5 ∷ 3 ∷ 6 ∷ 4 ∷ 0 ∷ 5 ∷ 1 ∷ 5 ∷ 2 ∷ 5 ∷ 4 ∷ [])
 unfolding night ridesOf mayBoard mayAlight ridePoints changesOf plannerList connections dominates
     stored storeWords encode nodes arcs optimalStations optimals
@@ -77,7 +77,8 @@ unfolding night ridesOf mayBoard mayAlight ridePoints changesOf plannerList conn
 stored-3 = refl
 
 pub stored-4 : storeWords (net night) 4
-    ≡ 3 ∷ 6 ∷ 1 ∷ 0 ∷ 5 ∷ 0 ∷ 5 ∷ 1 ∷ 1 ∷ 0 ∷ 3 ∷ 1 ∷ 3 ∷ 2 ∷ 3 ∷ 3 ∷ 5 ∷ 0 ∷ 5 ∷ 1 ∷ []
+    ≡ 3 ∷ 6 ∷ (1 ∷ 1 ∷ 0 ∷ 5 ∷ 5 ∷ 0 ∷ 5 ∷ 5 ∷ 1 ∷ [])
+    ++ (1 ∷ 0 ∷ 3 ∷ 1 ∷ 3 ∷ 2 ∷ 3 ∷ 3 ∷ 5 ∷ 0 ∷ 5 ∷ 1 ∷ [])
 unfolding night ridesOf mayBoard mayAlight ridePoints changesOf plannerList connections dominates
     stored storeWords encode nodes arcs optimalStations optimals
 stored-4 = refl
@@ -169,18 +170,18 @@ no-rides-1-3 = refl
 -- ---- from other stores: no word behind them is read
 module _ (post : List ℕ) where
   abbrev pub by-1-5 : List ℕ
-  by-1-5 = 2 ∷ 1 ∷ 1 ∷ 0 ∷ 5 ∷ 1 ∷ 3 ∷ 2 ∷ post
+  by-1-5 = 2 ∷ 1 ∷ 1 ∷ 1 ∷ 0 ∷ 5 ∷ 5 ∷ 1 ∷ 3 ∷ 2 ∷ post
 
   abbrev pub by-5 : List ℕ
-  by-5 = 1 ∷ 1 ∷ 5 ∷ 0 ∷ 3 ∷ 1 ∷ post
+  by-5 = 1 ∷ 1 ∷ 5 ∷ 5 ∷ 0 ∷ 3 ∷ 1 ∷ post
 
   pub well-by-1-5 : wellMade (length (night .stations)) by-1-5 ≡ true
   unfolding wellMade readable night
-  well-by-1-5 = rw (le-leb 8 (length by-1-5) (omega arith))
+  well-by-1-5 = rw (le-leb 10 (length by-1-5) (omega arith))
 
   pub well-by-5 : wellMade (length (night .stations)) by-5 ≡ true
   unfolding wellMade readable night
-  well-by-5 = rw (le-leb 6 (length by-5) (omega arith))
+  well-by-5 = rw (le-leb 7 (length by-5) (omega arith))
 
   pub kept-by-1-5 : answer (net night) by-1-5 2 40 3 ≡ threeRides 30 98 3 1 3 1 2 4 2 2 3 ∷ []
   unfolding night ridesOf mayBoard mayAlight ridePoints changesOf plannerList connections entries result dominates

@@ -1,18 +1,19 @@
 -- What the calls of Calls reply and write for a text that is read to a timetable, where the words of a store, or the
 -- rows of the planner's list, are known. All follows from the promises: nothing is left to ask but what is known.
 use mathlib.Core.Path.{_≡_, refl, sym, ap, _∙_}
-use mathlib.Core.Bool.{true, false}
+use mathlib.Core.Bool.{true, false, _&&_}
 use mathlib.Core.List.{List, [], _∷_, _++_}
 use Prim.Native.Nat.{ℕ, _+_, _*_, _-_, _≤_, _<_}
 use native.Mathlib.Nat.{add-zero}
 use native.Mathlib.Omega.{arith}
-use borrow.Author.Tests.{le-leb, lt-leb}
-use lib.Dec.{leb}
+use borrow.Author.Tests.{leb-true, eqb-false, le-leb, lt-leb}
+use lib.Dec.{leb, eqb}
 use lib.ListN.{length, getD, drop}
 use Rattle.words.specs.Put.{put, length-put, put-front}
 use Rattle.replies.specs.declared.Reply.the-variants.{Done}
 use Rattle.replies.specs.Replies.{numberOf, replyOf}
-use Rattle.timetable.specs.Timetable.{Timetable}
+use Rattle.lists.specs.Tests.{and-left, and-right}
+use Rattle.timetable.specs.Timetable.{Timetable, lastMinute}
 use Rattle.timetable.specs.Words.{words, timetableOf}
 use Rattle.reading.specs.Reading.{Accepted, reading, readReply, readWords}
 use Rattle.reading.specs.declared.Reply.the-variants.{Done as ReadDone}
@@ -75,6 +76,22 @@ pub record Known (text : List ℕ) (t : Timetable) (lines count : ℕ) : Type 0 
 -- with number 0 a host gets the count
 counts : (n : ℕ) → n ≡ returned 0 n
 counts n = omega arith
+
+-- a query that names two of k stations, and a minute
+pub query-known : (t : Timetable) (k a b u : ℕ) → length (t .stations) ≡ k → (leb 1 a && leb a k) ≡ true
+    → (leb 1 b && leb b k) ≡ true → eqb b a ≡ false → leb u lastMinute ≡ true → Query (net t) a u b
+query-known t k a b u is from to other minute =
+    record {
+      source-first = leb-true 1 a (and-left (leb 1 a) (leb a k) from);
+      source-last = omega (arith, is, leb-true a k (and-right (leb 1 a) (leb a k) from));
+      target =
+          record {
+            first = leb-true 1 b (and-left (leb 1 b) (leb b k) to);
+            last = omega (arith, is, leb-true b k (and-right (leb 1 b) (leb b k) to));
+            other = eqb-false b a other;
+          };
+      minute = leb-true u lastMinute minute;
+    }
 
 -- ---- rows in words
 in-turn : (r : List (List ℕ)) → rowWords r ≡ inTurn r
@@ -219,7 +236,7 @@ module _ (s : Slices) (text : List ℕ) (t : Timetable) (lines count : ℕ) (k :
   -- ---- a store whose words are known
   module _ (a x y : ℕ) (rest : List ℕ) (known : storeWords (net t) a ≡ x ∷ y ∷ rest)
       (first : 1 ≤ a) (last : a ≤ length (t .stations)) (few : x ≤ entriesMost) (few′ : y ≤ entriesMost)
-      (counted : 2 + 2 * x + 2 * y ≡ length (x ∷ y ∷ rest)) where
+      (counted : 2 + 3 * x + 2 * y ≡ length (x ∷ y ∷ rest)) where
     encoded : encode (stored (net t) a) ≡ x ∷ y ∷ rest
     unfolding storeWords
     encoded = known

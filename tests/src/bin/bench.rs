@@ -14,7 +14,7 @@ use dairyepoch_tests::ffi::{
     times_by_stop, times_by_trip, Reply, Tables,
 };
 use dairyepoch_tests::generate::{
-    largest, long_lines, most_rows, one_way, overtaking, rural, with_trips, Diamonds, DIRECT_ROWS_MOST,
+    largest, long_lines, most_rows, one_way, overtaking, rural, with_trips, with_walks, Diamonds, DIRECT_ROWS_MOST,
 };
 use dairyepoch_tests::lines::{self, LINE_WORDS, WORK_WORDS};
 use dairyepoch_tests::random::Random;
@@ -60,6 +60,12 @@ fn main() {
     for rounds in [1, 2, 4] {
         storing(&format!("stores of a rural timetable of {} trips", 32 * rounds), &rural(&mut Random::new(1), rounds));
     }
+    for walks in [64, 256] {
+        for seed in 1..=3 {
+            let what = format!("stores of rural timetable {seed} with {walks} walks");
+            storing(&what, &walking(seed, 8, walks));
+        }
+    }
     let mut random = Random::new(4);
     storing("stores of random trips", &largest(&mut random));
     storing("stores of one line of 256 trips", &long_lines());
@@ -73,11 +79,23 @@ fn main() {
         let what = format!("queries of a rural timetable of {} trips", 32 * rounds);
         asking_stores(&what, &rural(&mut Random::new(1), rounds));
     }
+    for walks in [64, 256] {
+        for rounds in [1, 2, 4, 8] {
+            let what = format!("queries of a rural timetable of {} trips with {walks} walks", 32 * rounds);
+            asking_stores(&what, &walking(1, rounds, walks));
+        }
+    }
     asking_stores("queries of random trips", &largest(&mut Random::new(4)));
     asking_stores("queries of 256 lines of one trip", &overtaking());
     asking_stores("queries in up to 507 rows of one trip of 2,044 stops", &most_rows());
     asking_stores("queries along one trip of 2,044 stops", &dear);
     asking_stores("queries of 12 diamonds", &Diamonds { count: 12, late: false, beyond: false, chain: 3 }.timetable());
+}
+
+/// A rural timetable with so many walks.
+fn walking(seed: u64, rounds: usize, walks: usize) -> Timetable {
+    let timetable = rural(&mut Random::new(seed), rounds);
+    with_walks(&mut Random::new(seed), &timetable, walks)
 }
 
 /// Whether the case of this name is to be run.

@@ -1,6 +1,6 @@
 -- The words of what the arrays hold are written over the old ones.
 use borrow.Author.Needs.{needs}
-use Rattle.changes.proofs.FillLaws.{few-stations, left-words}
+use Rattle.changes.proofs.FillLaws.{left-words}
 use Rattle.changes.proofs.leave_out.Statement.{statement}
 use Rattle.changes.proofs.leave_out.Tie as tie
 
@@ -16,15 +16,5 @@ leave-out-spec =
     (λ c. search needs)
     (λ c. search needs)
     (λ c. search needs)
-    (λ c. search needs)
-    (λ c κs. (
-      search few-stations,
-      search needs,
-      search needs,
-      search needs,
-      search needs,
-      search needs,
-      search needs,
-    ))
     (λ c. search needs)
     (λ c. (search left-words, search needs)))

@@ -1,6 +1,6 @@
 -- The words of what the arrays hold are written over the old ones.
 use borrow.Author.Needs.{needs}
-use Rattle.changes.proofs.FillLaws.{few-stations, in-words}
+use Rattle.changes.proofs.FillLaws.{in-words}
 use Rattle.changes.proofs.put_in.Statement.{statement}
 use Rattle.changes.proofs.put_in.Tie as tie
 
@@ -16,15 +16,5 @@ put-in-spec =
     (λ c. search needs)
     (λ c. search needs)
     (λ c. search needs)
-    (λ c. search needs)
-    (λ c κs. (
-      search few-stations,
-      search needs,
-      search needs,
-      search needs,
-      search needs,
-      search needs,
-      search needs,
-    ))
     (λ c. search needs)
     (λ c. (search in-words, search needs)))

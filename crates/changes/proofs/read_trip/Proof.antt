@@ -19,6 +19,7 @@ read-trip-spec =
     (λ c. search needs)
     (λ c. search needs)
     (λ c. search needs)
+    (λ c. search needs)
     (λ c. (search trip-refused, search needs))
     (λ c. search needs)
     (λ c. search needs)
@@ -26,10 +27,13 @@ read-trip-spec =
     (λ c. search needs)
     (λ c. search needs)
     (λ c. search needs)
+    (λ c. search needs)
     (λ c κs. (
       search trip-stations,
       search trip-trips,
       search trip-stops,
+      search needs,
+      search needs,
       search needs,
       search needs,
       search needs,

@@ -12,7 +12,8 @@ use Rattle.query_costs.specs.Readies.{Ready}
 use Rattle.query_costs.specs.Patterns.{changesTo}
 use Rattle.query_costs.specs.Onward.{Listed, fitting}
 use Rattle.query_costs.proofs.RideLaws.{span-none}
-use Rattle.query_costs.proofs.PatternLaws.{listed-here, ready-first, ready-next, ended, stopped}
+use Rattle.query_costs.proofs.PatternLaws.{alighted-here, boarded-here}
+use Rattle.query_costs.proofs.PatternLaws.{ready-first, ready-next, ended, stopped}
 use Rattle.query_costs.proofs.note_pattern.Statement.{statement}
 use Rattle.query_costs.proofs.note_pattern.Tie as tie
 
@@ -40,13 +41,29 @@ finish-turned-requires c κs =
 
 step-turned-requires : tie.Need-step-turned-requires Inv-loop μ-loop
 step-turned-requires c κs = (
-  (search needs, search needs, search listed-here),
+  (search needs, search needs, search alighted-here),
   (search needs, search needs, search fitting),
 )
 
 loop-again : tie.Need-loop-again Inv-loop μ-loop
 loop-again c =
-    (search needs, search needs, search needs, search needs, search needs, search listed-here, search ready-next)
+    let taken = c .before .before .before .step-turned in
+    let told = c .before .before .before .before .before .before in
+    let test = told .before in
+    let turn = test .before .before .loop in
+    let given = test .before .before .before .before .before .before .before .before .before .before .pre in
+    let stations = given .1 .1 .0 .3 in
+    let here = test .before .word .ensures .0 in
+    let there = told .word2 .ensures .0 in (
+      search needs,
+      search needs,
+      search needs,
+      search needs,
+      search needs,
+      boarded-here _ _ _ _ _ stations (turn .inv .0) (test .if1 .left) there,
+      ready-next _ (given .0 .1) _ (given .0 .2) _ _ _ (turn .inv .0) stations _ _ _ _ (turn .inv .5) _ (turn .inv .6) _
+          here _ there _ (taken .ensures .0) _ (taken .ensures .1 .1 .0),
+    )
 
 returns : tie.Need-returns Inv-loop μ-loop
 returns c = (search ended, (search needs, search within-from))
@@ -68,7 +85,12 @@ note-pattern-spec =
     (λ c. search needs)
     (λ c. search needs)
     (λ c. search needs)
+    (λ c. search needs)
     finish-turned-requires
+    (λ c. search needs)
+    (λ c. search needs)
+    (λ c. search needs)
+    (λ c. search needs)
     (λ c. search needs)
     (λ c. search needs)
     step-turned-requires

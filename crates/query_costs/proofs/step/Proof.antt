@@ -1,17 +1,15 @@
--- Blank words, the rides noted in them, and the least so far. What the change takes and costs is bounded by question 9.
+-- Blank words, the rides noted in them once for each way, and the least so far. What a change takes and costs is
+-- bounded by question 9.
 use borrow.Author.Needs.{needs}
 use Rattle.query_costs.specs.Spans.{within-from}
+use Rattle.query_costs.specs.Onward.{ways-priced}
 use Rattle.query_costs.proofs.LowestLaws.{none-before}
-use Rattle.query_costs.proofs.StepLaws.{place-few, change-minutes, change-points, step-is}
+use Rattle.query_costs.proofs.StepLaws.{step-is}
 use Rattle.query_costs.proofs.step.Statement.{statement}
 use Rattle.query_costs.proofs.step.Tie as tie
 
-change-at-requires : tie.Need-change-at-requires
-change-at-requires c κs = (search needs, search needs, search place-few)
-
-note-rides-requires : tie.Need-note-rides-requires
-note-rides-requires c κs =
-    (search needs, search needs, search needs, search change-minutes, search change-points)
+note-ways-requires : tie.Need-note-ways-requires
+note-ways-requires c κs = (search needs, search needs, search needs, search ways-priced)
 
 lowest-so-far-requires : tie.Need-lowest-so-far-requires
 lowest-so-far-requires c κs = (search needs, search needs, search within-from)
@@ -26,9 +24,9 @@ pub step-spec : {M : Type 1} → statement M
 step-spec =
     tie.close
     (tie.spec
-    change-at-requires
+    (λ c κs. search needs)
     (λ c. search needs)
-    note-rides-requires
+    note-ways-requires
     lowest-so-far-requires
     first-value-requires
     (λ c. search needs)

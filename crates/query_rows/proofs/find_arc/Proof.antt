@@ -5,8 +5,8 @@ use borrow.Author.Needs.{needs}
 use Rattle.query_rows.proofs.find_arc.Statement.{statement}
 use Rattle.query_rows.proofs.find_arc.Tie as tie
 
-arc-pattern-requires : tie.Need-arc-pattern-requires
-arc-pattern-requires c κs = (search store-made, (search needs, search needs))
+read-arc-requires : tie.Need-read-arc-requires
+read-arc-requires c κs = (search store-made, search needs, search needs)
 
 first-of-pattern-requires : tie.Need-first-of-pattern-requires
 first-of-pattern-requires c κs = (search path-given, search needs, search needs, search needs, search needs)
@@ -19,7 +19,7 @@ find-arc-spec =
     tie.close
     (tie.spec
     (λ c. search needs)
-    arc-pattern-requires
+    read-arc-requires
     (λ c. search needs)
     first-of-pattern-requires
     (λ c. search needs)

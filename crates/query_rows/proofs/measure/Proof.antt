@@ -13,7 +13,7 @@ use Rattle.query_rows.proofs.measure.Tie as tie
 abbrev Inv-loop : tie.InvT-loop
 Inv-loop words lines store from to minute best who₀ count₀ least₀ m₀ who count least m =
     (m ≤ 2880)
-    × (count ≤ 192 * m)
+    × (count ≤ 195 * m)
     × (length who ≡ 2880)
     × AllNamed words store from to minute best who
     × Counting best who (rows words store from to minute) count (least .0) m

@@ -1,17 +1,20 @@
 -- The first words of the array are the stations of the arc; its own least penalties are merged into those before it.
 use Rattle.query_rows.specs.Merged.{span-short, outside-span, bound-more}
-use Rattle.query_rows.specs.Arcs.{store-made, source-listed, stations-are, arc-few, noted-more}
+use Rattle.query_rows.specs.Arcs.{store-made, source-listed, path-long, stations-are, arc-few, noted-more}
 use borrow.Author.Needs.{needs}
 use Rattle.query_rows.proofs.note_arc.Statement.{statement}
 use Rattle.query_rows.proofs.note_arc.Tie as tie
 
-arc-pattern-requires : tie.Need-arc-pattern-requires
-arc-pattern-requires c κs = (search store-made, (search needs, search needs))
+read-arc-requires : tie.Need-read-arc-requires
+read-arc-requires c κs = (search store-made, search needs, search needs)
 
 note-pattern-requires : tie.Need-note-pattern-requires
 note-pattern-requires c κs = (
   (search needs, search needs, search needs),
-  ((search source-listed, search needs), ((search needs, search needs, search stations-are), search needs)),
+  (
+    (search source-listed, search needs),
+    ((search needs, search needs, search path-long, search stations-are), search needs),
+  ),
 )
 
 merge-requires : tie.Need-merge-requires
@@ -33,7 +36,7 @@ note-arc-spec =
     tie.close
     (tie.spec
     (λ c. search needs)
-    arc-pattern-requires
+    read-arc-requires
     (λ c. search needs)
     note-pattern-requires
     merge-requires

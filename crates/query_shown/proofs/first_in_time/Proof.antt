@@ -1,5 +1,5 @@
--- The rides written so far begin the connection that is shown; with no station left they are it. Only the first ride
--- can fail to be found.
+-- The rides written so far begin the connection that is shown; with no ride left they are it. Only the first ride can
+-- fail to be found.
 use Prim.Native.Nat.{_-_, _≤_}
 use borrow.Author.Needs.{needs}
 use Rattle.query_shown.specs.Spans.{Spans}

@@ -9,12 +9,12 @@ use Rattle.query_store.proofs.arc_pattern.Tie as tie
 
 mul-path : tie.Need-mul-path
 mul-path c =
-    let h : c .before .before .before .read-pattern .result < 64 = search arc-depth in
+    let h : c .before .before .before .read-pattern .result < 128 = search arc-depth in
     record { fits = omega arith }
 
 add-result : tie.Need-add-result
 add-result c =
-    let h : c .before .before .before .read-pattern .result < 64 = search arc-depth in
+    let h : c .before .before .before .read-pattern .result < 128 = search arc-depth in
     record { fits = omega arith }
 
 pub arc-pattern-spec : {M : Type 1} → statement M

@@ -1,4 +1,4 @@
--- The second word of the node's pair.
+-- The third word of the node's three.
 use borrow.Author.Needs.{needs}
 use Rattle.query_store.specs.Entries.{nodeParent}
 use Rattle.query_store.proofs.node_parent.Statement.{statement}

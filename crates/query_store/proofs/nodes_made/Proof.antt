@@ -5,9 +5,9 @@ use lib.ListN.{length}
 use borrow.Author.Needs.{needs}
 use Rattle.query_store.specs.Tests.{nodesTest}
 use Rattle.query_store.specs.Depths.{Depths}
-use Rattle.query_store.proofs.TestLaws.{node-unlisted, node-unknown, node-made, nodes-done, all-noted}
-use Rattle.query_store.proofs.TestLaws.{nothing-noted, same-length as kept, node-inside, parent-inside}
-use Rattle.query_store.proofs.TestLaws.{depth-small, one-deeper, root-noted}
+use Rattle.query_store.proofs.TestLaws.{node-unlisted, node-unboarded, node-unknown, node-made, nodes-done}
+use Rattle.query_store.proofs.TestLaws.{all-noted, nothing-noted, same-length as kept, node-inside}
+use Rattle.query_store.proofs.TestLaws.{parent-inside, depth-small, one-deeper, root-noted}
 use Rattle.query_store.proofs.nodes_made.Statement.{statement}
 use Rattle.query_store.proofs.nodes_made.Tie as tie
 
@@ -35,6 +35,10 @@ nodes-made-spec =
     (λ c. search needs)
     (λ c. search kept)
     (λ c. (search node-unlisted, nothing-noted _))
+    (λ c. search needs)
+    (λ c. search needs)
+    (λ c. search kept)
+    (λ c. (search node-unboarded, nothing-noted _))
     (λ c. search needs)
     (λ c. search kept)
     (λ c. (search node-unknown, nothing-noted _))

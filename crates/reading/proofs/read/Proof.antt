@@ -14,6 +14,7 @@ use Rattle.reading.proofs.ReadLaws.{
   few-stations,
   few-trips,
   few-stops,
+  few-walks,
   done-reply,
   done-values,
   done-words,
@@ -32,7 +33,6 @@ read-spec =
     (λ c. search needs)
     (λ c. search needs)
     (λ c. search needs)
-    (λ c. search needs)
     (λ c. (search refused-reply, (search refused-values, search refused-words)))
     (λ c. search needs)
     (λ c. search needs)
@@ -42,6 +42,7 @@ read-spec =
       search few-stations,
       search few-trips,
       search few-stops,
+      search few-walks,
       search needs,
       search needs,
       search needs,

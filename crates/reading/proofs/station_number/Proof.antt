@@ -1,8 +1,9 @@
--- The questions 3 to 5, in document 01's order: six ways out, each a law of `stationNumberAt`.
+-- The questions 3 to 5, in document 01's order: seven ways out, each a law of `stationNumberAt`.
 use borrow.Author.Needs.{needs}
 use Rattle.reading.proofs.NumberLaws.{
   minutes-refused,
   points-refused,
+  behind-walks,
   behind-stops,
   out-of-turn,
   stations-full,
@@ -19,6 +20,7 @@ station-number-spec =
     (λ c. search minutes-refused)
     (λ c. search needs)
     (λ c. search points-refused)
+    (λ c. search behind-walks)
     (λ c. search behind-stops)
     (λ c. search needs)
     (λ c. search needs)

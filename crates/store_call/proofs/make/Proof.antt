@@ -39,9 +39,6 @@ add-count-2 c =
 returns-2 : tie.Need-returns-2
 returns-2 c = (search short-reply, search short-words)
 
-cast-t17 : tie.Need-cast-t17
-cast-t17 c = record { fits = search count-small }
-
 returns-3 : tie.Need-returns-3
 returns-3 c = (search done-reply, search done-words)
 
@@ -59,11 +56,9 @@ make-spec =
     add-count-2
     (λ c. search needs)
     returns-2
-    (λ c. search needs)
-    (λ c. search needs)
     (λ lent. search needs)
-    (λ written κs. (search finished, search needs))
-    cast-t17
+    (λ written κs. (search needs, search finished, search needs))
+    (λ c. record { fits = search count-small })
     (λ c. search needs)
     (λ kept. search needs)
     returns-3)

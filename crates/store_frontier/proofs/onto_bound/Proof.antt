@@ -1,12 +1,8 @@
--- No departure caught allows nothing; else what the departure allows, less the points of the change.
+-- The change at the station itself, and the walks from there: the more of what they allow.
 use borrow.Author.Needs.{needs}
-use Rattle.store_frontier.proofs.PassLaws.{
-  caught-inside,
-  station-some,
-  station-few,
-  onto-some,
-  onto-none,
-}
+use Rattle.timetable.specs.Access.{stations-few}
+use Rattle.store_stops.specs.OpenWays.{station-most}
+use Rattle.store_frontier.proofs.OntoLaws.{station-some, station-listed, here-inside, onto-bounds}
 use Rattle.store_frontier.proofs.onto_bound.Statement.{statement}
 use Rattle.store_frontier.proofs.onto_bound.Tie as tie
 
@@ -14,12 +10,21 @@ pub onto-bound-spec : {M : Type 1} → statement M
 onto-bound-spec =
     tie.close
     (tie.spec
-    (λ c κs. search needs)
+    (λ c κs. (search needs, search stations-few, search needs))
     (λ c. search needs)
     (λ c κs. search needs)
     (λ c. search needs)
-    (λ c κs. search caught-inside)
-    (λ c κs. (search needs, search station-some, search station-few))
+    (λ c κs. (search needs, search station-some, search (station-most, station-listed)))
+    (λ c κs. search here-inside)
+    (λ c κs. (
+      search needs,
+      search needs,
+      search needs,
+      search needs,
+      search station-some,
+      search station-listed,
+      search needs,
+      search needs,
+    ))
     (λ c κs. search needs)
-    (λ c. search onto-some)
-    (λ c. search onto-none))
+    (λ c. search onto-bounds))

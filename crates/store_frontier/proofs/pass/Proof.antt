@@ -2,11 +2,13 @@
 use borrow.Author.Needs.{needs}
 use Rattle.store_frontier.proofs.PassLaws.{
   words-long,
+  accepted,
   stations-most,
   stop-within,
   next-within,
   next-some,
   next-few,
+  next-timely,
   first-long,
   next-caught,
   inside,
@@ -25,17 +27,27 @@ pass-spec =
     (λ c κs. (search words-long, search stations-most, search stop-within))
     (λ c κs. (
       search words-long,
-      search stations-most,
+      search accepted,
+      search needs,
       search next-within,
       search next-some,
       search next-few,
+      search next-timely,
       search first-long,
-      search needs,
-      search needs,
       search next-caught,
+      search needs,
+      search needs,
+      search needs,
+      search needs,
     ))
     (λ c κs. (search inside, search inside, search inside-high))
     (λ c. search needs)
     (λ c. search needs)
     (λ c. search needs)
-    (λ c. (search pass-more, search needs)))
+    (λ c.
+    let called = c .before .before .before .before .before .before .before .before .before .before .before .before in
+    let given =
+    called .before .before .before .before .before .before .before .before .before .before .before .before .pre in (
+      search (pass-more, given .0, given .2, given .3, given .5, given .6, given .7, given .8),
+      (search (needs, given .5), search (needs, given .6), search (needs, given .7)),
+    )))

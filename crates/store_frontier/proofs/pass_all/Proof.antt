@@ -10,7 +10,7 @@ use Rattle.store_frontier.proofs.pass_all.Statement.{statement}
 use Rattle.store_frontier.proofs.pass_all.Tie as tie
 
 abbrev Inv-loop : tie.InvT-loop
-Inv-loop words order n begin catch d e q₀ leaving₀ high₀ p₀ q leaving high p =
+Inv-loop words order n begin chain first catch d e q₀ leaving₀ high₀ p₀ q leaving high p =
     (begin ≤ p)
     × (p ≤ n)
     × (length q ≡ 2048)
@@ -19,7 +19,7 @@ Inv-loop words order n begin catch d e q₀ leaving₀ high₀ p₀ q leaving hi
     × Passed words e d (drop p (departures words)) q leaving high
 
 abbrev μ-loop : tie.MeasureT-loop
-μ-loop words order n begin catch d e q₀ leaving₀ high₀ p₀ q leaving high p = p
+μ-loop words order n begin chain first catch d e q₀ leaving₀ high₀ p₀ q leaving high p = p
 
 pub pass-all-spec : {M : Type 1} → statement M
 pass-all-spec =
@@ -30,6 +30,7 @@ pass-all-spec =
     (λ c. (search needs, search needs, search needs, search needs, search needs, search needs))
     (λ c. search needs)
     (λ c κs. (
+      search needs,
       search needs,
       search needs,
       search pass-timely,

@@ -30,6 +30,7 @@ pass-all-requires c κs = (
   search needs,
   search needs,
   search needs,
+  search needs,
   search pass-first,
 )
 

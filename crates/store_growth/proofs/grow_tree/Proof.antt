@@ -1,17 +1,18 @@
--- The arrivals are listed and the root is planted, so the tree can grow.
+-- The arrivals are listed, so the tree can be planted.
 use borrow.Author.Needs.{needs}
-use Rattle.store_growth.specs.Chunks.{planted}
 use Rattle.store_growth.proofs.grow_tree.Statement.{statement}
 use Rattle.store_growth.proofs.grow_tree.Tie as tie
 
-grow-requires : tie.Need-grow-requires
-grow-requires c κs = (
+plant-tree-requires : tie.Need-plant-tree-requires
+plant-tree-requires c κs = (
   search needs,
   search needs,
   search needs,
   search needs,
   search needs,
-  search planted,
+  search needs,
+  search needs,
+  search needs,
 )
 
 pub grow-tree-spec : {M : Type 1} → statement M
@@ -23,9 +24,7 @@ grow-tree-spec =
     (λ c. search needs)
     (λ c. search needs)
     (λ c. search needs)
-    (λ c. search needs)
-    (λ c. search needs)
-    grow-requires
+    plant-tree-requires
     (λ c. search needs)
     (λ c. search needs)
     (λ c. search needs))

@@ -5,7 +5,7 @@ use borrow.Author.Needs.{needs}
 use lib.ListN.{length, getD}
 use lib.Seq.{slice}
 use Rattle.store_departures.specs.Order.{waiting}
-use Rattle.store_marks.specs.Walks.{rootLabel}
+use Rattle.store_marks.specs.Riding.{rootLabel}
 use Rattle.store_marks.specs.Arrays.{fill}
 use Rattle.store_marks.proofs.PartLaws.{first-room, next-room, next-fits, ordered, place-inside, stop-few}
 use Rattle.store_marks.proofs.PartLaws.{stop-inside, root-start, root-on, root-done}

@@ -1,32 +1,19 @@
--- Clearing, riding and settling are the parts of a step, each over the departures of its station.
+-- The stations of the change are those that the slot stands for.
 use borrow.Author.Needs.{needs}
-use Rattle.store_marks.proofs.PartLaws.{caught-room}
-use Rattle.store_marks.proofs.PartLaws.{first-room, next-room, next-fits, ordered, end-inside, all-inside}
-use Rattle.store_marks.proofs.WholeLaws.{steps}
+use Rattle.store_marks.proofs.WholeLaws.{slot-room, slot-leads, slot-boards, slot-stepped}
 use Rattle.store_marks.proofs.label_step.Statement.{statement}
 use Rattle.store_marks.proofs.label_step.Tie as tie
 
-clear-requires : tie.Need-clear-requires
-clear-requires c κs = (search ordered, search end-inside, search all-inside)
-
-ride-all-requires : tie.Need-ride-all-requires
-ride-all-requires c κs = (search needs, ((search needs, search caught-room), (search needs, search needs)))
-
-settle-requires : tie.Need-settle-requires
-settle-requires c κs = (search ordered, search end-inside, search all-inside)
-
-returns : tie.Need-returns
-returns c = (search steps, search needs)
+step-between-requires : tie.Need-step-between-requires
+step-between-requires c κs = ((search slot-leads, search needs), (search needs, (search needs, search needs)))
 
 pub label-step-spec : {M : Type 1} → statement M
 label-step-spec =
     tie.close
     (tie.spec
-    (λ c κs. search first-room)
-    (λ c. record { fits = search next-fits })
-    (λ c κs. search next-room)
-    clear-requires
-    ride-all-requires
-    settle-requires
+    (λ c κs. (search needs, search needs, search slot-room))
     (λ c. search needs)
-    returns)
+    (λ c. search needs)
+    step-between-requires
+    (λ c. search needs)
+    (λ c. (search slot-stepped, (search slot-boards, search needs))))

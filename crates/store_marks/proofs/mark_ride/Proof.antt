@@ -14,14 +14,7 @@ mark-ride-spec =
     (λ c. (search (not-boarded, at-least-yes), (search (not-boarded, at-least-yes), search needs)))
     (λ c κs. (
       search needs,
-      search needs,
-      search needs,
-      search needs,
-      search at-least-no,
-      search needs,
-      search needs,
-      search needs,
-      search needs,
+      (search needs, (search needs, ((search needs, search needs, search at-least-no), search needs))),
     ))
     (λ c. search needs)
     (λ c. search needs)

@@ -13,11 +13,4 @@ returns-2 c = (search (raised-not, less-no), search needs)
 
 pub raise-spec : {M : Type 1} → statement M
 raise-spec =
-    tie.close
-    (tie.spec
-    (λ c. search needs)
-    (λ c. search needs)
-    (λ c. search needs)
-    (λ c. search needs)
-    returns
-    returns-2)
+    tie.close (tie.spec (λ c κs. search needs) (λ c. search needs) (λ c. search needs) returns returns-2)

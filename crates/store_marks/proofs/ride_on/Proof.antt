@@ -1,49 +1,36 @@
--- The arrivals that are left, from stop j on, come to all arrivals of the walk.
+-- The arrivals that are left, from stop j on, come to all arrivals of the ride.
 use mathlib.Core.Path.{_≡_, refl}
 use Prim.Native.Nat.{_≤_, _-_, _+_, _*_}
 use borrow.Author.Needs.{needs}
 use Rattle.query_minutes.specs.Compared.{same-yes, same-no}
 use lib.ListN.{length}
 use Rattle.timetable.specs.Access.{stations-few}
+use Rattle.connections.specs.Connections.{onFoot}
 use Rattle.store_stops.specs.Stopwise.{Goes, points as pointsOf}
-use Rattle.store_marks.specs.Walks.{visits, run, offer}
-use Rattle.store_marks.proofs.RideLaws.{next-counts, next-few, more-small, ride-ends, nearer, on-goes}
-use Rattle.store_marks.proofs.RideLaws.{
-  cost-room,
-  points-of,
-  boards-cheap,
-  more-fits,
-  on-points,
-  more-most,
-  ride-on,
-}
-use Rattle.store_marks.proofs.WordLaws.{cost-most}
+use Rattle.store_marks.specs.Riding.{visits, run, offer}
+use Rattle.store_marks.proofs.RideLaws.{next-arrival, next-counts, more-small, ride-ends, nearer, on-goes}
+use Rattle.store_marks.proofs.RideLaws.{points-of, boards-cheap, more-fits, on-points, more-most, ride-on}
 use Rattle.store_marks.proofs.ride_on.Statement.{statement}
 use Rattle.store_marks.proofs.ride_on.Tie as tie
 
 abbrev Inv-loop : tie.InvT-loop
-Inv-loop words catch c e i x₀ cost y₀ ride₀ j₀ x y ride j =
-    Goes words j × (ride .0 ≡ pointsOf words j) × (y .0 ≤ 3166900 + 100 * j) × (length x ≡ 2048)
-    × (run (offer words catch c e) (visits words c (2048 - i) i (y₀ .0)) x₀
-    ≡ run (offer words catch c e) (visits words c (2048 - j) j (y .0)) x)
+Inv-loop words chain first catch own way c i x₀ y₀ ride₀ j₀ x y ride j =
+    Goes words j × (ride .0 ≡ pointsOf words j) × (y .0 ≤ 3166900 + 100 * j) × (length x ≡ 2048) × (length x₀ ≡ 2048)
+    × (run (offer words (onFoot way)) (visits words c (2048 - i) i (y₀ .0)) x₀
+    ≡ run (offer words (onFoot way)) (visits words c (2048 - j) j (y .0)) x)
 
 abbrev μ-loop : tie.MeasureT-loop
-μ-loop words catch c e i x₀ cost y₀ ride₀ j₀ x y ride j = 2048 - j
-
-of-change-requires : tie.Need-of-change-requires Inv-loop μ-loop
-of-change-requires c κs = (search needs, search needs, search cost-room)
+μ-loop words chain first catch own way c i x₀ y₀ ride₀ j₀ x y ride j = 2048 - j
 
 stop-at-requires : tie.Need-stop-at-requires Inv-loop μ-loop
 stop-at-requires c κs = (search needs, search stations-few, search needs)
 
 loop-holds : tie.Need-loop-holds Inv-loop μ-loop
-loop-holds c = (search needs, search points-of, search boards-cheap, search needs, refl)
+loop-holds c = (search needs, search points-of, search boards-cheap, search needs, search needs, refl)
 
 ride-turn-requires : tie.Need-ride-turn-requires Inv-loop μ-loop
-ride-turn-requires c κs = (
-  (search needs, search needs, search next-few),
-  ((search needs, search cost-most, search more-small), search needs),
-)
+ride-turn-requires c κs =
+    (search needs, (search needs, ((search needs, search next-arrival, search more-small), search needs)))
 
 returns : tie.Need-returns Inv-loop μ-loop
 returns c = (search (ride-ends, same-yes), search needs)
@@ -54,6 +41,7 @@ loop-again c = (
   search (on-points, same-no),
   search more-most,
   search needs,
+  search needs,
   search (ride-on, same-no),
 )
 
@@ -63,7 +51,6 @@ ride-on-spec =
     (tie.spec
     Inv-loop
     μ-loop
-    of-change-requires
     stop-at-requires
     (λ c κs. search needs)
     loop-holds

@@ -13,16 +13,7 @@ ride-to-spec =
     (λ c. search needs)
     (λ c. search needs)
     (λ c. (search (not-boarded, at-least-yes), search needs))
-    (λ c κs. (
-      search needs,
-      search needs,
-      search needs,
-      search needs,
-      search at-least-no,
-      search needs,
-      search needs,
-      search needs,
-      search needs,
-    ))
+    (λ c κs.
+    (search needs, (search needs, ((search needs, search needs, search needs, search at-least-no), search needs))))
     (λ c. search needs)
     (λ c. (search (boarded, at-least-no), search needs)))

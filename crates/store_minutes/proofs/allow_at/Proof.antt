@@ -6,8 +6,10 @@ use Rattle.store_minutes.proofs.allow_at.Statement.{statement}
 use Rattle.store_minutes.proofs.allow_at.Tie as tie
 
 least-penalties-requires : tie.Need-least-penalties-requires
-least-penalties-requires c κs =
-    ((search needs, search needs), ((search needs, search needs), (search counted-order, search arranged)))
+least-penalties-requires c κs = (
+  (search needs, search needs),
+  ((search needs, search needs), ((search counted-order, search arranged), search needs)),
+)
 
 returns : tie.Need-returns
 returns c = (search allowed-at, search needs, search needs)

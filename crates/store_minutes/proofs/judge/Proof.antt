@@ -5,10 +5,10 @@ use Rattle.store_minutes.proofs.judge.Statement.{statement}
 use Rattle.store_minutes.proofs.judge.Tie as tie
 
 allow-at-requires : tie.Need-allow-at-requires
-allow-at-requires c κs = (search needs, search needs, search needs, search needs)
+allow-at-requires c κs = (search needs, search needs, search needs, search needs, search needs)
 
 prospects-requires : tie.Need-prospects-requires
-prospects-requires c κs = (search needs, search needs, search needs, search needs)
+prospects-requires c κs = (search needs, search needs, search needs, search needs, search needs)
 
 returns : tie.Need-returns
 returns c = (search judged-at, search needs, search needs, search needs)

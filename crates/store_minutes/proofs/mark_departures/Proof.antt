@@ -6,9 +6,17 @@ use borrow.Author.Needs.{needs}
 use Rattle.timetable.specs.Words.{stationCount}
 use Rattle.store_frontier.specs.Routes.{Routes}
 use Rattle.store_frontier.specs.Arrivals.{Arrivals}
-use Rattle.store_marks.specs.Held.{Departures}
+use Rattle.store_departures.specs.Held.{Departures}
 use Rattle.store_nodes.specs.Standing.{StandingTo}
-use Rattle.store_minutes.specs.Seeking.{Sought, sought-first, place-known, next-known, begins-before, chunked}
+use Rattle.store_minutes.specs.Seeking.{
+  Sought,
+  sought-first,
+  place-known,
+  next-known,
+  next-fits,
+  begins-before,
+  chunked,
+}
 use Rattle.store_minutes.proofs.mark_departures.Statement.{statement}
 use Rattle.store_minutes.proofs.mark_departures.Tie as tie
 
@@ -21,15 +29,15 @@ Inv-loop words order n chain first arrivals begins catch work lo hi source _ _ _
     × (source ≤ stationCount words)
     × StandingTo words source work hi
     × (lo ≤ hi)
-    × (hi ≤ lo + 48)
+    × (hi ≤ lo + 96)
     × (end ≡ getD first (source + 1) 0)
     × (getD first source 0 ≤ p)
     × (p ≤ getD first (source + 1) 0)
     × (length v ≡ 2048)
     × (length q ≡ 2048)
     × (length x ≡ 2048)
-    × (length arcs ≡ 3072)
-    × (length kids ≡ 3072)
+    × (length arcs ≡ 6144)
+    × (length kids ≡ 30720)
     × Sought words source chain (getD first source 0) p last lo hi arcs kids
 
 abbrev μ-loop : tie.MeasureT-loop
@@ -122,7 +130,7 @@ mark-departures-spec =
     (tie.spec
     Inv-loop
     μ-loop
-    (λ c. search needs)
+    (λ c. record { fits = search next-fits })
     place-at-requires
     place-at-requires-2
     loop-holds

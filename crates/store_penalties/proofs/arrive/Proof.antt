@@ -1,6 +1,16 @@
--- The word that is stored is the lesser of the two, and the offer is lowered to what it and the change come to.
+-- The word that is stored is the lesser of the two, and the changes are offered from there.
 use borrow.Author.Needs.{needs}
-use Rattle.store_penalties.proofs.ArriveLaws.{station-some, station-few, sum-fits, arrived, offered}
+use Rattle.timetable.specs.Access.{stations-few}
+use Rattle.store_penalties.proofs.ArriveLaws.{
+  station-some,
+  station-few,
+  station-is,
+  station-cheap,
+  station-caught,
+  paid-most,
+  arrived,
+  offered,
+}
 use Rattle.store_penalties.proofs.arrive.Statement.{statement}
 use Rattle.store_penalties.proofs.arrive.Tie as tie
 
@@ -10,13 +20,22 @@ arrive-spec =
     (tie.spec
     (λ c κs. search needs)
     (λ c κs. search needs)
-    (λ c κs. search needs)
+    (λ c κs. (search needs, search stations-few, search needs))
     (λ c. search needs)
-    (λ c κs. search needs)
-    (λ c. search needs)
-    (λ c κs. (search needs, search station-some, search station-few))
-    (λ c κs. search sum-fits)
-    (λ c κs. search needs)
+    (λ c κs. (
+      search needs,
+      search needs,
+      search needs,
+      search station-some,
+      search station-few,
+      search needs,
+      search station-is,
+      search needs,
+      search station-cheap,
+      search paid-most,
+      search needs,
+      search station-caught,
+    ))
     (λ c. search needs)
     (λ c. search needs)
     (λ c. (search arrived, (search offered, (search needs, search needs)))))

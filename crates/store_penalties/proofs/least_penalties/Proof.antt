@@ -19,7 +19,7 @@ least-penalties-spec =
         (search needs, search needs, refl),
         (
           (search needs, search needs),
-          ((search needs, search needs, search needs), (search needs, search needs, low-blank)),
+          (search needs, ((search needs, search needs, search needs), (search needs, search needs, low-blank))),
         ),
       ),
     ))

@@ -11,7 +11,10 @@ use Rattle.store_penalties.proofs.RideLaws.{
   next-few,
   next-some,
   next-most,
+  next-timely,
   next-cheap,
+  next-caught,
+  accepted,
   ridden,
 }
 use Rattle.store_penalties.proofs.ride.Statement.{statement}
@@ -21,8 +24,6 @@ pub ride-spec : {M : Type 1} → statement M
 ride-spec =
     tie.close
     (tie.spec
-    (λ c. search needs)
-    (λ c. search needs)
     (λ c κs. (search read-at, search read-at, search read-low))
     (λ c. search needs)
     (λ c. search needs)
@@ -32,8 +33,17 @@ ride-spec =
     (λ c. record { fits = search next-fits })
     (λ c κs. search (sum-fits, at-least-no))
     (λ c κs. (
-      (search needs, search needs, search next-few),
-      ((search next-some, search next-most, search next-cheap), (search needs, search needs)),
+      search needs,
+      search accepted,
+      search needs,
+      search next-few,
+      search next-some,
+      search next-most,
+      search next-timely,
+      search next-cheap,
+      search needs,
+      search needs,
+      search next-caught,
     ))
     (λ c. search needs)
     (λ c. search needs)

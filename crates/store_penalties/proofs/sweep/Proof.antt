@@ -10,7 +10,7 @@ use Rattle.store_penalties.proofs.sweep.Statement.{statement}
 use Rattle.store_penalties.proofs.sweep.Tie as tie
 
 abbrev Inv-loop : tie.InvT-loop
-Inv-loop words order n begin catches source d v₀ q₀ low₀ x₀ v q low x =
+Inv-loop words order n begin chain first catches source d v₀ q₀ low₀ x₀ v q low x =
     (begin ≤ x)
     × (x ≤ n)
     × (length v ≡ length v₀)
@@ -19,7 +19,7 @@ Inv-loop words order n begin catches source d v₀ q₀ low₀ x₀ v q low x =
     × Swept words source d (take x (departures words)) v q low
 
 abbrev μ-loop : tie.MeasureT-loop
-μ-loop words order n begin catches source d v₀ q₀ low₀ x₀ v q low x = n - x
+μ-loop words order n begin chain first catches source d v₀ q₀ low₀ x₀ v q low x = n - x
 
 pub sweep-spec : {M : Type 1} → statement M
 sweep-spec =
@@ -30,7 +30,10 @@ sweep-spec =
     (λ c. (search needs, search needs, search needs, search needs, search needs, search begins))
     (λ c κs. (
       (search needs, search needs),
-      ((search needs, search needs, search needs), ((search needs, search needs), (search in-time, search needs))),
+      (
+        (search needs, search needs, search needs),
+        ((search needs, search needs), (search needs, (search in-time, search needs))),
+      ),
     ))
     (λ c. search needs)
     (λ c. search needs)

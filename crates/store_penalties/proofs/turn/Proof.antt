@@ -13,7 +13,7 @@ turn-spec =
     (λ c κs. (search needs, search few, search stop-few))
     (λ c κs. (
       search needs,
-      search few,
+      search needs,
       search needs,
       search needs,
       search needs,
@@ -24,4 +24,7 @@ turn-spec =
     (λ c. search needs)
     (λ c. search needs)
     (λ c. search needs)
-    (λ c. (search once, (search needs, search needs, search needs))))
+    (λ c.
+    let called = c .before .before .before .before .before .before .before .before .before .before in
+    let given = called .before .before .before .before .before .before .before .before .before .before .pre in
+    (search (once, given), (search needs, search needs, search needs))))

@@ -5,7 +5,7 @@ use Rattle.store_tree.proofs.plant_root.Statement.{statement}
 use Rattle.store_tree.proofs.plant_root.Tie as tie
 
 returns : tie.Need-returns
-returns c = λ ps targets t. search planted
+returns c = λ words ps targets spelled near long. search planted
 
 pub plant-root-spec : {M : Type 1} → statement M
-plant-root-spec = tie.close (tie.spec (λ c. search needs) (λ c. search needs) returns)
+plant-root-spec = tie.close (tie.spec (λ c. search needs) (λ c. search needs) (λ c. search needs) returns)

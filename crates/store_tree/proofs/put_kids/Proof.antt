@@ -1,34 +1,23 @@
--- The words of the kids that the flags before index j mark have been written.
-use Rattle.store_tree.specs.Marks.{marks, marksFrom, kidWords}
-use Rattle.store_tree.proofs.Writing.{Writing}
-use Rattle.store_tree.proofs.MarkLaws.{kids-first, kid-room, kid-more, kids-done}
+-- The words of the kids that the flags of the slots before index j mark have been written.
 use mathlib.Core.Path.{_≡_}
-use Prim.Native.Nat.{_≤_, _-_, _+_}
+use Prim.Native.Nat.{_≤_, _-_}
 use lib.ListN.{length, drop}
 use borrow.Author.Needs.{needs}
+use Rattle.store_slots.specs.Writing.{Writing}
+use Rattle.store_tree.specs.Marks.{slotMarks, kidWords}
+use Rattle.store_tree.proofs.MarkLaws.{kids-first, kid-room, kid-more, kids-done, slot-near, slot-fits}
+use Rattle.store_tree.proofs.MarkLaws.{slot-low, slot-narrow}
 use Rattle.store_tree.proofs.put_kids.Statement.{statement}
 use Rattle.store_tree.proofs.put_kids.Tie as tie
 
 abbrev Inv-loop : tie.InvT-loop
-Inv-loop work₀ n v kids here₀ j₀ work here j =
-    (j ≤ 64)
+Inv-loop work₀ n v kids list here₀ j₀ work here j =
+    (j ≤ length list)
     × (length work ≡ length work₀)
-    × Writing (kidWords v (marks kids)) (kidWords v (marksFrom (j + 1) (drop j kids))) work₀ work n here
+    × Writing (kidWords v (slotMarks kids list)) (kidWords v (slotMarks kids (drop j list))) work₀ work n here
 
 abbrev μ-loop : tie.MeasureT-loop
-μ-loop work₀ n v kids here₀ j₀ work here j = 64 - j
-
-loop-holds : tie.Need-loop-holds Inv-loop μ-loop
-loop-holds c = (search needs, search needs, search kids-first)
-
-put-kid-requires : tie.Need-put-kid-requires Inv-loop μ-loop
-put-kid-requires c κs = (search needs, search needs, search kid-room)
-
-loop-again : tie.Need-loop-again Inv-loop μ-loop
-loop-again c = (search needs, search needs, search kid-more)
-
-returns : tie.Need-returns Inv-loop μ-loop
-returns c = (search kids-done, search needs)
+μ-loop work₀ n v kids list here₀ j₀ work here j = length list - j
 
 pub put-kids-spec : {M : Type 1} → statement M
 put-kids-spec =
@@ -36,13 +25,15 @@ put-kids-spec =
     (tie.spec
     Inv-loop
     μ-loop
-    loop-holds
+    (λ c. (search needs, search needs, search kids-first))
     (λ c. search needs)
     (λ c. search needs)
+    (λ c. record { fits = search slot-fits })
+    (λ c. search slot-near)
+    (λ c. record { fits = search slot-narrow })
+    (λ c κs. (search slot-low, search needs, search kid-room))
     (λ c. search needs)
-    put-kid-requires
     (λ c. search needs)
+    (λ c. (search needs, search needs, search kid-more))
     (λ c. search needs)
-    loop-again
-    (λ c. search needs)
-    returns)
+    (λ c. (search kids-done, search needs)))

@@ -1,6 +1,6 @@
 -- The targets that the flags before index j mark have been listed.
 use Rattle.store_tree.specs.Marks.{marks, marksFrom}
-use Rattle.store_tree.proofs.Writing.{Writing}
+use Rattle.store_slots.specs.Writing.{Writing}
 use Rattle.store_tree.proofs.MarkLaws.{targets-first, target-room, target-more, targets-done}
 use mathlib.Core.Path.{_≡_}
 use Prim.Native.Nat.{_≤_, _-_, _+_}

@@ -1,7 +1,7 @@
 -- The arcs to the stations before b have been written.
 use Prim.Native.Nat.{suc}
 use Rattle.store_tree.specs.Laid.{hitsOf}
-use Rattle.store_tree.proofs.Writing.{Writing, writing-first}
+use Rattle.store_slots.specs.Writing.{Writing, writing-first}
 use Rattle.store_tree.proofs.LayLaws.{station-room, station-more, stations-done}
 use mathlib.Core.Path.{_≡_}
 use Prim.Native.Nat.{_≤_, _-_, _+_}

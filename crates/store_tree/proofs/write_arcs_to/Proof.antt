@@ -1,7 +1,7 @@
 -- The arcs to b of the nodes before v have been written, whose targets end before index i.
 use Prim.Native.Nat.{suc}
 use Rattle.store_tree.specs.Laid.{nodeHits, total}
-use Rattle.store_tree.proofs.Writing.{Writing}
+use Rattle.store_slots.specs.Writing.{Writing}
 use Rattle.store_tree.proofs.LayLaws.{total-first, to-first, targets-inside, to-room, total-next, to-more}
 use Rattle.store_tree.proofs.LayLaws.{to-done, to-end}
 use mathlib.Core.Path.{_≡_}

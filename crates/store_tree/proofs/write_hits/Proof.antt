@@ -2,7 +2,7 @@
 use Rattle.store_tree.proofs.LayLaws.{hit-room}
 use Rattle.store_tree.specs.Laid.{hitsTo}
 use Rattle.store_tree.specs.LaidSteps.{hits-more, hits-none}
-use Rattle.store_tree.proofs.Writing.{Writing, writing-first, writing-more, writing-done, writing-end}
+use Rattle.store_slots.specs.Writing.{Writing, writing-first, writing-more, writing-done, writing-end}
 use mathlib.Core.Path.{_≡_}
 use Prim.Native.Nat.{_-_}
 use lib.ListN.{length}

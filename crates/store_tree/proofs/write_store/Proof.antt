@@ -1,12 +1,23 @@
 -- The two counts, the nodes and the arcs, one behind the other.
-use Rattle.store_tree.proofs.StoreLaws.{whole-total, arcs-room, store-written}
 use borrow.Author.Needs.{needs}
+use Rattle.store_tree.proofs.StoreLaws.{whole-spelled, whole-listed, whole-total, whole-stations, arcs-room}
+use Rattle.store_tree.proofs.StoreLaws.{store-written}
 use Rattle.store_tree.proofs.write_store.Statement.{statement}
 use Rattle.store_tree.proofs.write_store.Tie as tie
 
+write-nodes-requires : tie.Need-write-nodes-requires
+write-nodes-requires c κs = (
+  search needs,
+  search whole-spelled,
+  λ v h. search whole-listed,
+  search needs,
+  search needs,
+  search needs,
+)
+
 write-arcs-requires : tie.Need-write-arcs-requires
 write-arcs-requires c κs = (
-  search needs,
+  search whole-stations,
   search needs,
   search needs,
   search needs,
@@ -25,6 +36,8 @@ write-store-spec =
     (λ c. search needs)
     (λ c. search needs)
     (λ c. search needs)
+    (λ c. search needs)
+    write-nodes-requires
     (λ c. search needs)
     (λ c. search needs)
     write-arcs-requires

@@ -1,4 +1,4 @@
--- Twelve ways out: for each kind the values in its range and those out of it; a kind with no range last.
+-- Fifteen ways out: for each kind the values in its range and those out of it; a kind with no range last.
 use native.Mathlib.Omega.{arith}
 use lib.Dec.{leb·zero}
 use borrow.Author.Tests.{le-leb, lt-leb, ne-eqb}
@@ -54,16 +54,33 @@ mark-out : tie.Need-returns-11
 unfolding rangeNumber inRange
 mark-out c = simp (c .before .match .keys5, leb·zero, lt-leb (c .before .before .args .value) 2 (omega arith))
 
-no-range : tie.Need-returns-12
+walk-in : tie.Need-returns-12
+unfolding rangeNumber inRange
+walk-in c =
+    let value = c .before .before .before .args .value in
+    simp (c .before .before .match .keys6, le-leb 1 value (omega arith), le-leb value 60 (omega arith))
+
+walk-low : tie.Need-returns-13
+unfolding rangeNumber inRange
+walk-low c = simp (c .before .match .keys6, lt-leb 1 (c .before .before .args .value) (omega arith))
+
+walk-high : tie.Need-returns-14
+unfolding rangeNumber inRange
+walk-high c =
+    let value = c .before .before .before .args .value in
+    simp (c .before .before .match .keys6, le-leb 1 value (omega arith), lt-leb value 60 (omega arith))
+
+no-range : tie.Need-returns-15
 unfolding rangeNumber inRange
 no-range c =
     let rest = c .match .rest in
     simp (
-      ne-eqb _ 1 (rest .0 .0 .0 .0 .1),
-      ne-eqb _ 2 (rest .0 .0 .0 .1),
-      ne-eqb _ 3 (rest .0 .0 .1),
-      ne-eqb _ 4 (rest .0 .1),
-      ne-eqb _ 5 (rest .1),
+      ne-eqb _ 1 (rest .0 .0 .0 .0 .0 .1),
+      ne-eqb _ 2 (rest .0 .0 .0 .0 .1),
+      ne-eqb _ 3 (rest .0 .0 .0 .1),
+      ne-eqb _ 4 (rest .0 .0 .1),
+      ne-eqb _ 5 (rest .0 .1),
+      ne-eqb _ 6 (rest .1),
     )
 
 pub range-number-spec : {M : Type 1} → statement M
@@ -81,4 +98,7 @@ range-number-spec =
     points-out
     mark-in
     mark-out
+    walk-in
+    walk-low
+    walk-high
     no-range)

@@ -5,6 +5,8 @@ use Rattle.text.proofs.ShapeLaws.{
   no-comma,
   station-fields,
   station-shape,
+  walk-fields,
+  walk-shape,
   stop-fields,
   stop-shape,
   other-kind,
@@ -30,6 +32,13 @@ shape-spec =
     (λ c. search needs)
     (λ c. search needs)
     (λ c. search station-shape)
+    (λ c. search walk-fields)
+    (λ c. search needs)
+    (λ c. search needs)
+    (λ c. search needs)
+    (λ c. search needs)
+    (λ c. search needs)
+    (λ c. search walk-shape)
     (λ c. search stop-fields)
     (λ c. search needs)
     (λ c. search needs)

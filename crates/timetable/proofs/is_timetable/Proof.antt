@@ -8,6 +8,9 @@ use Rattle.timetable.proofs.DecideLaws.{
   late-start,
   bad-numbers,
   bad-stations,
+  many-walks,
+  bad-walks,
+  bad-feet,
   trips-decide,
 }
 use Rattle.timetable.proofs.is_timetable.Statement.{statement}
@@ -32,6 +35,15 @@ is-timetable-spec =
     (λ c. search needs)
     (λ c. search needs)
     (λ c. search bad-stations)
+    (λ c. search needs)
+    (λ c. search needs)
+    (λ c. search needs)
+    (λ c. search many-walks)
+    (λ c. search needs)
+    (λ c. search bad-walks)
+    (λ c. search needs)
+    (λ c. search needs)
+    (λ c. search bad-feet)
     (λ c. search needs)
     (λ c. search needs)
     (λ c. search needs)

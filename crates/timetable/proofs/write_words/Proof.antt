@@ -1,28 +1,8 @@
--- The header, the words of stations and stops, the starts and the numbers are put one behind the other: one put of them
--- all.
+-- What is said of walks stands behind the rest.
 use borrow.Author.Needs.{needs}
-use Rattle.timetable.proofs.WriteLaws.{
-  starts-fit,
-  starts-enough,
-  table-written,
-}
+use Rattle.timetable.proofs.WriteLaws.{table-written}
 use Rattle.timetable.proofs.write_words.Statement.{statement}
 use Rattle.timetable.proofs.write_words.Tie as tie
-
-all-written : tie.Need-returns
-all-written c =
-    let third = c .before .before in
-    let second = third .before .before .before .before in
-    let first = second .before .before .before .before in
-    let head = first .before .before .before .before in
-    let start = head .before .before .before .before .before .before in
-    let a = start .args in (
-      table-written (a .stations) (a .trips) (a .stops) (start .pre .0) (start .pre .1) (start .pre .2) (a .body .now)
-          (a .starts .now) (a .numbers .now) (a .timetable .now) (head .put-three .last .0) (first .copy .last .0)
-          (second .copy2 .last .0) (third .copy3 .last .0) (third .copy3 .ensures .0) (second .copy2 .ensures .0)
-          (first .copy .ensures .0) (head .put-three .ensures .0) (start .pre .3) (start .pre .4) (start .pre .5),
-      search needs,
-    )
 
 pub write-words-spec : {M : Type 1} → statement M
 write-words-spec =
@@ -38,8 +18,4 @@ write-words-spec =
     (λ c. search needs)
     (λ c. search needs)
     (λ c. search needs)
-    (λ c κs. (search starts-fit, search starts-enough))
-    (λ c. search needs)
-    (λ c κs. search needs)
-    (λ c. search needs)
-    all-written)
+    (λ c. (search table-written, search needs)))

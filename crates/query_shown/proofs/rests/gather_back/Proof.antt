@@ -1,8 +1,12 @@
 -- The promises of the callees, one put into the other.
 use borrow.Author.Needs.{needs}
 use Rattle.query_shown.proofs.GatherLaws.{gathered}
+use Rattle.query_shown.proofs.PatternLaws.{named-first, named-most}
 use Rattle.query_shown.proofs.rests.gather_back.Statement.{statement}
 use Rattle.query_shown.proofs.rests.gather_back.Tie as tie
+
+ways-between-requires : tie.Need-ways-between-requires
+ways-between-requires c κs = (search needs, search needs, search named-first, search named-most)
 
 returns : tie.Need-returns
 returns c = (search gathered, search needs)
@@ -16,6 +20,10 @@ gather-back-spec =
     (λ c. search needs)
     (λ c. search needs)
     (λ c. search needs)
+    (λ c. search needs)
+    (λ c. search needs)
+    (λ c. search needs)
+    ways-between-requires
     (λ c. search needs)
     (λ c. search needs)
     returns)

@@ -1,4 +1,4 @@
--- Behind station j of the path all is known; a step makes it so behind the station before.
+-- Behind ride j of the path all is known; a step makes it so behind the ride before.
 use borrow.Author.Needs.{needs}
 use Rattle.query_shown.specs.Spans.{Spans}
 use Rattle.query_shown.proofs.PatternLaws.{Back, given-part, rest-begins, rest-more, rest-done}

@@ -1,13 +1,22 @@
 -- The promises of the callees, one put into the other. The rides that are noted leave the window as it is.
 use borrow.Author.Needs.{needs}
-use Rattle.query_shown.proofs.PatternLaws.{back-first, back-few, gathered-spans, kept-spans}
+use Rattle.query_shown.proofs.PatternLaws.{back-first, back-most, back-few, back-inside, gathered-spans}
+use Rattle.query_shown.proofs.PatternLaws.{kept-spans}
 use Rattle.query_shown.proofs.GatherLaws.{step-done}
 use Rattle.query_shown.proofs.rests.step.Statement.{statement}
 use Rattle.query_shown.proofs.rests.step.Tie as tie
 
 gather-back-requires : tie.Need-gather-back-requires
-gather-back-requires c κs =
-    (search needs, search needs, search needs, search needs, search back-first, search back-few)
+gather-back-requires c κs = (
+  search needs,
+  search needs,
+  search needs,
+  search needs,
+  search back-few,
+  search back-inside,
+  search back-first,
+  search back-most,
+)
 
 settle-requires : tie.Need-settle-requires
 settle-requires c κs = (search needs, search needs, search gathered-spans)

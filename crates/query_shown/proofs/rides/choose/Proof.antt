@@ -4,6 +4,7 @@ use lib.ListN.{length}
 use borrow.Author.Needs.{needs}
 use Rattle.query_direct.specs.Candidates.{nearRead}
 use Rattle.query_rides.specs.Riding.{Good, nearLeft, near-falls}
+use Rattle.query_shown.specs.Prices.{frontPrice}
 use Rattle.query_shown.specs.Heads.{noRide}
 use Rattle.query_shown.specs.Turns.{tellsOf, triedAll, Sized}
 use Rattle.query_shown.proofs.ChooseLaws.{sized-told, choose-begins, choose-more, choose-done}
@@ -11,20 +12,20 @@ use Rattle.query_shown.proofs.rides.choose.Statement.{statement}
 use Rattle.query_shown.proofs.rides.choose.Tie as tie
 
 abbrev Inv-loop : tie.InvT-loop
-Inv-loop lines from to ready first left z best₀ c₀ best c =
+Inv-loop lines from to arrive first ways left z best₀ c₀ best c =
     Good lines c
     × Sized best
-    × (triedAll first z (left .0) (tellsOf noRide) (nearRead lines from ready to)
-    ≡ triedAll first z (left .0) best (nearLeft lines ready c))
+    × (triedAll first (frontPrice first ways arrive) z (left .0) (tellsOf noRide) (nearRead lines from arrive to)
+    ≡ triedAll first (frontPrice first ways arrive) z (left .0) best (nearLeft lines arrive c))
 
 abbrev μ-loop : tie.MeasureT-loop
-μ-loop lines from to ready first left z best₀ c₀ best c = length (nearLeft lines ready c)
+μ-loop lines from to arrive first ways left z best₀ c₀ best c = length (nearLeft lines arrive c)
 
 loop-holds : tie.Need-loop-holds Inv-loop μ-loop
 loop-holds c = (search needs, search needs, search choose-begins)
 
-try-ride-requires : tie.Need-try-ride-requires Inv-loop μ-loop
-try-ride-requires c κs = (search needs, search sized-told)
+try-onto-requires : tie.Need-try-onto-requires Inv-loop μ-loop
+try-onto-requires c κs = (search needs, search sized-told)
 
 loop-less : tie.Need-loop-less Inv-loop μ-loop
 loop-less c = search near-falls
@@ -44,7 +45,8 @@ choose-spec =
     (λ c. search needs)
     loop-holds
     (λ c. search needs)
-    try-ride-requires
+    (λ c. search needs)
+    try-onto-requires
     (λ c. search needs)
     loop-less
     loop-again

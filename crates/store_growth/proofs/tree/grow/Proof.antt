@@ -6,15 +6,16 @@ use borrow.Author.Needs.{needs}
 use Rattle.timetable.specs.Words.{stationCount}
 use Rattle.store_frontier.specs.Routes.{Routes}
 use Rattle.store_frontier.specs.Arrivals.{Arrivals}
-use Rattle.store_marks.specs.Held.{Departures}
+use Rattle.store_departures.specs.Held.{Departures}
 use Rattle.store_tree.specs.Tree.{Grown}
 use Rattle.stores.specs.Stored.{sequences}
+use Rattle.store_slots.specs.Slots.{slots}
 use Rattle.store_growth.specs.Chunks.{few-nodes, less-left, chunk-grown, whole-refused, whole-taken}
 use Rattle.store_growth.proofs.tree.grow.Statement.{statement}
 use Rattle.store_growth.proofs.tree.grow.Tie as tie
 
 abbrev Inv-loop : tie.InvT-loop
-Inv-loop words order count chain first arrivals begins catch source work₀ targets₀ n₀ m₀ lo₀ work targets n m lo =
+Inv-loop words order count chain first arrivals begins catch list source work₀ targets₀ n₀ m₀ lo₀ work targets n m lo =
     Routes words order count catch
     × Arrivals words arrivals begins
     × Departures words chain first
@@ -22,14 +23,16 @@ Inv-loop words order count chain first arrivals begins catch source work₀ targ
     × (source ≤ stationCount words)
     × (length work ≡ length work₀)
     × (length targets ≡ length targets₀)
-    × Grown (sequences words source) source work targets n m lo
+    × Grown words (sequences words source) source work targets n m lo
+    × (list ≡ slots words)
 
 abbrev μ-loop : tie.MeasureT-loop
-μ-loop words order count chain first arrivals begins catch source work₀ targets₀ n₀ m₀ lo₀ work targets n m lo =
+μ-loop words order count chain first arrivals begins catch list source work₀ targets₀ n₀ m₀ lo₀ work targets n m lo =
     16384 - lo
 
 loop-holds : tie.Need-loop-holds Inv-loop μ-loop
 loop-holds c = (
+  search needs,
   search needs,
   search needs,
   search needs,
@@ -45,6 +48,7 @@ chunk-end-requires c κs = (search needs, search few-nodes)
 
 grow-chunk-requires : tie.Need-grow-chunk-requires Inv-loop μ-loop
 grow-chunk-requires c κs = (
+  search needs,
   search needs,
   search needs,
   search needs,
@@ -72,6 +76,7 @@ loop-again c = (
   search needs,
   search needs,
   search chunk-grown,
+  search needs,
 )
 
 returns-2 : tie.Need-returns-2 Inv-loop μ-loop

@@ -29,9 +29,9 @@ returns c =
     let taken = c .before .before .before .before .before in
     let marked = taken .before .before .before .before .before .before .before .before .before in
     let lent = marked .before .before .before .before .before .before .before .before in
-    let p = lent .before .before .before .before .before .before .before .before .pre in
+    let p = lent .before .before .before .before .before .before .before .before .before .pre in
     let marks = marked .mark-chunk .ensures in
-    chunk-reached _ _ _ _ (p .0) _ (p .3) (p .4) _ _ _ _ _ _ (p .5) (p .6) (p .7) (p .8) _ _ (marks .0) (marks .4)
+    chunk-reached _ _ _ _ (p .0) _ _ _ _ _ _ _ (p .5) (p .6) (p .7) (p .8) _ (p .9) _ _ (marks .0) (marks .4)
     (marks .5) _ _ _
     (c .before .before .before .before .take-chunk .ensures)
 

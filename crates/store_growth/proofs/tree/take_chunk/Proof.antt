@@ -9,18 +9,18 @@ use Rattle.store_growth.proofs.tree.take_chunk.Statement.{statement}
 use Rattle.store_growth.proofs.tree.take_chunk.Tie as tie
 
 abbrev Inv-loop : tie.InvT-loop
-Inv-loop work₀ targets₀ lo hi nodes ends arcs kids n₀ m₀ v₀ work targets n m v =
+Inv-loop work₀ targets₀ lo hi nodes ends arcs kids list n₀ m₀ v₀ work targets n m v =
     (lo ≤ v)
     × (v ≤ hi)
-    × (hi ≤ lo + 48)
-    × (length arcs ≡ 3072)
-    × (length kids ≡ 3072)
+    × (hi ≤ lo + 96)
+    × (length arcs ≡ 6144)
+    × (length kids ≡ 30720)
     × (length work ≡ length work₀)
     × (length targets ≡ length targets₀)
-    × Underway work₀ targets₀ nodes ends lo hi arcs kids work targets n m v
+    × Underway list work₀ targets₀ nodes ends lo hi arcs kids work targets n m v
 
 abbrev μ-loop : tie.MeasureT-loop
-μ-loop work₀ targets₀ lo hi nodes ends arcs kids n₀ m₀ v₀ work targets n m v = hi - v
+μ-loop work₀ targets₀ lo hi nodes ends arcs kids list n₀ m₀ v₀ work targets n m v = hi - v
 
 loop-holds : tie.Need-loop-holds Inv-loop μ-loop
 loop-holds c = (
@@ -62,6 +62,8 @@ take-chunk-spec =
     Inv-loop
     μ-loop
     loop-holds
+    (λ c. search needs)
+    (λ c. search needs)
     (λ c. search needs)
     (λ c. search needs)
     (λ c. search needs)

@@ -1,5 +1,5 @@
 -- A node with which the parent does not go on has nothing to mark; the others are one change further on.
-use Rattle.store_nodes.specs.Chunk.{part-64, marked-long}
+use Rattle.store_nodes.specs.Chunk.{part-64, part-320, marked-long-64, marked-long-320}
 use Rattle.store_nodes.specs.Hope.{arcs-none, kids-none, stays-same, arcs-told, kids-told, stays}
 use borrow.Author.Needs.{needs}
 use Rattle.store_nodes.proofs.families.mark_hoped.Statement.{statement}
@@ -26,10 +26,8 @@ mark-kid-requires c κs = (
   search needs,
   search needs,
   search needs,
-  search needs,
-  search needs,
   search part-64,
-  search part-64,
+  search part-320,
 )
 
 returns-2 : tie.Need-returns-2
@@ -38,8 +36,8 @@ returns-2 c = (
   search kids-told,
   search stays,
   search needs,
-  search marked-long,
-  search marked-long,
+  search marked-long-64,
+  search marked-long-320,
 )
 
 pub mark-hoped-spec : {M : Type 1} → statement M
@@ -47,8 +45,9 @@ mark-hoped-spec =
     tie.close
     (tie.spec
     (λ c. search needs)
-    (λ c. search needs)
     returns
+    (λ c. search needs)
+    (λ c. search needs)
     (λ c. search needs)
     (λ c. search needs)
     (λ c. search needs)

@@ -1,13 +1,12 @@
--- The labels at the next station, and the marks that they tell.
+-- The labels behind one change more, and the marks that they tell.
+use Rattle.store_nodes.specs.Hope.{marked-kid}
 use borrow.Author.Needs.{needs}
 use Rattle.store_nodes.proofs.families.mark_kid.Statement.{statement}
 use Rattle.store_nodes.proofs.families.mark_kid.Tie as tie
 
 label-step-requires : tie.Need-label-step-requires
-label-step-requires c κs = (
-  (search needs, search needs),
-  ((search needs, search needs), ((search needs, search needs, search needs, search needs), search needs)),
-)
+label-step-requires c κs =
+    ((search needs, search needs), ((search needs, search needs), ((search needs, search needs), search needs)))
 
 mark-requires : tie.Need-mark-requires
 mark-requires c κs = (
@@ -27,4 +26,4 @@ mark-kid-spec =
     (λ c. search needs)
     (λ c. search needs)
     (λ c. search needs)
-    (λ c. search needs))
+    (λ c. (search marked-kid, search needs, search needs, search needs)))

@@ -17,12 +17,12 @@ Inv-loop words chain first catch work allowed q parent lo node hi c hope x₀ ar
     × (node ≤ v)
     × (v < hi)
     × (length x ≡ 2048)
-    × (length arcs ≡ 3072)
-    × (length kids ≡ 3072)
+    × (length arcs ≡ 6144)
+    × (length kids ≡ 30720)
     × (parent ≡ parentIn (getD work v 0))
     × Stays words c hope x₀ x
-    × ToldOn (ArcsAt words) words work parent lo node v c x₀ hope allowed catch q arcs₀ arcs
-    × ToldOn (KidsAt words) words work parent lo node v c x₀ hope allowed catch q kids₀ kids
+    × ToldOn 64 (ArcsAt words) words work parent lo node v c x₀ hope allowed q arcs₀ arcs
+    × ToldOn 320 (KidsAt words) words work parent lo node v c x₀ hope allowed q kids₀ kids
 
 abbrev μ-loop : tie.MeasureT-loop
 μ-loop words chain first catch work allowed q parent lo node hi c hope x₀ arcs₀ kids₀ v₀ x arcs kids v =

@@ -13,10 +13,10 @@ Inv-loop words chain first catch work lo hi source d allowed q x₀ arcs₀ kids
     (lo ≤ node)
     × (node ≤ hi)
     × (length x ≡ 2048)
-    × (length arcs ≡ 3072)
-    × (length kids ≡ 3072)
-    × Raised (ArcsAt words source d) lo node arcs₀ arcs
-    × Raised (KidsAt words source d) lo node kids₀ kids
+    × (length arcs ≡ 6144)
+    × (length kids ≡ 30720)
+    × Raised 64 (ArcsAt words source d) lo node arcs₀ arcs
+    × Raised 320 (KidsAt words source d) lo node kids₀ kids
 
 abbrev μ-loop : tie.MeasureT-loop
 μ-loop words chain first catch work lo hi source d allowed q x₀ arcs₀ kids₀ node₀ x arcs kids node =

@@ -1,12 +1,11 @@
--- The station of the node is behind the changes of its parent.
-use Rattle.store_nodes.specs.Hope.{kids-inside, sibling-inside}
-use Rattle.store_nodes.specs.Hope.{sibling-some, sibling-listed, sibling-few, sibling-apart, told-one}
+-- The change of the node is behind those of its parent.
+use Rattle.store_nodes.specs.Hope.{kids-inside, sibling-inside, sibling-onward, sibling-few, told-one}
 use borrow.Author.Needs.{needs}
 use Rattle.store_nodes.proofs.families.mark_sibling.Statement.{statement}
 use Rattle.store_nodes.proofs.families.mark_sibling.Tie as tie
 
-station-of-requires : tie.Need-station-of-requires
-station-of-requires c κs = search sibling-inside
+slot-of-requires : tie.Need-slot-of-requires
+slot-of-requires c κs = search sibling-inside
 
 mark-hoped-requires : tie.Need-mark-hoped-requires
 mark-hoped-requires c κs = (
@@ -15,10 +14,8 @@ mark-hoped-requires c κs = (
   search needs,
   search needs,
   search needs,
-  search sibling-some,
-  search sibling-listed,
+  search sibling-onward,
   search sibling-few,
-  search sibling-apart,
   search needs,
   search needs,
   search needs,
@@ -47,7 +44,7 @@ pub mark-sibling-spec : {M : Type 1} → statement M
 mark-sibling-spec =
     tie.close
     (tie.spec
-    station-of-requires
+    slot-of-requires
     mark-hoped-requires
     (λ c. search needs)
     is-kid-requires

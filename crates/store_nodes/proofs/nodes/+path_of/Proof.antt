@@ -1,4 +1,4 @@
--- The way to the parent first, then the station of the node itself.
+-- The way to the parent first, then the change of the node itself.
 use Prim.Native.Nat.{ℕ, _<_}
 use native.Mathlib.Omega.{arith}
 use borrow.Author.Needs.{needs}
@@ -10,7 +10,7 @@ use Rattle.store_nodes.proofs.nodes.path_of.Reads as path-of
 use Rattle.store_nodes.proofs.nodes.path_of.Kinds as path-of-kinds
 use Rattle.store_nodes.proofs.nodes.+path_of.Lts-path_of as path-of-lts
 use Rattle.store_tree.proofs.node_parent.Reads as node-parent-reads
-use Rattle.store_tree.proofs.node_station.Reads as node-station-reads
+use Rattle.store_tree.proofs.node_slot.Reads as node-slot-reads
 use Rattle.store_nodes.proofs.nodes.+path_of.{statement}
 use Rattle.store_nodes.proofs.nodes.+path_of.Tie.{close}
 
@@ -28,8 +28,8 @@ path-of-returns : (t : ℕ) → path-of-lts.Need-returns (
   node-parent-reads.Learnt,
   path-of-below t,
   path-of.Post,
-  node-station-reads.Asked,
-  node-station-reads.Learnt,
+  node-slot-reads.Asked,
+  node-slot-reads.Learnt,
 ) (path-of-at t) path-of.Post
 path-of-returns t c = (search root-count, search root-words)
 
@@ -38,8 +38,8 @@ path-of-mul-x : (t : ℕ) → path-of-lts.Need-mul-x (
   node-parent-reads.Learnt,
   path-of-below t,
   path-of.Post,
-  node-station-reads.Asked,
-  node-station-reads.Learnt,
+  node-slot-reads.Asked,
+  node-slot-reads.Learnt,
 ) (path-of-at t) path-of.Post
 path-of-mul-x t c =
     let b = c .before .before .before in
@@ -50,8 +50,8 @@ path-of-shared-slice-read-x : (t : ℕ) → path-of-lts.Need-shared-slice-read-x
   node-parent-reads.Learnt,
   path-of-below t,
   path-of.Post,
-  node-station-reads.Asked,
-  node-station-reads.Learnt,
+  node-slot-reads.Asked,
+  node-slot-reads.Learnt,
 ) (path-of-at t) path-of.Post
 path-of-shared-slice-read-x t c = search rooted-inside
 
@@ -60,8 +60,8 @@ path-of-path-of-requires : (t : ℕ) → path-of-lts.Need-path-of-requires (
   node-parent-reads.Learnt,
   path-of-below t,
   path-of.Post,
-  node-station-reads.Asked,
-  node-station-reads.Learnt,
+  node-slot-reads.Asked,
+  node-slot-reads.Learnt,
 ) (path-of-at t) path-of.Post
 path-of-path-of-requires t c κs =
     let b = c .before .before .before .before .before .before in
@@ -73,8 +73,8 @@ path-of-mul-path : (t : ℕ) → path-of-lts.Need-mul-path (
   node-parent-reads.Learnt,
   path-of-below t,
   path-of.Post,
-  node-station-reads.Asked,
-  node-station-reads.Learnt,
+  node-slot-reads.Asked,
+  node-slot-reads.Learnt,
 ) (path-of-at t) path-of.Post
 path-of-mul-path t c =
     let room : c .before .before .before .path-of .result < 64 = search room-for in
@@ -85,8 +85,8 @@ path-of-slice-write-path : (t : ℕ) → path-of-lts.Need-slice-write-path (
   node-parent-reads.Learnt,
   path-of-below t,
   path-of.Post,
-  node-station-reads.Asked,
-  node-station-reads.Learnt,
+  node-slot-reads.Asked,
+  node-slot-reads.Learnt,
 ) (path-of-at t) path-of.Post
 path-of-slice-write-path t c =
     let room : c .before .before .before .path-of .result < 64 = search room-for in
@@ -101,8 +101,8 @@ path-of-add-result : (t : ℕ) → path-of-lts.Need-add-result (
   node-parent-reads.Learnt,
   path-of-below t,
   path-of.Post,
-  node-station-reads.Asked,
-  node-station-reads.Learnt,
+  node-slot-reads.Asked,
+  node-slot-reads.Learnt,
 ) (path-of-at t) path-of.Post
 path-of-add-result t c =
     let room : c .before .before .before .path-of .result < 64 = search room-for in
@@ -113,8 +113,8 @@ path-of-returns-2 : (t : ℕ) → path-of-lts.Need-returns-2 (
   node-parent-reads.Learnt,
   path-of-below t,
   path-of.Post,
-  node-station-reads.Asked,
-  node-station-reads.Learnt,
+  node-slot-reads.Asked,
+  node-slot-reads.Learnt,
 ) (path-of-at t) path-of.Post
 path-of-returns-2 t c = (search node-count, search node-words)
 
@@ -124,8 +124,8 @@ pub +path-of-spec : {M : Type 1} → statement M
   node-parent-reads.Learnt,
   path-of-below t,
   path-of.Post,
-  node-station-reads.Asked,
-  node-station-reads.Learnt,
+  node-slot-reads.Asked,
+  node-slot-reads.Learnt,
 )
     (path-of-at t)
     path-of.Post

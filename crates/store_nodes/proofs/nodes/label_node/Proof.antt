@@ -1,6 +1,6 @@
 -- The path of the node is one of changes, so its labels are those of the node.
 use borrow.Author.Needs.{needs}
-use Rattle.store_nodes.specs.Standing.{node-rooted, node-path, node-station, node-labels}
+use Rattle.store_nodes.specs.Standing.{node-rooted, node-path, node-slot, node-station, node-labels}
 use Rattle.store_nodes.proofs.nodes.label_node.Statement.{statement}
 use Rattle.store_nodes.proofs.nodes.label_node.Tie as tie
 
@@ -24,7 +24,6 @@ label-node-spec =
     label-path-requires
     (λ c. search needs)
     (λ c. search needs)
-    (λ c. search needs)
-    (λ c. search needs)
+    (λ c κs. (search needs, search needs, search node-slot))
     (λ c. search needs)
     returns)

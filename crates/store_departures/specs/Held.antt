@@ -1,0 +1,91 @@
+-- The arrays that hold the departures station by station, and where each station's begin.
+use mathlib.Core.Path.{_≡_, sym, ap, subst, _∙_}
+use mathlib.Core.Bool.{true}
+use mathlib.Core.List.{List, List·Memᴰ·head as here, List·Memᴰ·tail as there}
+use Prim.Native.Nat.{ℕ, zero, suc, _+_, _-_, _≤_, _<_}
+use native.Mathlib.Omega.{arith}
+use lib.Dec.{ltb}
+use lib.ListN.{length, getD, take, drop}
+use lib.Seq.{slice, slice-cons, take-take}
+use Rattle.lists.specs.Lists.{_∈_}
+use Rattle.lists.specs.Members.{filter-few}
+use Rattle.timetable.specs.Words.{isTimetable}
+use Rattle.store_stops.specs.Stopwise.{station, Goes}
+use Rattle.store_stops.specs.TimelyLaws.{timely}
+use Rattle.store_departures.specs.Order.{beginOf, order, chain, waiting}
+use Rattle.store_departures.specs.Parts.{chain-part, begin-next, chain-length, order-length, leaving-few}
+
+-- the departures of station m stand at places first[m] up to first[m + 1] of the chain
+pub record Departures (w chained first : List ℕ) : Type 0 where
+  pub chain-long : length chained ≡ 2048
+  pub first-long : length first ≡ 66
+  pub chain-is : take (length (chain w)) chained ≡ chain w
+  pub first-is : (m : ℕ) → m ≤ 65 → getD first m 0 ≡ beginOf (station w) m (order w)
+
+-- what stands at one of the places of a part is in it
+slice-in : (l : List ℕ) (m b t : ℕ) → b + m < t → t ≤ length l → getD l (b + m) 0 ∈ slice b t l
+slice-in l zero b t h g =
+    let e : b + 0 ≡ b = omega arith in
+    rw (slice-cons b t l 0 (omega arith) g) (here (ap (λ k. getD l k 0) e))
+slice-in l (suc m) b t h g =
+    let e : suc b + m ≡ b + suc m = omega arith in
+    rw (slice-cons b t l 0 (omega arith) g)
+    (there (subst (λ k. getD l k 0 ∈ slice (suc b) t l) e (slice-in l m (suc b) t (omega arith) g)))
+
+module _ (w : List ℕ) (yes : isTimetable w ≡ true) where
+  -- a stop that is left again is one of 2,048
+  pub goes-few : (i : ℕ) → Goes w i → suc i < 2048
+  goes-few i g = omega (arith, timely w yes .few i g, timely w yes .stops)
+
+  begin-most : (m : ℕ) → beginOf (station w) m (order w) ≤ length (chain w)
+  unfolding beginOf
+  begin-most m =
+      omega (
+        arith,
+        filter-few (λ i. ltb (station w i) m) (order w),
+        chain-length w yes,
+        order-length w yes,
+      )
+
+  module _ (chained first : List ℕ) (held : Departures w chained first) (c : ℕ) (few : c ≤ 64) where
+    -- those of a station
+    pub part-ordered : getD first c 0 ≤ getD first (c + 1) 0
+    part-ordered =
+        omega (
+          arith,
+          held .first-is c (omega arith),
+          held .first-is (c + 1) (omega arith),
+          begin-next (station w) (order w) c,
+        )
+
+    pub part-most : getD first (c + 1) 0 ≤ 2048
+    part-most =
+        let e = ap length (held .chain-is) in
+        omega (
+          arith,
+          held .first-is (c + 1) (omega arith),
+          begin-most (c + 1),
+          chain-length w yes,
+          leaving-few w yes,
+          timely w yes .stops,
+        )
+
+    pub part-is : slice (getD first c 0) (getD first (c + 1) 0) chained ≡ waiting w c
+    part-is =
+        let b = held .first-is c (omega arith) in
+        let e = held .first-is (c + 1) (omega arith) in
+        let inside = begin-most (c + 1) in
+        ap (λ k. drop (getD first c 0) k)
+        (sym (take-take (getD first (c + 1) 0) (length (chain w)) chained (omega arith))
+        ∙ ap (take (getD first (c + 1) 0)) (held .chain-is))
+        ∙ ap (λ k. slice k (getD first (c + 1) 0) (chain w)) b
+        ∙ ap (λ k. slice (beginOf (station w) c (order w)) k (chain w)) e
+        ∙ chain-part w c few
+
+    pub part-in : (k : ℕ) → getD first c 0 ≤ k → k < getD first (c + 1) 0 → getD chained k 0 ∈ waiting w c
+    part-in k h g =
+        let b = getD first c 0 in
+        let e : b + (k - b) ≡ k = omega arith in
+        subst (λ r. getD chained k 0 ∈ r) part-is
+        (subst (λ i. getD chained i 0 ∈ slice b (getD first (c + 1) 0) chained) e
+        (slice-in chained (k - b) b (getD first (c + 1) 0) (omega arith) (omega (arith, part-most, held .chain-long))))

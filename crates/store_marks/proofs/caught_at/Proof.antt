@@ -1,0 +1,26 @@
+-- The array has the departures caught by changes at the station itself.
+use borrow.Author.Needs.{needs}
+use Rattle.store_marks.proofs.ArrivalLaws.{arrival-room, arrival-few, arrival-minute, way-near, caught-own}
+use Rattle.store_marks.proofs.caught_at.Statement.{statement}
+use Rattle.store_marks.proofs.caught_at.Tie as tie
+
+catch-on-foot-requires : tie.Need-catch-on-foot-requires
+catch-on-foot-requires c κs = (
+  search needs,
+  search needs,
+  search needs,
+  search arrival-few,
+  search arrival-minute,
+  search way-near,
+)
+
+pub caught-at-spec : {M : Type 1} → statement M
+caught-at-spec =
+    tie.close
+    (tie.spec
+    (λ c κs. search arrival-room)
+    (λ c. search needs)
+    (λ c. search caught-own)
+    catch-on-foot-requires
+    (λ c. search needs)
+    (λ c. search needs))

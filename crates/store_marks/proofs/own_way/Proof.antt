@@ -1,0 +1,15 @@
+-- The minutes and points are those of the station read.
+use borrow.Author.Needs.{needs}
+use Rattle.store_marks.proofs.ArrivalLaws.{own-is}
+use Rattle.store_marks.proofs.own_way.Statement.{statement}
+use Rattle.store_marks.proofs.own_way.Tie as tie
+
+pub own-way-spec : {M : Type 1} → statement M
+own-way-spec =
+    tie.close
+    (tie.spec
+    (λ c. search needs)
+    (λ c κs. search needs)
+    (λ c. search needs)
+    (λ c. search needs)
+    (λ c. search own-is))

@@ -1,0 +1,15 @@
+-- The slot of the word tells the stations of the change.
+use Rattle.store_nodes.proofs.PathLaws.{boards-there}
+use borrow.Author.Needs.{needs}
+use Rattle.store_nodes.proofs.nodes.boards_at.Statement.{statement}
+use Rattle.store_nodes.proofs.nodes.boards_at.Tie as tie
+
+pub boards-at-spec : {M : Type 1} → statement M
+boards-at-spec =
+    tie.close
+    (tie.spec
+    (λ c κs. search needs)
+    (λ c. search needs)
+    (λ c κs. search needs)
+    (λ c. search needs)
+    (λ c. search boards-there))

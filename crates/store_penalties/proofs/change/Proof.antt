@@ -1,0 +1,28 @@
+-- The change at the station itself is offered, and then those on foot.
+use borrow.Author.Needs.{needs}
+use Rattle.store_stops.specs.OpenWays.{station-most}
+use Rattle.store_penalties.proofs.ChangeLaws.{change-fits, all-open}
+use Rattle.store_penalties.proofs.change.Statement.{statement}
+use Rattle.store_penalties.proofs.change.Tie as tie
+
+pub change-spec : {M : Type 1} → statement M
+change-spec =
+    tie.close
+    (tie.spec
+    (λ c κs. search needs)
+    (λ c. search needs)
+    (λ c κs. (search needs, search needs, search station-most))
+    (λ c κs. search change-fits)
+    (λ c κs. search needs)
+    (λ c κs. (
+      search needs,
+      search needs,
+      search needs,
+      search needs,
+      search needs,
+      search needs,
+      search needs,
+      search needs,
+    ))
+    (λ c. search needs)
+    (λ c. (search all-open, search needs)))
