@@ -185,8 +185,8 @@ static inline const char *dairyepoch_words(uint32_t number)
  * Reads a timetable text (docs/FORMAT.md) and writes its words (docs/LAYOUT.md) to the start of the timetable slice.
  * The text writes arrive and depart as hh:mm; the words hold minutes, as a query's minute does. Each stop has a mark: 0
  * for both, 1 for boarding only, 2 for setting down only; any other number is refused with 3. Walks from one station to
- * another, or along one, stand between the stations and the trips. Words past the table keep their values. The text
- * needs no byte 0 at its end.
+ * another, or along one, stand between the stations and the trips; a walk along a station takes the place of the
+ * station's own change. Words past the table keep their values. The text needs no byte 0 at its end.
  *
  * Reply: 0 and the number of the text's lines; or a refusal: 8, then 1, then 2 to 6 for the first line that has one,
  * then 7.

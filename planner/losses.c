@@ -48,7 +48,7 @@ static bool is_seated(const struct loaded *loaded, const struct ride *ride, char
 
     for (number = ride->board + 1; number < ride->alight; number++) {
         const struct stop *stop = stop_of(&loaded->timetable, ride->trip, number);
-        int change = loaded->timetable.station[stop->station].change_minutes;
+        int change = change_between(&loaded->timetable, stop->station, stop->station).minutes;
         int stands = stop->depart - stop->arrive;
         if (stands < change) {
             snprintf(reason, SENTENCE_BYTES, "trip %d stands at station %s for %d minute%s, and a change takes %d",

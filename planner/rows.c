@@ -75,7 +75,7 @@ static void begin_at_time(struct flow *flow, FILE *to, int left, int minute)
 static void add_change(struct flow *flow, const struct loaded *loaded, const struct stop *alight,
                        const struct stop *next)
 {
-    struct change change = change_between(&loaded->timetable, alight, next);
+    struct change change = change_between(&loaded->timetable, alight->station, next->station);
 
     if (!change.on_foot) {
         add_words(flow, "change:");

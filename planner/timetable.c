@@ -75,34 +75,21 @@ bool is_open(const struct timetable *timetable)
     return last != NULL && last->depart != EMPTY;
 }
 
-/* Takes a way of changing if it is in time, and cheaper than the one that was taken. */
-static void try_change(struct change *taken, int gap, bool on_foot, int minutes, int penalty)
+struct change change_between(const struct timetable *timetable, int from, int to)
 {
-    if (minutes <= gap && (taken->penalty == EMPTY || penalty < taken->penalty)) {
-        taken->on_foot = on_foot;
-        taken->minutes = minutes;
-        taken->penalty = penalty;
-    }
-}
-
-struct change change_between(const struct timetable *timetable, const struct stop *alighted,
-                             const struct stop *boarded)
-{
-    const struct station *station = &timetable->station[alighted->station];
-    int gap = boarded->depart - alighted->arrive;
-    struct change taken = {false, 0, EMPTY};
+    const struct station *station = &timetable->station[from];
+    struct change change = {false, station->change_minutes, station->change_penalty};
     int at;
 
-    if (alighted->station == boarded->station) {
-        try_change(&taken, gap, false, station->change_minutes, station->change_penalty);
-    }
     for (at = 1; at <= timetable->walks; at++) {
         const struct walk *walk = &timetable->walk[at];
-        if (walk->from == alighted->station && walk->to == boarded->station) {
-            try_change(&taken, gap, true, walk->minutes, walk->penalty);
+        if (walk->from == from && walk->to == to) {
+            change.on_foot = true;
+            change.minutes = walk->minutes;
+            change.penalty = walk->penalty;
         }
     }
-    return taken;
+    return change;
 }
 
 /* Whether a ride begins at a stop: one may board there, and alight at a later stop of the trip. */

@@ -69,11 +69,10 @@ const struct stop *last_stop(const struct timetable *timetable);
 bool is_open(const struct timetable *timetable);
 
 /*
- * How one changes who alights at one station at a minute and boards at another, or the same, at a later one: rows tell
- * rides alone, and of the ways that are in time the cheapest gives the row its penalty.
+ * How one changes who alights at one station and boards at another, or the same, between two rides of a row: rows tell
+ * rides alone. A walk goes first, along a station too.
  */
-struct change change_between(const struct timetable *timetable, const struct stop *alighted,
-                             const struct stop *boarded);
+struct change change_between(const struct timetable *timetable, int from, int to);
 
 /* The minutes at which a ride begins at a station. Returns how many they are: rising, each once. */
 int departures(const struct timetable *timetable, int station, int minutes[DAIRYEPOCH_MINUTES]);

@@ -9,7 +9,8 @@ are computed from all 2,880 minutes.
 
     python3 tests/crosscheck/crosscheck.py [seed ..]
 
-Without seeds it takes a handful in which every part of the rule for equal cost has something to settle.
+Without seeds it takes a handful in which every part of the rule for equal cost has something to settle, and rows and
+stores hang on a walk from a station to itself that goes before the values of its S line.
 """
 
 import os
@@ -23,7 +24,7 @@ import tempfile
 LAST_MINUTE = 2879
 BOTH, BOARDING, DOWN = 0, 1, 2
 CRATES = ["timetable", "lists", "results", "connections", "stores", "lines"]
-SEEDS = [15, 41, 508, 1901]
+SEEDS = [15, 41, 201, 274, 508, 1901]
 
 
 def another_run(rnd, trip):
@@ -90,8 +91,10 @@ class Planner:
 
     def __init__(self, stations, walks, trips):
         self.stations, self.trips = stations, trips
-        # ways of changing: from, to, minutes, penalty
-        self.ways = [(number, number, *values) for number, values in enumerate(stations, 1)] + walks
+        # ways of changing: from, to, minutes, penalty; a walk from a station to itself goes before the station's own
+        along = {walk[0] for walk in walks if walk[0] == walk[1]}
+        own = [(number, number, *values) for number, values in enumerate(stations, 1) if number not in along]
+        self.ways = own + walks
         self.ties = {"departure": 0, "rides": 0, "numbers": 0}
         self.rides = []
         for number, trip in enumerate(trips, 1):

@@ -35,8 +35,8 @@ def value(field):
 
 
 def read(text):
-    """Ways of changing as (from, to, minutes, penalty), of which those of the stations come first, and their number;
-    trips as lists of (station, arrive, depart, ride penalty, mark)."""
+    """Ways of changing as (from, to, minutes, penalty), the number of stations, and trips as lists of (station, arrive,
+    depart, ride penalty, mark)."""
     if len(text) > 65536:
         raise Refused(1, 0)
     stations, walks, trips, ended = [], [], [], True
@@ -90,7 +90,9 @@ def read(text):
         ended = depart is None
     if not stations or not ended:
         raise Refused(7, len(lines))
-    return stations + walks, len(stations), trips
+    # a walk from a station to itself goes first: the station's own values do not apply
+    along = {walk[:2] for walk in walks}
+    return [station for station in stations if station[:2] not in along] + walks, len(stations), trips
 
 
 def rides_from(trips, station, minute):

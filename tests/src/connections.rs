@@ -1,7 +1,7 @@
 //! Connections, written from document 01's "Connections and cost" and "The planner's list": every feasible connection
 //! is listed, and the list is looked through. No table but the timetable enters into it.
 
-use std::cmp::Reverse;
+use std::cmp::{Ordering, Reverse};
 use std::collections::BTreeMap;
 
 use crate::timetable::{Station, Stop, Timetable, Walk};
@@ -10,7 +10,7 @@ use crate::timetable::{Station, Stop, Timetable, Walk};
 pub type Transfer = (u16, u16);
 
 /// A way of changing: "a change is made either at the station itself or by walking".
-#[derive(Clone, Copy, Debug)]
+#[derive(Clone, Copy, Debug, PartialEq, Eq)]
 pub struct Way {
     pub from: u16,
     pub to: u16,
@@ -18,8 +18,17 @@ pub struct Way {
     pub penalty: u32,
 }
 
-/// All ways of changing. "From and to may be equal, .. and then both ways of changing are open."
-pub fn ways(timetable: &Timetable) -> Vec<Way> {
+/// What an S line counts for at a station that has a W line from it to itself.
+#[derive(Clone, Copy, Debug, PartialEq, Eq)]
+pub enum Rule {
+    /// Document 02, One: "both ways of changing are open". No call follows it any more.
+    BothOpen,
+    /// Document 02, Nine: "such a W line goes first: the S values do not apply to changes there".
+    WalkFirst,
+}
+
+/// All ways of changing.
+pub fn ways(timetable: &Timetable, rule: Rule) -> Vec<Way> {
     let here = |(number, station): (u16, &Station)| Way {
         from: number,
         to: number,
@@ -32,7 +41,9 @@ pub fn ways(timetable: &Timetable) -> Vec<Way> {
         minutes: walk.minutes.into(),
         penalty: walk.penalty.into(),
     };
-    (1..).zip(&timetable.stations).map(here).chain(timetable.walks.iter().map(on_foot)).collect()
+    let applies = |&(number, _): &(u16, &Station)| rule == Rule::BothOpen || timetable.along(number).is_none();
+    let own = (1..).zip(&timetable.stations).filter(applies).map(here);
+    own.chain(timetable.walks.iter().map(on_foot)).collect()
 }
 
 /// One or more rides from a station, with the changes between them.
@@ -52,6 +63,17 @@ impl Connection {
     /// "Duration is last arrival minus t."
     pub fn cost(&self, minute: u32) -> (u32, u32) {
         (self.arrive - minute, self.penalty)
+    }
+
+    /// Whether it has a change on foot to another station.
+    pub fn is_on_foot(&self) -> bool {
+        self.changes.iter().any(|(alighted, boarded)| alighted != boarded)
+    }
+
+    /// The kinds of the walks along platforms that it has changes by.
+    pub fn platforms<'a>(&'a self, timetable: &'a Timetable) -> impl Iterator<Item = (Ordering, Ordering)> + 'a {
+        let along = self.changes.iter().filter(|(alighted, boarded)| alighted == boarded);
+        along.filter_map(|&(station, _)| timetable.platform_kind(station))
     }
 
     /// Of connections of equal cost the first by this is shown: it "departs latest. Then it has fewest rides. Then its
@@ -102,10 +124,15 @@ fn rides(timetable: &Timetable) -> Vec<Ride> {
 /// Every connection from a station to any, unless they are more than `most`, or the timetable has more rides than that.
 /// Those that are feasible at a minute are those that depart then or later.
 pub fn list(timetable: &Timetable, from: u32, most: usize) -> Option<Vec<Connection>> {
+    list_by(timetable, from, most, Rule::WalkFirst)
+}
+
+/// As `list`, by either rule.
+pub fn list_by(timetable: &Timetable, from: u32, most: usize, rule: Rule) -> Option<Vec<Connection>> {
     if timetable.trips.values().map(|stops| stops.len() * (stops.len() - 1) / 2).sum::<usize>() > most {
         return None;
     }
-    let (rides, ways) = (rides(timetable), ways(timetable));
+    let (rides, ways) = (rides(timetable), ways(timetable, rule));
     let alone = |ride: &Ride| Connection {
         depart: ride.depart,
         arrive: ride.arrive,
@@ -177,4 +204,29 @@ pub fn to_words(rows: &[Connection], minute: u32) -> Vec<u32> {
         words.extend(row.rides.concat());
     }
     words
+}
+
+#[cfg(test)]
+mod tests {
+    use super::*;
+    use crate::examples::M;
+    use crate::reference::accepted;
+
+    /// The ways from station 2 of M, with these W lines, as minutes and penalty.
+    fn from_two(walks: &str, rule: Rule) -> Vec<(u16, u32, u32)> {
+        let timetable = accepted(&M.replacen("T,", &format!("{walks}T,"), 1));
+        let from = ways(&timetable, rule).into_iter().filter(|way| way.from == 2);
+        from.map(|way| (way.to, way.minutes, way.penalty)).collect()
+    }
+
+    #[test]
+    fn the_rules_differ_where_a_walk_leads_from_a_station_to_itself() {
+        assert_eq!(from_two("W,2,2,4,15\n", Rule::BothOpen), [(2, 3, 10), (2, 4, 15)]);
+        assert_eq!(from_two("W,2,2,4,15\n", Rule::WalkFirst), [(2, 4, 15)]);
+        assert_eq!(from_two("W,2,2,1,1\nW,2,3,4,15\n", Rule::WalkFirst), [(2, 1, 1), (3, 4, 15)]);
+        for rule in [Rule::BothOpen, Rule::WalkFirst] {
+            assert_eq!(from_two("", rule), [(2, 3, 10)]);
+            assert_eq!(from_two("W,1,1,1,1\nW,1,2,1,1\nW,2,3,4,15\n", rule), [(2, 3, 10), (3, 4, 15)]);
+        }
+    }
 }

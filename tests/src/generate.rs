@@ -434,6 +434,24 @@ pub fn walked(random: &mut Random, timetable: &Timetable) -> Timetable {
     Timetable { walks: pairs.into_iter().map(walk).collect(), ..timetable.clone() }
 }
 
+/// The same trips with a walk from most stations to themselves, in the place of any that there was. The change at such
+/// a station and the walk take few minutes and cost few points: either may be the quicker one, and either the cheaper.
+pub fn with_platforms(random: &mut Random, timetable: &Timetable) -> Timetable {
+    let mut stations = timetable.stations.clone();
+    let mut walks: BTreeMap<(u16, u16), Walk> =
+        timetable.walks.iter().map(|&walk| ((walk.from, walk.to), walk)).collect();
+    for (number, station) in (1..).zip(&mut stations) {
+        if random.one_in(4) {
+            continue;
+        }
+        let [change_minutes, minutes, change_penalty, penalty] =
+            [0..=4, 1..=4, 1..=4, 1..=4].map(|range| random.within(range) as u16);
+        *station = Station { change_minutes, change_penalty };
+        walks.insert((number, number), Walk { from: number, to: number, minutes, penalty });
+    }
+    Timetable { stations, walks: walks.into_values().collect(), trips: timetable.trips.clone() }
+}
+
 /// The same trips with so many walks of a few minutes between stations at random.
 pub fn with_walks(random: &mut Random, timetable: &Timetable, count: usize) -> Timetable {
     let stations = timetable.stations.len();
@@ -610,6 +628,7 @@ fn span(random: &mut Random, spare: u16) -> (u16, u16) {
 
 #[cfg(test)]
 mod tests {
+    use std::cmp::Ordering;
     use std::collections::BTreeSet;
 
     use super::*;
@@ -695,6 +714,28 @@ mod tests {
         }
         let counts = [met[0], met[1], met[2], shared, split, no_boarding, no_alighting];
         assert!(counts.iter().all(|&count| count > 50), "{counts:?}");
+    }
+
+    #[test]
+    fn platforms_of_all_kinds() {
+        let mut random = Random::new(7);
+        let mut met: BTreeMap<(Ordering, Ordering), usize> = BTreeMap::new();
+        for _ in 0..200 {
+            let plain = timetable(&mut random, &SMALL);
+            let other = with_platforms(&mut random, &plain);
+            assert_eq!(read(&other.to_text()).as_ref(), Ok(&other));
+            assert_eq!(other.trips, plain.trips);
+            let apart = |timetable: &Timetable| {
+                timetable.walks.iter().filter(|walk| walk.from != walk.to).copied().collect::<Vec<_>>()
+            };
+            assert_eq!(apart(&other), apart(&plain));
+            for number in 1..=other.stations.len() as u16 {
+                if let Some(kind) = other.platform_kind(number) {
+                    *met.entry(kind).or_default() += 1;
+                }
+            }
+        }
+        assert!(met.len() == 9 && met.values().all(|&count| count > 10), "{met:?}");
     }
 
     #[test]

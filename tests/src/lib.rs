@@ -25,4 +25,5 @@ pub mod stack;
 pub mod store;
 pub mod tables;
 pub mod timetable;
+pub mod two_rules;
 pub mod words;

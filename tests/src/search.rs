@@ -4,7 +4,7 @@
 use std::cmp::Ordering;
 use std::collections::{BTreeSet, HashMap};
 
-use crate::connections::{ways, Connection, Transfer, Way};
+use crate::connections::{ways, Connection, Rule, Transfer, Way};
 use crate::direct::Query;
 use crate::store::NODES_MOST;
 use crate::timetable::Timetable;
@@ -50,6 +50,11 @@ pub struct Network {
 
 impl Network {
     pub fn new(timetable: &Timetable) -> Network {
+        Network::by(timetable, Rule::WalkFirst)
+    }
+
+    /// As `new`, by either rule.
+    pub fn by(timetable: &Timetable, rule: Rule) -> Network {
         let mut hops = Vec::new();
         for (&trip, stops) in &timetable.trips {
             for (stop, ends) in (1..).zip(stops.windows(2)) {
@@ -81,7 +86,7 @@ impl Network {
         }
         let mut ways_to: Vec<Vec<Way>> = vec![Vec::new(); timetable.stations.len() + 1];
         let mut ways_from = vec![Vec::new(); timetable.stations.len() + 1];
-        for way in ways(timetable) {
+        for way in ways(timetable, rule) {
             let to = usize::from(way.to);
             ways_from[usize::from(way.from)].push((to, ways_to[to].len()));
             ways_to[to].push(way);
@@ -487,7 +492,7 @@ pub fn whole(network: &Network, query: Query) -> Vec<Connection> {
 #[cfg(test)]
 mod tests {
     use super::*;
-    use crate::connections::{list, rows};
+    use crate::connections::{list_by, rows};
     use crate::generate::{changing, crowded, timetable, Diamonds, CHANGING, CROWDED, SMALL};
     use crate::random::Random;
     use crate::store;
@@ -495,11 +500,11 @@ mod tests {
     const MOST: usize = 3_000;
 
     /// Compares the store and the rows of all queries from each station; how many patterns had changes.
-    fn compare(timetable: &Timetable) -> Option<usize> {
-        let network = Network::new(timetable);
+    fn compare(timetable: &Timetable, rule: Rule) -> Option<usize> {
+        let network = Network::by(timetable, rule);
         let mut changed = 0;
         for source in 1..=timetable.stations.len() as u32 {
-            let list = list(timetable, source, MOST)?;
+            let list = list_by(timetable, source, MOST, rule)?;
             let sequences = store::by_list(&list, source);
             let patterns = patterns(&network, source).expect("few patterns");
             assert_eq!(Some(patterns.to_words()), store::to_words(&sequences), "source {source} of\n{timetable}");
@@ -527,7 +532,9 @@ mod tests {
             for timetable in
                 [changing(&mut random, &CHANGING), crowded(&mut random, &CROWDED), timetable(&mut random, &SMALL)]
             {
-                if let Some(more) = compare(&timetable) {
+                // by the former rule too, which the page of what differs rests on
+                compare(&timetable, Rule::BothOpen);
+                if let Some(more) = compare(&timetable, Rule::WalkFirst) {
                     changed += more;
                     compared += 1;
                     marked += usize::from(timetable.is_marked());
@@ -543,7 +550,7 @@ mod tests {
             [(1, false, false, 0), (2, true, true, 3), (4, true, true, 2), (5, false, true, 1)]
         {
             let timetable = Diamonds { count, late, beyond, chain }.timetable();
-            assert!(compare(&timetable).is_some());
+            assert!(compare(&timetable, Rule::WalkFirst).is_some());
         }
     }
 }

@@ -1,5 +1,6 @@
 //! A timetable as plain data, its limits, and its text.
 
+use std::cmp::Ordering;
 use std::collections::BTreeMap;
 use std::fmt::{self, Display};
 
@@ -88,6 +89,17 @@ impl Timetable {
     /// Its stations and walks alone.
     pub fn without_trips(&self) -> Timetable {
         Timetable { trips: BTreeMap::new(), ..self.clone() }
+    }
+
+    /// The walk from a station to itself, if there is one: "for a long platform".
+    pub fn along(&self, station: u16) -> Option<&Walk> {
+        self.walks.iter().find(|walk| (walk.from, walk.to) == (station, station))
+    }
+
+    /// How the walk from a station to itself compares with the change there, in minutes and in penalty.
+    pub fn platform_kind(&self, station: u16) -> Option<(Ordering, Ordering)> {
+        let Station { change_minutes, change_penalty } = self.stations[usize::from(station) - 1];
+        self.along(station).map(|walk| (walk.minutes.cmp(&change_minutes), walk.penalty.cmp(&change_penalty)))
     }
 
     /// How many stops its trips have in all.

@@ -6,8 +6,8 @@ use dairyepoch_tests::examples::{M, M_WORDS, NIGHT};
 use dairyepoch_tests::expected;
 use dairyepoch_tests::ffi::{self, Reply};
 use dairyepoch_tests::generate::{
-    changing, crowded, every_trip, largest, long_lines, overtaking, rural, timetable, with_gaps, with_shared_ways,
-    with_trips, Size, CHANGING, CROWDED, LARGE, MIDDLING, SMALL,
+    changing, crowded, every_trip, largest, long_lines, overtaking, rural, timetable, walked, with_gaps,
+    with_platforms, with_shared_ways, with_trips, Size, CHANGING, CROWDED, LARGE, MIDDLING, SMALL,
 };
 use dairyepoch_tests::host::{Host, QUERY_WORDS};
 use dairyepoch_tests::lent::{noes, replies_to_tampered, Lent, LONGER_LENGTHS};
@@ -610,6 +610,9 @@ struct Met {
     old_store_shows_less: usize,
     old_store_shows_all: usize,
     rows: usize,
+    /// Rows with a change on foot to another station, and with one along a platform.
+    on_foot: usize,
+    platforms: usize,
     replies: [usize; 20],
 }
 
@@ -629,7 +632,8 @@ impl Day {
         let mut random = Random::new(seed);
         let pool: Vec<Vec<Stop>> = timetable.trips.values().cloned().collect();
         let running = pool.iter().filter(|_| !random.one_in(3)).cloned().collect::<Vec<_>>();
-        let mut model = Timetable::new(timetable.stations.clone(), running);
+        let mut model =
+            Timetable { walks: timetable.walks.clone(), ..Timetable::new(timetable.stations.clone(), running) };
         let mut room = Room { host: Host::new(seed), tables: Lent::any(&mut random) };
         // what reading and building write is where a day begins
         room.tables = Lent::written(&model, &mut vec![0; WORK_WORDS], &mut random);
@@ -746,6 +750,8 @@ impl Day {
             let expected = expected::answer_of(&whole, query, QUERY_WORDS);
             let reply = host.query_as(tables.with(&made), query, QUERY_WORDS, expected);
             met.rows += whole.len();
+            met.on_foot += whole.iter().filter(|row| row.is_on_foot()).count();
+            met.platforms += whole.iter().filter(|row| row.platforms(model).next().is_some()).count();
             met.old_store_shows_less += usize::from(reply.number == 0 && shown != reply);
             met.old_store_shows_all += usize::from(reply.number == 0 && shown == reply);
         }
@@ -779,6 +785,19 @@ fn days_where_changing_pays() {
     let counts = [cancelled, added, gaps, between, back_again, old_store_shows_less, old_store_shows_all];
     let refused = [2, 3, 4, 18, 19].map(|number| met.replies[number]);
     assert!(counts.iter().all(|&count| count > 100) && refused.iter().all(|&count| count > 5), "{met:?}");
+}
+
+/// A change of trips keeps the walks.
+#[test]
+fn days_with_walks() {
+    let villages = Size { stations: 4..=8, ..CHANGING };
+    let met = days(20, 150, 12, |random| {
+        let plain = changing(random, &villages);
+        let on_foot = walked(random, &plain);
+        with_platforms(random, &on_foot)
+    });
+    let counts = [met.cancelled, met.added, met.on_foot, met.platforms, met.old_store_shows_less];
+    assert!(counts.iter().all(|&count| count > 30), "{met:?}");
 }
 
 #[test]

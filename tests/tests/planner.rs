@@ -8,7 +8,7 @@ use std::mem::swap;
 use std::path::{Path, PathBuf};
 use std::process::{self, Command};
 
-use dairyepoch_tests::connections::{self, ways, Connection, Transfer, Way};
+use dairyepoch_tests::connections::{self, ways, Connection, Rule, Transfer, Way};
 use dairyepoch_tests::damage::damaged;
 use dairyepoch_tests::direct::Query;
 use dairyepoch_tests::generate::{changing, crowded, rural, timetable, CHANGING, CROWDED, MIDDLING, SMALL};
@@ -177,10 +177,9 @@ fn check_reasons(folder: &Folder, timetable: &Timetable, source: u32) -> usize {
     lines.len()
 }
 
-/// The rides of a reason lead along its stations, each change takes a way that is in time, and with the cheapest such
-/// ways they cost what they are said to.
+/// The rides of a reason lead along its stations, each change is in time, and they cost what they are said to.
 fn check_rides(timetable: &Timetable, query: Query, cost: (u32, u32), line: &[String]) {
-    let ways = ways(timetable);
+    let ways = ways(timetable, Rule::WalkFirst);
     let mut names = vec![query.from.to_string()];
     let (mut arrived, mut penalty, mut at) = (query.minute, 0, query.from as u16);
     for (number, ride) in line[7].split(' ').enumerate() {
@@ -193,8 +192,10 @@ fn check_rides(timetable: &Timetable, query: Query, cost: (u32, u32), line: &[St
         if number == 0 {
             assert!(boarded.station == at && depart >= query.minute);
         } else {
-            let in_time = |way: &&Way| (way.from, way.to) == (at, boarded.station) && arrived + way.minutes <= depart;
-            penalty += ways.iter().filter(in_time).map(|way| way.penalty).min().expect("a way in time");
+            let leads = |way: &&Way| (way.from, way.to) == (at, boarded.station);
+            let way = ways.iter().find(leads).expect("a way of changing");
+            assert!(arrived + way.minutes <= depart);
+            penalty += way.penalty;
             names.push(named((at, boarded.station), "-"));
         }
         penalty += (board..alight)
@@ -284,6 +285,7 @@ fn rows_are_those_of_the_reference() {
 fn first_losses(timetable: &Timetable, list: &[Connection], from: u32, to: u32) -> [Option<u32>; 3] {
     let all: Vec<&Connection> = store::feasible(list, Query { from, to, minute: 0 }).collect();
     let minutes: BTreeSet<u32> = list.iter().map(|connection| connection.depart).collect();
+    let ways = ways(timetable, Rule::WalkFirst);
     let taken = |connection: &Connection| connection.arrive - connection.depart;
     let slower = |row: &Connection| {
         let quicker = |other: &&Connection| {
@@ -294,7 +296,8 @@ fn first_losses(timetable: &Timetable, list: &[Connection], from: u32, to: u32) 
     let hurried = |&[trip, board, alight]: &[u32; 3]| {
         (board + 1..alight).map(|number| stop(timetable, trip, number)).any(|stop| {
             let stands = stop.onward.expect("a ride onward").depart - stop.arrive.expect("an arrival");
-            stands < timetable.stations[usize::from(stop.station) - 1].change_minutes
+            let change = |way: &&Way| (way.from, way.to) == (stop.station, stop.station);
+            u32::from(stands) < ways.iter().find(change).expect("a change at each station").minutes
         })
     };
     let mut losses = [None; 3];

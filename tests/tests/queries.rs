@@ -2,7 +2,7 @@
 
 use std::collections::BTreeSet;
 
-use dairyepoch_tests::connections::{self, Connection, Transfer};
+use dairyepoch_tests::connections::{self, Connection, Rule, Transfer};
 use dairyepoch_tests::direct::Query;
 use dairyepoch_tests::examples::M;
 use dairyepoch_tests::expected;
@@ -460,7 +460,7 @@ fn queries_from_stores_with_doubled_nodes() {
 /// Any well-made store: repeated stations, arcs to the source, nodes that no arc uses, the same sequence twice. Some
 /// changes are by ways that there are, others between any two stations.
 fn arbitrary(random: &mut Random, timetable: &Timetable) -> Store {
-    let (stations, ways) = (timetable.stations.len(), connections::ways(timetable));
+    let (stations, ways) = (timetable.stations.len(), connections::ways(timetable, Rule::WalkFirst));
     let node = |random: &mut Random, number: usize| {
         let way = ways[random.below(ways.len())];
         let boarded = if random.one_in(4) { random.within(1..=stations) as u16 } else { way.to };

@@ -1,19 +1,24 @@
-//! Walking to the next stop: W lines in text and words, changes on foot in stores and rows.
+//! Walking to the next stop, and two rules for one platform: W lines in text and words, changes on foot in stores and
+//! rows.
+
+use std::cmp::Ordering::{self, Greater, Less};
+use std::collections::BTreeMap;
 
 use dairyepoch_tests::answers::{rides, rows, rows_from, store};
-use dairyepoch_tests::connections::{self, Connection};
+use dairyepoch_tests::connections::{self, Connection, Rule};
 use dairyepoch_tests::direct::Query;
-use dairyepoch_tests::examples::M;
+use dairyepoch_tests::examples::{M, M_WORDS};
 use dairyepoch_tests::expected;
-use dairyepoch_tests::ffi::Reply;
+use dairyepoch_tests::ffi::{self, Reply};
 use dairyepoch_tests::following::Guide;
 use dairyepoch_tests::generate::{
-    changing, crowded, largest, long_trip, rural, timetable, walked, with_gaps, with_trips, with_walks, Size, BUSY,
-    CHANGING, CROWDED, MIDDLING, SMALL,
+    changing, crowded, largest, long_trip, rural, timetable, walked, with_gaps, with_platforms, with_trips, with_walks,
+    Size, BUSY, CHANGING, CROWDED, MIDDLING, SMALL,
 };
 use dairyepoch_tests::handmade::{hop, text, Numbers};
 use dairyepoch_tests::host::{lent, Host, QUERY_WORDS, STORE_WORDS};
 use dairyepoch_tests::lent::Lent;
+use dairyepoch_tests::lines::{LINE_WORDS, WORK_WORDS};
 use dairyepoch_tests::random::Random;
 use dairyepoch_tests::reference::{accepted, add};
 use dairyepoch_tests::search::{self, Network};
@@ -293,32 +298,6 @@ fn a_walks_values_replace_both_stations() {
 }
 
 #[test]
-fn both_ways_are_open_on_a_long_platform() {
-    let stations = [(0, 1), (5, 50), (0, 1)];
-    let walks = [(2, 2, 2, 70)];
-    for (leaves, penalty) in [(24, Some(70)), (25, Some(50)), (22, Some(70)), (21, None)] {
-        let trips: [&[Numbers]; 2] = [&hop(1, 2, 10, 20, 0), &hop(2, 3, leaves, 90, 0)];
-        let shown = penalty.map(|penalty| vec![90, penalty, 2, 1, 1, 2, 2, 1, 2]).ok_or(14);
-        let timetable = village(&stations, &walks, &trips);
-        assert_eq!(rows(&timetable, 1, 3, 0), shown, "leaving at {leaves}");
-        let words: &[u16] = if penalty.is_some() { &[1, 2, 2, 2, 0, 2, 0, 3, 1] } else { &[0, 1, 2, 0] };
-        assert_eq!(store(&timetable, 1), words);
-    }
-    // a walk that is slower and cheaper, and one that is better or worse in both
-    for (walk, leaves, penalty) in [
-        ((2, 2, 9, 7), 25, 50),
-        ((2, 2, 9, 7), 29, 7),
-        ((2, 2, 1, 1), 21, 1),
-        ((2, 2, 1, 1), 60, 1),
-        ((2, 2, 60, 1_000), 80, 50),
-    ] {
-        let trips: [&[Numbers]; 2] = [&hop(1, 2, 10, 20, 0), &hop(2, 3, leaves, 90, 0)];
-        let timetable = village(&stations, &[walk], &trips);
-        assert_eq!(rows(&timetable, 1, 3, 0), Ok(vec![90, penalty, 2, 1, 1, 2, 2, 1, 2]), "{walk:?}, {leaves}");
-    }
-}
-
-#[test]
 fn no_walk_before_the_first_ride_or_after_the_last() {
     // to walk to the target is not to have arrived there: one boards at it and rides a round
     let round = [(3, 0, 17, 4), (4, 20, 20, 0), (3, 25, 0, 0)];
@@ -412,16 +391,145 @@ fn stores_of_pairs_without_a_walk_show_nothing_more() {
     assert_eq!(rows_from(&m, &[1, 2, 2, 1, 0, 3, 0, 3, 1], 1, 3, 470), Ok(vec![90, 0, 1, 1, 1, 3]));
 }
 
+// ---- two rules for one platform
+
+#[test]
+fn on_a_long_platform_the_walk_goes_first() {
+    let slow = (5, 50);
+    for (station, walk, leaves, penalty) in [
+        // quicker and dearer: from 25 on the station's own change would be in time, and cheaper
+        (slow, (2, 2, 2, 70), 21, None),
+        (slow, (2, 2, 2, 70), 22, Some(70)),
+        (slow, (2, 2, 2, 70), 24, Some(70)),
+        (slow, (2, 2, 2, 70), 25, Some(70)),
+        (slow, (2, 2, 2, 70), 60, Some(70)),
+        // slower and cheaper
+        (slow, (2, 2, 9, 7), 25, None),
+        (slow, (2, 2, 9, 7), 28, None),
+        (slow, (2, 2, 9, 7), 29, Some(7)),
+        // quicker and cheaper
+        (slow, (2, 2, 1, 1), 20, None),
+        (slow, (2, 2, 1, 1), 21, Some(1)),
+        (slow, (2, 2, 1, 1), 60, Some(1)),
+        // slower and dearer
+        (slow, (2, 2, 60, 1_000), 79, None),
+        (slow, (2, 2, 60, 1_000), 80, Some(1_000)),
+        ((0, 1), (2, 2, 1, 2), 20, None),
+        ((0, 1), (2, 2, 1, 2), 21, Some(2)),
+        // alike in one or in both
+        (slow, (2, 2, 5, 51), 25, Some(51)),
+        (slow, (2, 2, 5, 49), 25, Some(49)),
+        (slow, (2, 2, 6, 50), 25, None),
+        (slow, (2, 2, 4, 50), 24, Some(50)),
+        (slow, (2, 2, 5, 50), 24, None),
+        (slow, (2, 2, 5, 50), 25, Some(50)),
+    ] {
+        let trips: [&[Numbers]; 2] = [&hop(1, 2, 10, 20, 0), &hop(2, 3, leaves, 90, 0)];
+        let timetable = village(&[(0, 1), station, (0, 1)], &[walk], &trips);
+        let shown = penalty.map(|penalty| vec![90, penalty, 2, 1, 1, 2, 2, 1, 2]).ok_or(14);
+        assert_eq!(rows(&timetable, 1, 3, 0), shown, "{station:?}, {walk:?}, leaving at {leaves}");
+        let words: &[u16] = if penalty.is_some() { &[1, 2, 2, 2, 0, 2, 0, 3, 1] } else { &[0, 1, 2, 0] };
+        assert_eq!(store(&timetable, 1), words, "{station:?}, {walk:?}, leaving at {leaves}");
+    }
+}
+
+#[test]
+fn a_long_platform_leaves_other_changes_as_they_were() {
+    let platforms = [(1, 1, 60, 1_000), (2, 2, 60, 1_000), (3, 3, 60, 1_000), (4, 4, 60, 1_000)];
+    // on foot from one platform to another
+    let trips: [&[Numbers]; 2] = [&hop(1, 2, 10, 20, 0), &hop(3, 4, 25, 30, 2)];
+    let mut walks = platforms.to_vec();
+    walks.insert(2, (2, 3, 5, 7));
+    let shown = Ok(vec![30, 9, 2, 1, 1, 2, 2, 1, 2]);
+    assert_eq!(rows(&village(&[(0, 1); 4], &walks, &trips), 1, 4, 0), shown);
+    // at a station that has none, also if one can walk from there to others and back
+    let trips: [&[Numbers]; 2] = [&hop(1, 2, 10, 20, 0), &hop(2, 4, 23, 30, 2)];
+    let stations = [(9, 9), (3, 5), (9, 9), (9, 9)];
+    let walks = [platforms[0], (1, 2, 60, 1_000), (2, 1, 60, 1_000), (2, 3, 60, 1_000), platforms[2], platforms[3]];
+    let shown = Ok(vec![30, 7, 2, 1, 1, 2, 2, 1, 2]);
+    assert_eq!(rows(&village(&stations, &walks, &trips), 1, 4, 0), shown);
+    // who begins at a platform, ends there or stays aboard changes nothing there
+    let through: [&[Numbers]; 1] = [&[(1, 0, 10, 1), (2, 20, 20, 2), (3, 30, 0, 0)]];
+    let timetable = village(&[(0, 1); 4], &platforms, &through);
+    assert_eq!(rows(&timetable, 1, 2, 10), Ok(vec![10, 1, 1, 1, 1, 2]));
+    assert_eq!(rows(&timetable, 2, 3, 20), Ok(vec![10, 2, 1, 1, 2, 3]));
+    assert_eq!(rows(&timetable, 1, 3, 10), Ok(vec![20, 3, 1, 1, 1, 3]));
+}
+
+/// M with these W lines.
+fn m_with(walks: &str) -> String {
+    M.replacen("T,", &format!("{walks}T,"), 1)
+}
+
+#[test]
+fn the_values_of_a_station_with_a_long_platform_are_still_read() {
+    let mut host = Host::new(31);
+    let text = m_with("W,2,2,4,15\n");
+    host.expect_read(&text, 0, 11);
+    for (values, number) in [("240,1000", 0), ("0,1", 0), ("241,10", 3), ("3,0", 3), ("3,1001", 3), ("3,", 2)] {
+        let (number, line) = if number == 0 { (0, 11) } else { (number, 2) };
+        host.expect_read(text.replace("S,2,3,10", &format!("S,2,{values}")), number, line);
+    }
+    // they stand in the words, and the line tables are M's
+    let (plain, platform) = (Lent::text(M), Lent::text(&text));
+    let mut written = vec![0; TIMETABLE_WORDS];
+    assert_eq!(ffi::read(text.as_bytes(), &mut written), Reply::done(11));
+    let expected = [&M_WORDS[..M_WORDS.len() - 4], &[0, 0, 1, 1], &[2, 2, 4, 15]].concat();
+    assert_eq!(written[..expected.len()], expected);
+    let [lines, other_lines] = [&plain, &platform].map(|lent| {
+        let (mut lines, mut work) = (vec![0; LINE_WORDS], vec![0; WORK_WORDS]);
+        assert_eq!(ffi::build_lines(&lent.timetable, &mut lines, &mut work).number, 0);
+        lines
+    });
+    assert_eq!(lines, other_lines);
+}
+
 #[test]
 fn m_with_a_long_platform_at_2() {
-    let platform = accepted(&M.replace("S,3,5,10\n", "S,3,5,10\nW,2,2,4,15\n"));
-    assert_eq!(rows(&platform, 1, 3, 470), Ok(vec![50, 10, 2, 1, 1, 2, 2, 1, 2, 90, 0, 1, 1, 1, 3]));
-    assert_eq!(store(&platform, 1), [1, 3, 2, 2, 0, 2, 0, 3, 0, 3, 1]);
-    let quick = accepted(&M.replace("S,3,5,10\n", "S,3,5,10\nW,2,2,2,15\n"));
-    assert_eq!(
-        rows(&quick, 1, 3, 470),
-        Ok(vec![45, 15, 2, 1, 1, 2, 3, 1, 2, 50, 10, 2, 1, 1, 2, 2, 1, 2, 90, 0, 1, 1, 1, 3])
-    );
+    let platform = accepted(&m_with("W,2,2,4,15\n"));
+    assert_eq!(rows(&platform, 1, 3, 470), Ok(vec![90, 0, 1, 1, 1, 3]));
+    assert_eq!(store(&platform, 1), [0, 2, 2, 0, 3, 0]);
+    // from the store that was made before, whose sequence nobody can take any more
+    assert_eq!(rows_from(&platform, &[1, 3, 2, 2, 0, 2, 0, 3, 0, 3, 1], 1, 3, 470), Ok(vec![90, 0, 1, 1, 1, 3]));
+    // a minute less, and trip 2 is reached, for 15 points; another, and trip 3 is, which arrives before it
+    for (minutes, trip, duration) in [(3, 2, 50), (2, 3, 45), (1, 3, 45)] {
+        let timetable = accepted(&m_with(&format!("W,2,2,{minutes},15\n")));
+        let shown = Ok(vec![duration, 15, 2, 1, 1, 2, trip, 1, 2, 90, 0, 1, 1, 1, 3]);
+        assert_eq!(rows(&timetable, 1, 3, 470), shown, "{minutes}");
+        assert_eq!(store(&timetable, 1), [1, 3, 2, 2, 0, 2, 0, 3, 0, 3, 1], "{minutes}");
+    }
+}
+
+/// "A timetable without such a line keeps all its rows": those of request One.
+#[test]
+fn without_a_long_platform_all_is_as_before() {
+    let mut host = Host::new(32);
+    let mut random = Random::new(33);
+    let (mut stores, mut on_foot) = (0, 0);
+    for _ in 0..150 {
+        let plain = changing(&mut random, &CHANGING);
+        let mut timetable = walked(&mut random, &plain);
+        timetable.walks.retain(|walk| walk.from != walk.to);
+        let lent = Lent::new(&timetable, &mut random);
+        let network = Network::by(&timetable, Rule::BothOpen);
+        let stations = timetable.stations.len() as u32;
+        for from in 1..=stations {
+            let words = search::patterns(&network, from).expect("not too many").to_words();
+            let expected = (Reply::done(words.len()), words.clone());
+            host.make_store_as(&lent.timetable, &lent.lines, from, STORE_WORDS, expected);
+            stores += 1;
+            for to in (1..=stations).filter(|&to| to != from) {
+                for &minute in &network.minutes(from) {
+                    let query = Query { from, to, minute };
+                    let rows = search::whole(&network, query);
+                    let expected = expected::answer_of(&rows, query, QUERY_WORDS);
+                    host.query_as(lent.with(&words), query, QUERY_WORDS, expected);
+                    on_foot += rows.iter().filter(|row| row.is_on_foot()).count();
+                }
+            }
+        }
+    }
+    assert!(stores > 400 && on_foot > 100, "{stores}, {on_foot}");
 }
 
 // ---- generated timetables, against the list and the search
@@ -432,8 +540,12 @@ struct Met {
     stores: usize,
     rows: usize,
     on_foot: usize,
-    /// Rows with a change by a platform's walk where the station's own would not do or would cost more.
-    platforms: usize,
+    /// Changes along a platform, by how the walk compares with the station's own change in minutes and in penalty.
+    platforms: BTreeMap<(Ordering, Ordering), usize>,
+    /// Stores and answers that would be others if the S line alone counted at a platform.
+    not_by_station: [usize; 2],
+    /// Stores and answers that would be others if both ways were open.
+    not_by_both: [usize; 2],
     to_the_target: usize,
     from_the_source: usize,
 }
@@ -441,32 +553,44 @@ struct Met {
 impl Met {
     fn count(&mut self, timetable: &Timetable, query: Query, row: &Connection) {
         self.rows += 1;
-        self.on_foot += usize::from(row.changes.iter().any(|(alighted, boarded)| alighted != boarded));
+        self.on_foot += usize::from(row.is_on_foot());
         self.to_the_target += usize::from(row.changes.iter().any(|change| u32::from(change.1) == query.to));
         self.from_the_source += usize::from(row.changes.iter().any(|change| u32::from(change.0) == query.from));
-        let without = Timetable {
-            walks: timetable.walks.iter().filter(|walk| walk.from != walk.to).copied().collect(),
-            ..timetable.clone()
-        };
-        if without.walks.len() < timetable.walks.len() {
-            let rows = search::whole(&Network::new(&without), query);
-            self.platforms += usize::from(!rows.contains(row));
+        for kind in row.platforms(timetable) {
+            *self.platforms.entry(kind).or_default() += 1;
         }
+    }
+
+    /// Whether walks along platforms that are quicker or slower, and cheaper or dearer, were taken at least so often
+    /// each, and as many stores and answers would be others by either other rule.
+    fn has_platforms(&self, least: usize) -> bool {
+        let kinds = [(Less, Less), (Less, Greater), (Greater, Less), (Greater, Greater)];
+        let others = [self.not_by_station, self.not_by_both];
+        kinds.iter().all(|kind| self.platforms.get(kind).is_some_and(|&count| count >= least))
+            && others.concat().iter().all(|&count| count >= least)
     }
 }
 
 /// Has the stores of all sources made and all queries asked from them, at the minutes that matter.
 fn all_of(host: &mut Host, plain: &Timetable, met: &mut Met, random: &mut Random) {
     let on_foot = walked(random, plain);
+    let on_foot = if random.one_in(2) { with_platforms(random, &on_foot) } else { on_foot };
     let timetable = with_gaps(random, &on_foot);
     let lent = Lent::new(&timetable, random);
     let network = Network::new(&timetable);
+    let mut by_station = timetable.clone();
+    by_station.walks.retain(|walk| walk.from != walk.to);
+    let by_station = Network::new(&by_station);
+    let by_both = Network::by(&timetable, Rule::BothOpen);
     let stations = timetable.stations.len() as u32;
     for from in 1..=stations {
         let Some(list) = connections::list(&timetable, from, expected::LISTED_MOST) else { continue };
         assert_eq!(lent.make_store(host, from).number, 0);
         met.stores += 1;
         let store = expected::store_words(&timetable, from).expect("a store that is made");
+        let other = |network: &Network| search::patterns(network, from).expect("not too many").to_words() != store;
+        met.not_by_station[0] += usize::from(other(&by_station));
+        met.not_by_both[0] += usize::from(other(&by_both));
         let minutes = network.minutes(from);
         for to in (1..=stations).filter(|&to| to != from) {
             for minute in minutes.iter().flat_map(|&departure| [departure, departure + 1]) {
@@ -476,6 +600,8 @@ fn all_of(host: &mut Host, plain: &Timetable, met: &mut Met, random: &mut Random
                 let expected = expected::answer_of(&rows, query, QUERY_WORDS);
                 host.query_as(lent.with(&store), query, QUERY_WORDS, expected);
                 rows.iter().for_each(|row| met.count(&timetable, query, row));
+                met.not_by_station[1] += usize::from(search::whole(&by_station, query) != rows);
+                met.not_by_both[1] += usize::from(search::whole(&by_both, query) != rows);
             }
         }
     }
@@ -491,9 +617,8 @@ fn all_queries_of_villages_where_changing_pays() {
         let plain = changing(&mut random, if at % 2 == 0 { &CHANGING } else { &villages });
         all_of(&mut host, &plain, &mut met, &mut random);
     }
-    let Met { stores, rows, on_foot, platforms, to_the_target, from_the_source } = met;
-    assert!(stores > 1_000 && rows > 10_000 && on_foot > 500 && platforms > 100, "{met:?}");
-    assert!(to_the_target > 5 && from_the_source > 5, "{met:?}");
+    assert!(met.stores > 1_000 && met.rows > 10_000 && met.on_foot > 500 && met.has_platforms(50), "{met:?}");
+    assert!(met.to_the_target > 5 && met.from_the_source > 5, "{met:?}");
 }
 
 #[test]
@@ -512,15 +637,16 @@ fn all_queries_of_other_villages() {
             all_of(&mut host, plain, &mut met, &mut random);
         }
     }
-    assert!(met.stores > 500 && met.rows > 2_000 && met.on_foot > 10 && met.platforms > 10, "{met:?}");
+    assert!(met.stores > 500 && met.rows > 2_000 && met.on_foot > 10 && met.has_platforms(5), "{met:?}");
 }
 
-/// Has the stores of these sources made and some queries asked from them, with the search's answers beside them.
-fn searched(timetable: &Timetable, sources: impl Iterator<Item = u32>, random: &mut Random) -> [usize; 2] {
+/// Has the stores of these sources made and some queries asked from them, with the search's answers beside them. How
+/// many rows there were, with changes on foot to another station, and along platforms.
+fn searched(timetable: &Timetable, sources: impl Iterator<Item = u32>, random: &mut Random) -> [usize; 3] {
     let mut host = Host::new(23);
     let lent = Lent::new(timetable, random);
     let network = Network::new(timetable);
-    let (mut rows_shown, mut on_foot) = (0, 0);
+    let mut met = [0; 3];
     for from in sources {
         let words = search::patterns(&network, from).expect("not too many").to_words();
         let expected = (Reply::done(words.len()), words.clone());
@@ -537,11 +663,12 @@ fn searched(timetable: &Timetable, sources: impl Iterator<Item = u32>, random: &
             assert_eq!(guide.rows(&network, query), rows);
             let expected = expected::answer_of(&rows, query, QUERY_WORDS);
             host.query_as(lent.with(&words), query, QUERY_WORDS, expected);
-            rows_shown += rows.len();
-            on_foot += rows.iter().filter(|row| row.changes.iter().any(|change| change.0 != change.1)).count();
+            met[0] += rows.len();
+            met[1] += rows.iter().filter(|row| row.is_on_foot()).count();
+            met[2] += rows.iter().filter(|row| row.platforms(timetable).next().is_some()).count();
         }
     }
-    [rows_shown, on_foot]
+    met
 }
 
 #[test]
@@ -549,12 +676,23 @@ fn villages_at_the_limits() {
     let mut random = Random::new(24);
     for (rounds, walks) in [(8, 64), (8, WALKS_MOST), (2, WALKS_MOST)] {
         let timetable = with_walks(&mut Random::new(25), &rural(&mut Random::new(10), rounds), walks);
-        let [rows, on_foot] = searched(&timetable, (1..=64).step_by(3), &mut random);
+        let [rows, on_foot, _] = searched(&timetable, (1..=64).step_by(3), &mut random);
         assert!(rows > 100 && on_foot > 50, "{rounds}, {walks}: {rows}, {on_foot}");
     }
     let busy = changing(&mut Random::new(26), &BUSY);
     let timetable = with_walks(&mut Random::new(27), &busy, WALKS_MOST);
     searched(&timetable, (1..=64).step_by(9), &mut random);
+}
+
+#[test]
+fn platforms_at_the_limits() {
+    let mut random = Random::new(34);
+    for rounds in [8, 2] {
+        let timetable = with_walks(&mut Random::new(35), &rural(&mut Random::new(10), rounds), WALKS_MOST - 64);
+        let timetable = with_platforms(&mut random, &timetable);
+        let met = searched(&timetable, (1..=64).step_by(3), &mut random);
+        assert!(met.iter().all(|&count| count > 50), "{rounds}: {met:?}");
+    }
 }
 
 #[test]

@@ -1,12 +1,13 @@
 -- Connections, what makes one feasible, what it costs, and its pattern: Definitions 1 to 3 of the 2010 paper in the
 -- words of document 01. They speak of a net: the rides of a timetable and the ways of changing.
 use mathlib.Core.Path.{_≡_}
+use mathlib.Core.Bool.{Bool, not, _&&_}
 use mathlib.Core.List.{List, [], _∷_, _++_, map}
 use Prim.Native.Nat.{ℕ, suc, _+_, _-_, _≤_}
-use lib.Dec.{T}
+use lib.Dec.{T, eqb}
 use lib.ListN.{length, getD}
 use Rattle.timetable.specs.Timetable.{Station, Walk, Timetable}
-use Rattle.lists.specs.Lists.{_∈_, range}
+use Rattle.lists.specs.Lists.{_∈_, filter, any, range}
 use Rattle.results.specs.Results.{Cost, dominates}
 use Rattle.connections.specs.Rides.{Ride, ridesOf}
 
@@ -34,10 +35,20 @@ changeAt l z =
 abbrev pub onFoot : Walk → Change
 onFoot w = record { from = w .from; to = w .to; minutes = w .minutes; points = w .points }
 
--- at each station, and by each walk: "From and to may be equal, for a long platform, and then both ways of changing are
--- open"
+-- "a W line from the station to itself", station c
+abbrev pub along : (c : ℕ) → Walk → Bool
+along c w = eqb (w .from) c && eqb (w .to) c
+
+-- The S values of station z + 1 apply. Document 02, Nine: "From now on such a W line goes first: the S values do not
+-- apply to changes there."
+abbrev pub applies : List Walk → (z : ℕ) → Bool
+applies walks z = not (any (along (suc z)) walks)
+
+-- at each station of which the S values apply, and by each walk
 unfoldable pub changesOf : Timetable → List Change
-changesOf t = map (changeAt (t .stations)) (range 0 (length (t .stations))) ++ map onFoot (t .walks)
+changesOf t =
+    map (changeAt (t .stations)) (filter (applies (t .walks)) (range 0 (length (t .stations))))
+    ++ map onFoot (t .walks)
 
 -- what a pattern names of a change
 pub record Transfer : Type 0 where

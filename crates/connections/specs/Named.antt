@@ -1,5 +1,4 @@
--- What a ride is known by: its numbers. A change is not known by its stations: "From and to may be equal, for a long
--- platform, and then both ways of changing are open."
+-- What a ride is known by: its numbers.
 use mathlib.Core.Path.{_≡_}
 use lib.Dec.{T}
 use Rattle.timetable.specs.Timetable.{Timetable, valid}

@@ -1,6 +1,6 @@
 -- The rides and changes of a timetable by their places, and how a ride's penalty is summed stop by stop.
 use mathlib.Core.Path.{_≡_, refl, sym, ap, subst, _∙_}
-use mathlib.Core.Bool.{not}
+use mathlib.Core.Bool.{Bool, true, false, not}
 use mathlib.Core.Logic.{_⊎_, inl, inr}
 use mathlib.Core.List.{List, [], _∷_, map, Memᴰ·append-left, Memᴰ·append-right, Memᴰ·map, Memᴰ·of-map}
 use Prim.Native.Nat.{ℕ, zero, suc, _+_, _≤_, _<_}
@@ -9,12 +9,13 @@ use lib.Dec.{T, eqb}
 use lib.ListN.{length, getD}
 use Rattle.timetable.specs.Timetable.{Walk, Stop, Trip, Timetable, numberOf, valid}
 use Rattle.timetable.specs.Numbers.{number-unique}
-use Rattle.lists.specs.Lists.{_∈_, filter, range}
-use Rattle.lists.specs.Tests.{T-left, T-right, reads, writes}
-use Rattle.lists.specs.Members.{append-cases, filter-in, filter-out, concatMap-in, concatMap-out, range-in, range-out}
+use Rattle.lists.specs.Lists.{_∈_, filter, any, range}
+use Rattle.lists.specs.Tests.{either, T-left, T-right, reads, writes}
+use Rattle.lists.specs.Members.{append-cases, filter-in, filter-out, any-in, any-out, concatMap-in, concatMap-out}
+use Rattle.lists.specs.Members.{range-in, range-out}
 use Rattle.connections.specs.Rides.{Ride, noStop, ridePoints, rideAt, mayBoard, mayAlight, mayRide}
 use Rattle.connections.specs.Rides.{ridesFrom, tripRides, rideIn, ridesOf}
-use Rattle.connections.specs.Connections.{Change, changeAt, onFoot, changesOf}
+use Rattle.connections.specs.Connections.{Change, changeAt, onFoot, along, applies, changesOf}
 
 -- a ride of the timetable: a trip, a stop to board at and a later stop to alight at, both open to that
 pub record Taken (t : Timetable) (r : Ride) : Type 0 where
@@ -101,35 +102,63 @@ module _ (t : Timetable) where
       same-y : i .y ≡ j .y
       same-y = omega (arith, g, ap (λ r. r .alight) (i .is), ap (λ r. r .alight) (j .is))
 
+-- ---- the S values of a station apply exactly if it has no walk to itself
+pub record Own (t : Timetable) (z : ℕ) : Type 0 where
+  pub inside : z < length (t .stations)
+  pub alone : (v : Walk) → v ∈ t .walks → v .from ≡ suc z → v .to ≡ suc z → ⊥
+
+pub applies-in : (l : List Walk) (z : ℕ) → ((v : Walk) → v ∈ l → v .from ≡ suc z → v .to ≡ suc z → ⊥) → T (applies l z)
+applies-in l z alone =
+    either
+    (any (along (suc z)) l)
+    (λ t.
+    let r = any-out (along (suc z)) l t in
+    let at = r .2 in
+    absurd (alone (r .0) (r .1) (search reads) (search reads)))
+    (λ t. t)
+
+applies-out : (l : List Walk) (z : ℕ) → T (applies l z) → (v : Walk) → v ∈ l → v .from ≡ suc z → v .to ≡ suc z → ⊥
+applies-out l z t v m from to = not-both (any (along (suc z)) l) t (any-in (along (suc z)) m (search writes))
+  where
+    not-both : (b : Bool) → T (not b) → T b → ⊥
+    not-both true h g = h
+    not-both false h g = g
+
 -- a way of changing is a station's own, or a walk
 module _ (t : Timetable) where
-  abbrev own : List Change
-  own = map (changeAt (t .stations)) (range 0 (length (t .stations)))
+  abbrev own : List ℕ
+  own = filter (applies (t .walks)) (range 0 (length (t .stations)))
 
   pub changes-out : (w : Change) → w ∈ changesOf t
-      → ((z : ℕ) × (z < length (t .stations)) × (changeAt (t .stations) z ≡ w))
+      → ((z : ℕ) × Own t z × (changeAt (t .stations) z ≡ w))
       ⊎ ((v : Walk) × (v ∈ t .walks) × (onFoot v ≡ w))
   unfolding changesOf
-  changes-out w m = append-cases own m here (λ k. inr (Memᴰ·of-map onFoot (t .walks) k))
+  changes-out w m =
+      append-cases (map (changeAt (t .stations)) own) m here (λ k. inr (Memᴰ·of-map onFoot (t .walks) k))
     where
-      here : w ∈ own
-          → ((z : ℕ) × (z < length (t .stations)) × (changeAt (t .stations) z ≡ w))
+      here : w ∈ map (changeAt (t .stations)) own
+          → ((z : ℕ) × Own t z × (changeAt (t .stations) z ≡ w))
           ⊎ ((v : Walk) × (v ∈ t .walks) × (onFoot v ≡ w))
       here k =
-          let r = Memᴰ·of-map (changeAt (t .stations)) (range 0 (length (t .stations))) k in
-          let h = range-out 0 (length (t .stations)) (r .0) (r .1) in
-          inl (r .0, omega arith, r .2)
+          let r = Memᴰ·of-map (changeAt (t .stations)) own k in
+          let kept = filter-out {x = r .0} (applies (t .walks)) (range 0 (length (t .stations))) (r .1) in
+          let h = range-out 0 (length (t .stations)) (r .0) (kept .0) in
+          inl
+          (r .0, record { inside = omega arith; alone = applies-out (t .walks) (r .0) (kept .1) }, r .2)
 
-  pub changes-in : (z : ℕ) → z < length (t .stations) → changeAt (t .stations) z ∈ changesOf t
+  pub changes-in : (z : ℕ) → Own t z → changeAt (t .stations) z ∈ changesOf t
   unfolding changesOf
   changes-in z h =
       Memᴰ·append-left
       (map onFoot (t .walks))
-      (Memᴰ·map (changeAt (t .stations)) (range-in 0 (length (t .stations)) z (omega arith) (omega arith)))
+      (Memᴰ·map
+      (changeAt (t .stations))
+      (filter-in (applies (t .walks)) (range-in 0 (length (t .stations)) z (omega arith) (omega (arith, h .inside)))
+      (applies-in (t .walks) z (h .alone))))
 
   pub walks-in : (v : Walk) → v ∈ t .walks → onFoot v ∈ changesOf t
   unfolding changesOf
-  walks-in v m = Memᴰ·append-right own (Memᴰ·map onFoot m)
+  walks-in v m = Memᴰ·append-right (map (changeAt (t .stations)) own) (Memᴰ·map onFoot m)
 
 -- the points of a ride, stop by stop
 pub points-none : (l : Trip) (x : ℕ) → ridePoints l x 0 ≡ 0

@@ -15,7 +15,7 @@ use Rattle.lists.specs.Tests.{T-left, T-right, reads}
 use Rattle.lists.specs.Members.{none, cons-cases}
 use Rattle.connections.specs.Rides.{Ride, noStop, ridePoints}
 use Rattle.connections.specs.Connections.{Change, Net, net, noStation, changeAt, onFoot}
-use Rattle.connections.specs.RideLaws.{rides-out, changes-out, points-none, points-first, points-next}
+use Rattle.connections.specs.RideLaws.{rides-out, Own, changes-out, points-none, points-first, points-next}
 
 pub record Sound (n : Net) : Type 0 where
   -- "arrival after the previous departure"
@@ -197,17 +197,20 @@ module _ (t : Timetable) (v : T (valid t)) where
   unfolding valid counted
   stations-few = search reads depth 9
 
+  -- whether they apply or not
+  pub station-priced : (z : ℕ) → z < length (t .stations) → Priced (length (t .stations)) (changeAt (t .stations) z)
+  station-priced z h =
+      priced-station (t .stations) z h (valid-station (t .stations) stations-valid z h)
+
   pub change-priced : (w : Change) → w ∈ (net t) .changes → Priced (length (t .stations)) w
   change-priced w m = go (changes-out t w m)
     where
       n : ℕ
       n = length (t .stations)
 
-      go : ((z : ℕ) × (z < n) × (changeAt (t .stations) z ≡ w)) ⊎ ((v : Walk) × (v ∈ t .walks) × (onFoot v ≡ w))
+      go : ((z : ℕ) × Own t z × (changeAt (t .stations) z ≡ w)) ⊎ ((v : Walk) × (v ∈ t .walks) × (onFoot v ≡ w))
           → Priced n w
-      go (inl r) =
-          let s = valid-station (t .stations) stations-valid (r .0) (r .1) in
-          subst (Priced n) (r .2) (priced-station (t .stations) (r .0) (r .1) s)
+      go (inl r) = subst (Priced n) (r .2) (station-priced (r .0) (r .1 .inside))
       go (inr r) = subst (Priced n) (r .2) (priced-walk n (r .0) (valid-walk n (t .walks) walks-valid (r .0) (r .1)))
 
   record Good (r : Ride) : Type 0 where

@@ -1,16 +1,18 @@
 -- Where a timetable has no walk, all is as document 01 has it: "at each change alights and boards at one station". The
 -- connections, their costs and their rows are the same, and a sequence of document 02 is one of document 01 in which
 -- each station of a change stands twice, as alighted at and as boarded at. For a reader.
-use mathlib.Core.Path.{_≡_, refl, sym, ap, _∙_}
+use mathlib.Core.Path.{_≡_, refl, sym, ap, subst, _∙_}
 use mathlib.Core.List.{List, [], _∷_, _++_, map, append-nil, Memᴰ·of-map}
 use Prim.Native.Nat.{ℕ}
 use lib.ListN.{length}
 use Rattle.timetable.specs.Timetable.{Station, Timetable}
 use Rattle.lists.specs.Lists.{_∈_, range}
+use Rattle.lists.specs.Members.{none as no-member}
 use Rattle.connections.specs.Rides.{ridesOf}
 use Rattle.connections.specs.Connections.{Change, changeAt, onFoot, changesOf, Net, net, Connection, direct}
 use Rattle.connections.specs.Connections.{onward, Feasible, ready, stations}
 use Rattle.connections.specs.Planner.{plannerList, rowsOf}
+use Rattle.connections.specs.Platforms.{bothOpen, NoneAlong, same-changes as both-changes}
 
 -- the ways of changing of document 01: one for each station
 unfoldable pub ownChanges : List Station → List Change
@@ -33,10 +35,15 @@ doubled (x ∷ []) = x ∷ []
 doubled (x ∷ y ∷ l) = x ∷ x ∷ doubled (y ∷ l)
 
 module _ (t : Timetable) (none : t .walks ≡ []) where
+  -- nor one from a station to itself
+  none-along : NoneAlong t
+  none-along v m = absurd (no-member (subst (λ l. v ∈ l) none m))
+
   same-changes : changesOf t ≡ ownChanges (t .stations)
-  unfolding changesOf ownChanges
+  unfolding bothOpen ownChanges
   same-changes =
-      ap (λ l. map (changeAt (t .stations)) (range 0 (length (t .stations))) ++ map onFoot l) none
+      both-changes t none-along
+      ∙ ap (λ l. map (changeAt (t .stations)) (range 0 (length (t .stations))) ++ map onFoot l) none
       ∙ append-nil (map (changeAt (t .stations)) (range 0 (length (t .stations))))
 
   pub same-net : net t ≡ formerNet t

@@ -13,6 +13,7 @@ use Rattle.results.specs.Results.{dominates, equal, entries, result}
 use Rattle.connections.specs.Rides.{mayBoard, mayAlight, ridePoints, ridesOf}
 use Rattle.connections.specs.Connections.{net, changesOf}
 use Rattle.connections.specs.Planner.{connections, plannerList, tieKey, rowsOf}
+use Rattle.connections.specs.Platforms.{bothOpen, netOfOne}
 
 -- it is accepted, so that the theorems hold of it
 pub M-valid : T (valid M)
@@ -149,8 +150,8 @@ pub one-walk : plannerList (net apart) 1 0 4 ≡ []
 unfolding apart ridesOf mayBoard mayAlight ridePoints changesOf plannerList connections
 one-walk = refl
 
--- "From and to may be equal, for a long platform, and then both ways of changing are open": at 24 only the walk of 2
--- minutes is in time, at 25 the station's change too, which is cheaper.
+-- Document 02, Nine: "such a W line goes first: the S values do not apply to changes there", whether they are slower
+-- and cheaper, as here, where the walk takes 2 minutes,
 unfoldable pub platform : (depart : ℕ) → Timetable
 platform d =
     record {
@@ -160,12 +161,23 @@ platform d =
       trips = (stop 1 0 10 0 ∷ stop 2 20 0 0 ∷ []) ∷ (stop 2 0 d 0 ∷ stop 3 90 0 0 ∷ []) ∷ [];
     }
 
-pub both-open : (planned (platform 24) 1 0 3 ≡ twoRides 90 70 1 1 2 2 1 2 ∷ [])
-    × (planned (platform 25) 1 0 3 ≡ twoRides 90 50 1 1 2 2 1 2 ∷ [])
-    × (length (plannerList (net (platform 25)) 1 0 3) ≡ 2)
+pub walk-alone : (planned (platform 22) 1 0 3 ≡ twoRides 90 70 1 1 2 2 1 2 ∷ [])
+    × (planned (platform 25) 1 0 3 ≡ twoRides 90 70 1 1 2 2 1 2 ∷ [])
+    × (length (plannerList (net (platform 25)) 1 0 3) ≡ 1)
 unfolding platform ridesOf mayBoard mayAlight ridePoints changesOf plannerList connections entries result dominates
     equal rowsOf tieKey
-both-open = (refl, refl, refl)
+walk-alone = (refl, refl, refl)
+
+-- or quicker, as in timetable M with W,2,2,4,15: who arrives at 500 with 4 minutes to walk leaves by neither trip. What
+-- request One showed at 470 stands second.
+unfoldable pub alongTwo : Timetable
+alongTwo = record { stations = M .stations; walks = walk 2 2 4 15 ∷ []; numbers = M .numbers; trips = M .trips }
+
+pub changed-rows : (planned alongTwo 1 470 3 ≡ oneRide 90 0 1 1 3 ∷ [])
+    × (rowsOf 470 (plannerList (netOfOne alongTwo) 1 470 3) ≡ twoRides 50 10 1 1 2 2 1 2 ∷ oneRide 90 0 1 1 3 ∷ [])
+unfolding alongTwo M variant ridesOf mayBoard mayAlight ridePoints changesOf bothOpen plannerList connections entries
+    result dominates equal rowsOf tieKey
+changed-rows = (refl, refl)
 
 -- "No walk stands before the first ride or after the last": who has walked to station 3 has not arrived there, and
 -- rides a round from it.

@@ -12,7 +12,7 @@ use Rattle.timetable.specs.Timetable.{Station, Stop, Trip, Timetable, numberMos
 use Rattle.lines_tables.specs.Building.{slicesLeast}
 use Rattle.lines_lookup.specs.Lookup.{Line, lineCount, lineAt, numberAt, stationAt, markAt, lowAt, arriveAt}
 use Rattle.lines_lookup.specs.Lookup.{departAt}
-use Rattle.lines_lookup.specs.First.{firstFrom}
+use Rattle.lists.specs.First.{firstFrom}
 use Rattle.lines_check.specs.Question10.{begins}
 use Rattle.lines_alone.specs.declared.Home.{Home as HomeStruct}
 

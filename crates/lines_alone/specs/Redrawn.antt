@@ -38,7 +38,7 @@ use Rattle.lines.specs.Once.{line-of, trip-listed}
 use Rattle.lines_tables.specs.Tables.{totalOn}
 use Rattle.lines_tables.specs.Spelled.{within}
 use Rattle.lines_lookup.specs.Lookup.{lineCount, lineAt, numberAt}
-use Rattle.lines_lookup.specs.First.{firstFrom}
+use Rattle.lists.specs.First.{firstFrom}
 use Rattle.lines_lookup.specs.Told.{LineTold, Told}
 use Rattle.lines_lookup.specs.Marked.{line-station, line-mark, station-few}
 use Rattle.lines_alone.specs.Drawn.{

@@ -5,7 +5,8 @@ use Prim.Native.Nat.{ℕ, _+_, _-_, _≤_, _<_}
 use borrow.Author.Tests.{le-leb, lt-leb}
 use lib.Dec.{leb}
 use Rattle.lines_lookup.specs.Lookup.{Line, departAt}
-use Rattle.lines_lookup.specs.First.{firstFrom, firstTrip, first-none, first-here, first-later}
+use Rattle.lists.specs.First.{firstFrom, first-none, first-here, first-later}
+use Rattle.lines_lookup.specs.First.{firstTrip}
 
 module _
     (v : List ℕ)

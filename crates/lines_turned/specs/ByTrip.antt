@@ -11,7 +11,7 @@ use Rattle.timetable.specs.Timetable.{Trip, Timetable, numberOf}
 use Rattle.lines.specs.Lines.{lines, course}
 use Rattle.lines_tables.specs.Tables.{stopOf, courseWords, linePlaces, callPlaces, allCallPairs, indexPlace}
 use Rattle.lines_lookup.specs.Lookup.{Line, coursePlace}
-use Rattle.lines_lookup.specs.First.{firstFrom}
+use Rattle.lists.specs.First.{firstFrom}
 
 -- arrival and departure of the trip at place z, stop by stop, at so many stops
 unfoldable pub tripTimes : List Trip → (stops z : ℕ) → List ℕ

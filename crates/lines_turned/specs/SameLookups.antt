@@ -33,7 +33,8 @@ use Rattle.lines_lookup.specs.Lookup.{
   callsPlace,
   listOf,
 }
-use Rattle.lines_lookup.specs.First.{firstFrom, firstTrip}
+use Rattle.lists.specs.First.{firstFrom}
+use Rattle.lines_lookup.specs.First.{firstTrip}
 use Rattle.lines_lookup.specs.Calls.{callsOf, pairsOf}
 use Rattle.lines_lookup.specs.Told.{LineTold, Holds}
 use Rattle.lines_lookup.specs.Places.{

@@ -6,3 +6,4 @@ pub mod Ranges
 pub mod Order
 pub mod Sorting
 pub mod Pigeonhole
+pub mod First

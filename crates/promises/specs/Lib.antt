@@ -10,3 +10,4 @@ pub mod FromAfresh
 pub mod Proved
 pub mod ChangesProved
 pub mod WithoutWalks
+pub mod Platforms

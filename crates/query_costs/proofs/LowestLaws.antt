@@ -11,7 +11,7 @@ use borrow.Author.Tests.{le-ltb}
 use lib.Dec.{ltb}
 use lib.ListN.{length, getD, set, take, drop, replicate, length-drop, length-replicate, List·getD-eq-default}
 use lib.Seq.{drop-cons, append-snoc, take-suc-set, drop-set-lt, getD-drop, take-at}
-use Rattle.lines_lookup.specs.First.{firstFrom, first-none, first-here, first-later}
+use Rattle.lists.specs.First.{firstFrom, first-none, first-here, first-later}
 use Rattle.query_minutes.specs.Minutes.{noPoints, blank}
 use Rattle.query_minutes.specs.Noted.{getD-any, getD-blank}
 use Rattle.query_costs.specs.declared.Span.{Span}

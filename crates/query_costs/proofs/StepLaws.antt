@@ -1,88 +1,46 @@
--- One step with its ways of changing, and the two arrays that change places.
-use mathlib.Core.Path.{_≡_, refl, sym, ap, subst, _∙_}
+-- One step with its way of changing, and the two arrays that change places.
+use mathlib.Core.Path.{_≡_, sym, ap, subst, _∙_}
 use mathlib.Core.Bool.{Bool, true, false, not}
-use mathlib.Core.List.{List, []}
-use Prim.Native.Nat.{ℕ, _≤_, min, max}
-use native.Mathlib.Omega.{arith}
+use mathlib.Core.List.{List}
+use Prim.Native.Nat.{ℕ, _≤_}
 use borrow.Author.Tests.{not-true, not-false}
-use Rattle.lists.specs.Lists.{keep}
 use Rattle.results.specs.declared.Cost.{Cost}
 use Rattle.connections.specs.Rides.{Ride}
 use Rattle.query_minutes.specs.Minutes.{noPoints, blank}
-use Rattle.query_rides.specs.declared.Change.the-variants.{Here, Walk as OnFoot}
-use Rattle.query_rides.specs.declared.Ways.{Ways}
-use Rattle.query_rides.specs.Ways.{costOf, waysBetween, costsIn}
-use Rattle.query_costs.specs.declared.Span.{Span}
-use Rattle.query_costs.specs.Spans.{Within, spanned, within-both}
+use Rattle.query_rides.specs.declared.Way.{Way}
+use Rattle.query_rides.specs.Ways.{costIn, wayBetween}
 use Rattle.query_costs.specs.Lowest.{lowest}
-use Rattle.query_costs.specs.Layering.{takenAll, takenWays, stepOf, firstValue}
+use Rattle.query_costs.specs.Layering.{takenAll, takenWay, stepOf, firstValue}
 use Rattle.query_costs.specs.Fitting.{Fitting, Priced}
 use Rattle.query_costs.specs.Turning.{held, held-first, held-second}
 use Rattle.query_costs.specs.Onward.{changeWords}
 
--- ---- the rides noted for one way of changing, if it is open
-module _ (p : List ℕ) (l : List Ride) (offered : Bool) (c : Cost) (best : List ℕ) where
-  pub way-shut : not offered ≡ true → best ≡ takenWays p (keep offered c []) best l
-  unfolding takenWays
-  way-shut e = rw (not-true offered e)
+-- ---- the rides noted, if there is a way of changing behind them
+module _ (p : List ℕ) (l : List Ride) (g : Way) (best : List ℕ) where
+  pub way-shut : not (g .found) ≡ true → best ≡ takenWay p g best l
+  unfolding takenWay
+  way-shut e = rw (not-true (g .found) e)
 
-  pub way-taken : not offered ≡ false → (after : List ℕ) → after ≡ takenAll p (c .minutes .0) (c .points .0) best l
-      → after ≡ takenWays p (keep offered c []) best l
-  unfolding takenWays
-  way-taken e after is = rw (not-false offered e) is
+  pub way-taken : not (g .found) ≡ false → (c : Cost) → c ≡ costIn g → (after : List ℕ)
+      → after ≡ takenAll p (c .minutes .0) (c .points .0) best l → after ≡ takenWay p g best l
+  unfolding takenWay
+  way-taken e c is after h =
+      rw (not-false (g .found) e) (h ∙ ap (λ c. takenAll p (c .minutes .0) (c .points .0) best l) is)
 
--- ---- and for each way
-module _ (g : Ways) (priced : Priced g) (c : Cost) where
-  pub stay-short : c ≡ costOf (g .here) Here → c .minutes .0 ≤ 240
-  stay-short e = subst (λ c. c .minutes .0 ≤ 240) (sym e) (priced .stay-minutes)
+module _ (g : Way) (priced : Priced g) (c : Cost) (is : c ≡ costIn g) where
+  pub way-short : c .minutes .0 ≤ 240
+  way-short = subst (λ c. c .minutes .0 ≤ 240) (sym is) (priced .minutes-most)
 
-  pub stay-cheap : c ≡ costOf (g .here) Here → c .points .0 ≤ 1000
-  stay-cheap e = subst (λ c. c .points .0 ≤ 1000) (sym e) (priced .stay-points)
-
-  pub walk-short : c ≡ costOf (g .here) (OnFoot (g .walk)) → c .minutes .0 ≤ 240
-  walk-short e = subst (λ c. c .minutes .0 ≤ 240) (sym e) (priced .walk-minutes)
-
-  pub walk-cheap : c ≡ costOf (g .here) (OnFoot (g .walk)) → c .points .0 ≤ 1000
-  walk-cheap e = subst (λ c. c .points .0 ≤ 1000) (sym e) (priced .walk-points)
-
-taken-both : (p : List ℕ) (l : List Ride) (a b : Bool) (c d : Cost) (best : List ℕ)
-    → takenWays p (keep b d []) (takenWays p (keep a c []) best l) l ≡ takenWays p (keep a c (keep b d [])) best l
-unfolding takenWays
-taken-both p l true b c d best = refl
-taken-both p l false b c d best = refl
-
-pub ways-taken : (p : List ℕ) (l : List Ride) (g : Ways) (stay walk : Cost) → stay ≡ costOf (g .here) Here
-    → walk ≡ costOf (g .here) (OnFoot (g .walk)) → (best mid after : List ℕ)
-    → mid ≡ takenWays p (keep (g .stays) stay []) best l
-    → after ≡ takenWays p (keep (g .walks) walk []) mid l
-    → after ≡ takenWays p (costsIn g) best l
-unfolding costsIn
-ways-taken p l g stay walk is-stay is-walk best mid after e f =
-    f
-    ∙ ap (λ m. takenWays p (keep (g .walks) walk []) m l) e
-    ∙ taken-both p l (g .stays) (g .walks) stay walk best
-    ∙ (λ i. takenWays p (keep (g .stays) (is-stay i) (keep (g .walks) (is-walk i) [])) best l)
-
-module _ (s u r : Span) (is : r ≡ spanned s u) where
-  pub both-within : (old mid new : List ℕ) → Within s old mid → Within u mid new → Within r old new
-  both-within old mid new f g = subst (λ r. Within r old new) (sym is) (within-both s u old mid new f g)
-
-  pub both-low : s .from ≤ 2880 → r .from ≤ 2880
-  unfolding spanned
-  both-low h = omega (arith, ap (λ r. r .from) is)
-
-pub both-spanned : (s u : Span) (from to : ℕ) → from ≡ min (s .from) (u .from) → to ≡ max (s .to) (u .to)
-    → record { from = from; to = to } ≡ spanned s u
-unfolding spanned
-both-spanned s u from to e f = λ i. record { from = e i; to = f i }
+  pub way-cheap : c .points .0 ≤ 1000
+  way-cheap = subst (λ c. c .points .0 ≤ 1000) (sym is) (priced .points-most)
 
 -- ---- a step from blank words
-pub step-is : (w : List ℕ) (y z : ℕ) (p : List ℕ) (l : List Ride) (g : Ways) → g ≡ waysBetween w y z
-    → (q noted last : List ℕ) → q ≡ blank → noted ≡ takenWays p (costsIn g) q l
+pub step-is : (w : List ℕ) (y z : ℕ) (p : List ℕ) (l : List Ride) (g : Way) → g ≡ wayBetween w y z
+    → (q noted last : List ℕ) → q ≡ blank → noted ≡ takenWay p g q l
     → last ≡ lowest noPoints noted → last ≡ changeWords w p y z l
 unfolding changeWords stepOf
 step-is w y z p l g is q noted last e f h =
-    h ∙ ap (lowest noPoints) (f ∙ (λ i. takenWays p (costsIn (is i)) (e i) l))
+    h ∙ ap (lowest noPoints) (f ∙ (λ i. takenWay p (is i) (e i) l))
 
 -- ---- the arrays have changed places, or have not
 module _ (turned : Bool) (p q : List ℕ) where

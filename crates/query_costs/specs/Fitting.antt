@@ -6,7 +6,8 @@ use Rattle.lists.specs.Lists.{_∈_}
 use Rattle.connections.specs.Rides.{Ride}
 use Rattle.optimality.specs.Bounds.{penaltyMost}
 use Rattle.query_rides.specs.declared.Ride.{Ride as RideStruct}
-use Rattle.query_rides.specs.declared.Ways.{Ways}
+use Rattle.query_rides.specs.declared.Way.{Way}
+use Rattle.query_rides.specs.Ways.{costIn}
 
 -- a ride as the code tells it, for one who has paid what p holds for its departure
 pub record Fits (p : List ℕ) (s : RideStruct) : Type 0 where
@@ -21,9 +22,7 @@ pub record Fitting (p : List ℕ) (l : List Ride) : Type 0 where
   pub low : (r : Ride) → r ∈ l → getD p (r .depart) 0 ≤ penaltyMost
   pub few : (r : Ride) → r ∈ l → r .points ≤ 287900
 
--- what each way of changing takes and costs
-pub record Priced (g : Ways) : Type 0 where
-  pub stay-minutes : g .here .minutes .0 ≤ 240
-  pub stay-points : g .here .points .0 ≤ 1000
-  pub walk-minutes : g .walk .minutes ≤ 240
-  pub walk-points : g .walk .points ≤ 1000
+-- what a way of changing takes and costs
+pub record Priced (g : Way) : Type 0 where
+  pub minutes-most : costIn g .minutes .0 ≤ 240
+  pub points-most : costIn g .points .0 ≤ 1000

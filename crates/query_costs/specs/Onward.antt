@@ -7,25 +7,25 @@ use mathlib.Core.List.{List, _∷_}
 use Prim.Native.Nat.{ℕ, _-_, _≤_, _<_}
 use native.Mathlib.Omega.{arith}
 use borrow.Author.Tests.{ltb-true}
-use lib.Dec.{T, ltb, eqb}
+use lib.Dec.{T, ltb}
 use lib.ListN.{length, getD}
 use Rattle.lists.specs.Lists.{_∈_}
 use Rattle.timetable.specs.Timetable.{Timetable, valid}
-use Rattle.timetable.specs.Words.{timetableOf, isTimetable, stationCount, stationAt, walksTo, walkAt}
+use Rattle.timetable.specs.Words.{timetableOf, isTimetable, stationCount, stationAt, walksTo}
 use Rattle.timetable.specs.Check.{length-stations}
 use Rattle.timetable.specs.Access.{spelled-valid, station-is}
 use Rattle.timetable.specs.Walks.{walks-rise, good-walk}
+use Rattle.timetable.specs.WalkTo.{walkTo}
 use Rattle.connections.specs.Rides.{Ride}
-use Rattle.connections.specs.Connections.{net, Boards, Transfer, changeAt, noStation}
-use Rattle.connections.specs.RideLaws.{changes-in}
-use Rattle.connections.specs.Sound.{sound, ride-cheap, change-priced}
+use Rattle.connections.specs.Connections.{net, Boards, Transfer, noStation}
+use Rattle.connections.specs.Sound.{sound, ride-cheap, station-priced}
 use Rattle.lines_check.specs.Question10.{areTables}
 use Rattle.query_direct.specs.Candidates.{allRead}
 use Rattle.query_minutes.specs.Minutes.{noPoints}
 use Rattle.query_minutes.specs.Noted.{getD-any}
 use Rattle.query_rides.specs.Ridden.{read-rides}
-use Rattle.query_rides.specs.declared.Ways.{Ways}
-use Rattle.query_rides.specs.Ways.{stayAt, noWalk, walkTo, waysBetween, costsIn, Open, open-ways}
+use Rattle.query_rides.specs.declared.Way.{Way}
+use Rattle.query_rides.specs.Ways.{onWalk, atStation, wayBetween, Open, open-way}
 use Rattle.query_costs.specs.Layering.{stepOf, takenAll, firstValue}
 use Rattle.query_costs.specs.Fitting.{Fitting, Priced}
 use Rattle.query_costs.specs.Lowered.{Lowered}
@@ -42,7 +42,7 @@ pub record Stations (w path : List ℕ) (r : ℕ) : Type 0 where
 
 -- behind some rides to station y and a change from it to station z
 unfoldable pub changeWords : (w p : List ℕ) (y z : ℕ) → List Ride → List ℕ
-changeWords w p y z l = stepOf p (costsIn (waysBetween w y z)) l
+changeWords w p y z l = stepOf p (wayBetween w y z) l
 
 module _ (w : List ℕ) (accepted : isTimetable w ≡ true) where
   abbrev t : Timetable
@@ -51,46 +51,35 @@ module _ (w : List ℕ) (accepted : isTimetable w ≡ true) where
   pub is-valid : T (valid t)
   is-valid = rw (spelled-valid w accepted) tt
 
-  -- ---- the changes from a station
+  -- ---- the change from a station
   module _ (y : ℕ) (i : Listed w y) (z : ℕ) where
-    open-here : Open (net t) y z (costsIn (waysBetween w y z))
-    open-here = open-ways w accepted y z (i .some) (i .inside)
+    open-here : Open (net t) y z (wayBetween w y z)
+    open-here = open-way w accepted y z (i .some) (i .inside)
 
-    -- no way takes or costs much
-    stay-priced : (stationAt w (y - 1) .minutes ≤ 240) × (stationAt w (y - 1) .points ≤ 1000)
-    stay-priced =
+    -- it takes and costs little
+    own-priced : (stationAt w (y - 1) .minutes ≤ 240) × (stationAt w (y - 1) .points ≤ 1000)
+    own-priced =
         let inside : y - 1 < length (t .stations) = omega (arith, i .some, i .inside, length-stations w) in
         let is = station-is w (y - 1) noStation (omega (arith, i .some, i .inside)) in
-        let own = change-priced t is-valid (changeAt (t .stations) (y - 1)) (changes-in t (y - 1) inside) in (
+        let own = station-priced t is-valid (y - 1) inside in (
           subst (λ s. s .minutes ≤ 240) is (own .minutes-most),
           subst (λ s. s .points ≤ 1000) is (own .points-most),
         )
 
-    pub ways-priced : (g : Ways) → g ≡ waysBetween w y z → Priced g
-    unfolding waysBetween
-    ways-priced g e = subst Priced (sym e) (go (ltb (walkTo w y z) (walksTo w y)) refl)
+    pub way-priced : (g : Way) → g ≡ wayBetween w y z → Priced g
+    unfolding wayBetween
+    way-priced g e = subst Priced (sym e) (go (ltb k (walksTo w y)) refl)
       where
         k : ℕ
         k = walkTo w y z
 
         go : (b : Bool) → ltb k (walksTo w y) ≡ b
-            → Priced (record { stays = eqb y z; here = stayAt w y; walks = b; walk = cond b (walkAt w k) noWalk })
-        go false e =
-            record {
-              stay-minutes = stay-priced .0;
-              stay-points = stay-priced .1;
-              walk-minutes = omega arith;
-              walk-points = omega arith;
-            }
+            → Priced (cond b (onWalk w y k) (atStation w y z))
+        go false e = record { minutes-most = own-priced .0; points-most = own-priced .1 }
         go true e =
             let few = walks-rise w accepted y (stationCount w) (i .inside) (omega arith) in
             let good = good-walk w accepted k (omega (arith, ltb-true k (walksTo w y) e)) in
-            record {
-              stay-minutes = stay-priced .0;
-              stay-points = stay-priced .1;
-              walk-minutes = omega (arith, good .minutes-most);
-              walk-points = good .points-most;
-            }
+            record { minutes-most = omega (arith, good .minutes-most); points-most = good .points-most }
 
   module _ (v : List ℕ) (own : areTables w v ≡ true) (x : ℕ) (i : Listed w x) where
     inside : x ≤ length (t .stations)
@@ -140,7 +129,7 @@ module _ (w : List ℕ) (accepted : isTimetable w ≡ true) where
           (changeWords w p y z l)
       unfolding changeWords
       step-on j z =
-          step-ready t is-valid a u rev x e p is y l (between y e) z (costsIn (waysBetween w y z)) (open-here y j z)
+          step-ready t is-valid a u rev x e p is y l (between y e) z (wayBetween w y z) (open-here y j z)
 
       pub end-on : (old : List ℕ) → length old ≡ 2880 → Lowered (net t) a u rev y old (takenAll p 0 0 old l)
       end-on old long = end-lowered t is-valid a u rev x e p is y l (between y e) old long

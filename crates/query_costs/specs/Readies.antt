@@ -13,7 +13,6 @@ use lib.ListN.{length, getD, set, length-set, length-replicate, List·getD-eq-de
 use lib.Seq.{getD-set-same, getD-set-other}
 use Rattle.timetable.specs.Timetable.{Timetable, valid}
 use Rattle.lists.specs.Lists.{_∈_}
-use Rattle.results.specs.declared.Cost.{Cost}
 use Rattle.connections.specs.Rides.{Ride}
 use Rattle.connections.specs.Connections.{Net, net, Change, Transfer, transfer, Changes, ready}
 use Rattle.connections.specs.Sound.{sound, ride-cheap}
@@ -23,8 +22,9 @@ use Rattle.optimality.specs.Layers.{LastTo, Ending, end-attained, end-below}
 use Rattle.optimality.specs.Bounds.{penaltyMost, reach-most}
 use Rattle.query_minutes.specs.Minutes.{noPoints, blank}
 use Rattle.query_minutes.specs.Noted.{getD-any, getD-blank}
-use Rattle.query_direct.specs.Foremost.{Foremost, foremost}
-use Rattle.query_rides.specs.Ways.{Open}
+use Rattle.lists.specs.First.{Foremost, foremost}
+use Rattle.query_rides.specs.declared.Way.{Way}
+use Rattle.query_rides.specs.Ways.{costIn, Open}
 use Rattle.query_costs.specs.Lowest.{length-lowest, lowest-below, lowest-stems}
 use Rattle.query_costs.specs.Layering.{startOf, stepOf, takenAll, firstValue}
 use Rattle.query_costs.specs.Taken.{Noting, noting, length-taken, Stepped, stepped}
@@ -192,33 +192,33 @@ module _ (tt : Timetable) (ok : T (valid tt)) (a t : ℕ) where
                 | no k ↦ omega arith
               ]
 
-      -- by one of the ways from y to station z
-      module _ (z : ℕ) (costs : List Cost) (known : Open n y z costs) where
+      -- by the way from y to station z
+      module _ (z : ℕ) (g : Way) (known : Open n y z g) where
         abbrev q : List ℕ
-        q = stepOf p costs l
+        q = stepOf p g l
 
         abbrev change : Transfer
         change = record { alighted = y; boarded = z }
 
-        s : Stepped p l costs
-        s = stepped p l costs
+        s : Stepped p l g
+        s = stepped p l g
 
         stepping : Stepping n a t noPoints 2880 change (valueAt x p) (valueAt z q)
         stepping = record { over = over; attained = attained }
           where
             over : (r : Ride) (c : Change) (u : ℕ) → r ∈ n .rides → Changes n r c → transfer c ≡ change → ready r c ≤ u
                 → u < 2880 → valueAt z q (c .to) u ≤ valueAt x p (r .from) (r .depart) + r .points + c .points
-            over r c u m h g k i =
+            over r c u m h e k i =
                 elim (decLt (valueAt x p (r .from) (r .depart)) noPoints) [
                   | yes some ↦ reached some
                   | no some ↦ omega (arith, here, s .most u)
                 ]
               where
                 from : c .from ≡ y
-                from = ap (λ t. t .alighted) g
+                from = ap (λ t. t .alighted) e
 
                 to : c .to ≡ z
-                to = ap (λ t. t .boarded) g
+                to = ap (λ t. t .boarded) e
 
                 here : valueAt z q (c .to) u ≡ kept q u
                 here = value-here z q (c .to) u to
@@ -229,16 +229,16 @@ module _ (tt : Timetable) (ok : T (valid tt)) (a t : ℕ) where
                     let way = known .all c (h .listed) from to in
                     let there : r .to ≡ y = sym (h .here) ∙ from in
                     let paid = before r m (value-some x p (r .from) (r .depart) some) in
-                    let soon : r .arrive + way .0 .minutes .0 ≤ u = omega (arith, way .2 .minutes) in
-                    let done = s .over (way .0) (way .1) r (in-list r m there some) u soon i in
-                    omega (arith, here, paid, done, way .2 .points)
+                    let soon : r .arrive + costIn g .minutes .0 ≤ u = omega (arith, way .1 .minutes) in
+                    let done = s .over (way .0) r (in-list r m there some) u soon i in
+                    omega (arith, here, paid, done, way .1 .points)
 
             attained : (o u : ℕ) → valueAt z q o u < noPoints
                 → Last n a t noPoints 2880 change (valueAt x p) (valueAt z q) o u
             attained o u h =
                 let there = value-some z q o u h in
                 let k = s .attained u (omega (arith, value-here z q o u there)) in
-                let way = known .sound (k .way) (k .among) in
+                let way = known .sound (k .found) in
                 let r = k .ride in
                 let m = b .listed r (k .listed) in
                 record {

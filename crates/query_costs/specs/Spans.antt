@@ -39,10 +39,6 @@ module _ (s : Span) (m : ℕ) where
         | no g ↦ omega (arith, ap (λ s. s .from) (widened-late (omega arith)))
       ]
 
--- the minutes from the first of two spans to the last of them
-unfoldable pub spanned : (s u : Span) → Span
-spanned s u = record { from = min (s .from) (u .from); to = max (s .to) (u .to) }
-
 -- ---- words that change within a span
 
 -- none at all
@@ -81,14 +77,3 @@ module _ (s : Span) (old best : List ℕ) (long : length best ≡ 2880) (is : Wi
 
           above : (k : ℕ) → max (s .to) (m + 1) ≤ k → getD (set best m x) k noPoints ≡ getD old k noPoints
           above k g = getD-set-other best m k x noPoints (λ e. omega arith) ∙ is .above k (omega arith)
-
--- first within one span, and then within another
-module _ (s u : Span) (old mid new : List ℕ) (first : Within s old mid) (then : Within u mid new) where
-  pub within-both : Within (spanned s u) old new
-  unfolding spanned
-  within-both =
-      record {
-        short = omega (arith, first .short, then .short);
-        below = λ m h. then .below m (omega arith) ∙ first .below m (omega arith);
-        above = λ m h. then .above m (omega arith) ∙ first .above m (omega arith);
-      }

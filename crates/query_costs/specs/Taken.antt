@@ -1,9 +1,8 @@
 -- What the words say once the rides of a list are noted for those who take them, and once the least so far is taken.
-use mathlib.Core.Path.{_≡_, refl, sym, ap, subst, _∙_}
+use mathlib.Core.Path.{_≡_, refl, sym, ap, _∙_}
 use mathlib.Core.Bool.{Bool, not}
 use mathlib.Core.Logic.{_⊎_, inl, inr, ⊎-map}
 use mathlib.Core.List.{List, [], _∷_, map, Memᴰ·map, Memᴰ·of-map}
-use mathlib.Core.List.{List·Memᴰ·head as here, List·Memᴰ·tail as there}
 use Prim.Native.Nat.{ℕ, _+_, _≤_, _<_, min}
 use native.Mathlib.Omega.{arith}
 use native.Mathlib.Decide.{decLt}
@@ -12,14 +11,15 @@ use lib.ListN.{length, getD, length-set, length-replicate, List·getD-eq-default
 use lib.Seq.{set-out}
 use Rattle.lists.specs.Lists.{_∈_, filter}
 use Rattle.lists.specs.Tests.{either, T-true, T-false}
-use Rattle.lists.specs.Members.{none, cons-cases, filter-in, filter-out}
-use Rattle.results.specs.declared.Cost.{Cost}
+use Rattle.lists.specs.Members.{filter-in, filter-out}
 use Rattle.connections.specs.Rides.{Ride}
 use Rattle.query_minutes.specs.Minutes.{noPoints, blank, noted, noteAll}
 use Rattle.query_minutes.specs.Noted.{Arrives, Noted, all-noted, getD-blank, length-noted}
+use Rattle.query_rides.specs.declared.Way.{Way}
+use Rattle.query_rides.specs.Ways.{costIn}
 use Rattle.query_costs.specs.Lowest.{lowest, length-lowest}
 use Rattle.query_costs.specs.Lowest.{Before, lowest-least, lowest-below, lowest-falls, lowest-stems}
-use Rattle.query_costs.specs.Layering.{taken, takenAll, takenWays, stepOf}
+use Rattle.query_costs.specs.Layering.{taken, takenAll, takenWay, stepOf}
 
 -- the ride is noted within the two days
 abbrev inTime : Ride → Bool
@@ -114,173 +114,128 @@ module _ (p : List ℕ) (minutes points : ℕ) (l : List Ride) where
     unfolding takenAll
     length-taken = length-noted all best ∙ long
 
--- ---- once for each way of changing behind the rides
-module _ (p : List ℕ) (l : List Ride) where
-  -- by a ride of the list and one of the ways one who paid c is ready at minute m
-  record ReadyWith (costs : List Cost) (m c : ℕ) : Type 0 where
-    way : Cost
-    among : way ∈ costs
-    ready : ReadyBy p (way .minutes .0) (way .points .0) l m c
+-- ---- if there is a way of changing behind the rides: from blank words, and the least so far
+module _ (p : List ℕ) (l : List Ride) (g : Way) where
+  abbrev minutes : ℕ
+  minutes = costIn g .minutes .0
 
-  record WaysNoting (costs : List Cost) (best after : List ℕ) : Type 0 where
+  abbrev points : ℕ
+  points = costIn g .points .0
+
+  record WayNoting (after : List ℕ) : Type 0 where
     long : length after ≡ 2880
-    low : (c : Cost) → c ∈ costs → (r : Ride) → r ∈ l → r .arrive + c .minutes .0 < 2880
-        → getD after (r .arrive + c .minutes .0) noPoints ≤ paid p (c .minutes .0) (c .points .0) l r
-    kept : (m : ℕ) → getD after m noPoints ≤ getD best m noPoints
+    low : T (g .found) → (r : Ride) → r ∈ l → r .arrive + minutes < 2880
+        → getD after (r .arrive + minutes) noPoints ≤ paid p minutes points l r
     stems : (m : ℕ)
-        → (getD after m noPoints ≡ getD best m noPoints) ⊎ ReadyWith costs m (getD after m noPoints)
+        → (getD after m noPoints ≡ noPoints)
+        ⊎ (T (g .found) × ReadyBy p minutes points l m (getD after m noPoints))
 
-  ways-noting : (costs : List Cost) (best : List ℕ) → length best ≡ 2880
-      → WaysNoting costs best (takenWays p costs best l)
-  unfolding takenWays
-  ways-noting [] best long =
-      record { long = long; low = λ c i. none i; kept = λ m. omega arith; stems = λ m. inl refl }
-  ways-noting (c ∷ costs) best long = go (ways-noting costs first long-first)
+  abbrev noted-now : List ℕ
+  noted-now = takenWay p g blank l
+
+  n : WayNoting noted-now
+  unfolding takenWay
+  n = either (g .found) some none
     where
-      minutes : ℕ
-      minutes = c .minutes .0
+      long : length blank ≡ 2880
+      long = length-replicate 2880 noPoints
 
-      points : ℕ
-      points = c .points .0
+      some : T (g .found) → WayNoting noted-now
+      some t =
+          let n = noting p minutes points l blank long in
+          rw (T-true (g .found) t)
+          (record {
+            long = length-taken p minutes points l blank long;
+            low = λ f. n .low;
+            stems = λ m. ⊎-map (λ e. e ∙ getD-blank 2880 noPoints m) (λ k. (tt, k)) (n .stems m);
+          })
 
-      first : List ℕ
-      first = takenAll p minutes points best l
+      none : T (not (g .found)) → WayNoting noted-now
+      none t =
+          rw (T-false (g .found) t)
+          (record {
+            long = long;
+            low = λ f. absurd f;
+            stems = λ m. inl (getD-blank 2880 noPoints m);
+          })
 
-      long-first : length first ≡ 2880
-      long-first = length-taken p minutes points l best long
+  abbrev next : List ℕ
+  next = stepOf p g l
 
-      n : Noting p minutes points l best long
-      n = noting p minutes points l best long
+  -- by a ride of the list and the way one who paid c is ready by minute m
+  pub record ReadyUntil (m c : ℕ) : Type 0 where
+    pub found : T (g .found)
+    pub ride : Ride
+    pub listed : ride ∈ l
+    pub until : ride .arrive + minutes ≤ m
+    pub pays : paid p minutes points l ride ≡ c
 
-      after : List ℕ
-      after = takenWays p costs first l
+  pub record Stepped : Type 0 where
+    pub long : length next ≡ 2880
+    pub most : (m : ℕ) → getD next m noPoints ≤ noPoints
+    pub falls : (j m : ℕ) → j ≤ m → m < 2880 → getD next m noPoints ≤ getD next j noPoints
+    pub over : T (g .found) → (r : Ride) → r ∈ l → (m : ℕ) → r .arrive + minutes ≤ m → m < 2880
+        → getD next m noPoints ≤ paid p minutes points l r
+    pub attained : (m : ℕ) → getD next m noPoints < noPoints → ReadyUntil m (getD next m noPoints)
 
-      go : WaysNoting costs first after → WaysNoting (c ∷ costs) best after
-      go k =
-          record {
-            long = k .long;
-            low = low;
-            kept = λ m. omega (arith, k .kept m, n .kept m);
-            stems = λ m. elim (k .stems m) [ inl e ↦ before m e (n .stems m) | inr a ↦ inr (behind m a) ];
-          }
+  pub stepped : Stepped
+  unfolding stepOf
+  stepped = record { long = long; most = most; falls = falls; over = over; attained = attained }
+    where
+      noted-long : length noted-now ≡ 2880
+      noted-long = n .long
+
+      long : length (lowest noPoints noted-now) ≡ 2880
+      long = length-lowest noPoints noted-now ∙ noted-long
+
+      most : (m : ℕ) → getD (lowest noPoints noted-now) m noPoints ≤ noPoints
+      most m =
+          elim (decLt m 2880) [
+            | yes h ↦ lowest-least noPoints noted-now noPoints m (omega (arith, noted-long))
+            | no h ↦ omega (
+              arith,
+              List·getD-eq-default (lowest noPoints noted-now) noPoints {n = m} (omega (arith, long)),
+            )
+          ]
+
+      falls : (j m : ℕ) → j ≤ m → m < 2880
+          → getD (lowest noPoints noted-now) m noPoints ≤ getD (lowest noPoints noted-now) j noPoints
+      falls j m h g = lowest-falls noPoints noted-now noPoints j m h (omega (arith, noted-long))
+
+      over : T (g .found) → (r : Ride) → r ∈ l → (m : ℕ) → r .arrive + minutes ≤ m → m < 2880
+          → getD (lowest noPoints noted-now) m noPoints ≤ paid p minutes points l r
+      over f r i m h e =
+          let k = r .arrive + minutes in
+          let low = n .low f r i (omega arith) in
+          omega (arith, lowest-below noPoints noted-now noPoints k m h (omega (arith, noted-long)), low)
+
+      attained : (m : ℕ) → getD (lowest noPoints noted-now) m noPoints < noPoints
+          → ReadyUntil m (getD (lowest noPoints noted-now) m noPoints)
+      attained m h =
+          elim (decLt m 2880) [
+            | yes g ↦ stems (lowest-stems noPoints noted-now noPoints m (omega (arith, noted-long)))
+            | no g ↦ absurd (omega (
+              arith,
+              List·getD-eq-default (lowest noPoints noted-now) noPoints {n = m} (omega (arith, long)),
+            ))
+          ]
         where
-          low : (d : Cost) → d ∈ c ∷ costs → (r : Ride) → r ∈ l → r .arrive + d .minutes .0 < 2880
-              → getD after (r .arrive + d .minutes .0) noPoints ≤ paid p (d .minutes .0) (d .points .0) l r
-          low d i r j h =
-              cons-cases i
-              (λ e.
-              subst
-              (λ d. getD after (r .arrive + d .minutes .0) noPoints ≤ paid p (d .minutes .0) (d .points .0) l r)
-              (sym e)
-              (omega (
-                arith,
-                k .kept (r .arrive + minutes),
-                n .low r j (subst (λ d. r .arrive + d .minutes .0 < 2880) e h),
-              )))
-              (λ i. k .low d i r j h)
+          c : ℕ
+          c = getD (lowest noPoints noted-now) m noPoints
 
-          behind : (m : ℕ) → ReadyWith costs m (getD after m noPoints)
-              → ReadyWith (c ∷ costs) m (getD after m noPoints)
-          behind m a = record { way = a .way; among = there (a .among); ready = a .ready }
-
-          before : (m : ℕ) → getD after m noPoints ≡ getD first m noPoints
-              → (getD first m noPoints ≡ getD best m noPoints)
-              ⊎ ReadyBy p minutes points l m (getD first m noPoints)
-              → (getD after m noPoints ≡ getD best m noPoints) ⊎ ReadyWith (c ∷ costs) m (getD after m noPoints)
-          before m e (inl f) = inl (e ∙ f)
-          before m e (inr f) =
-              inr (record { way = c; among = here refl; ready = subst (ReadyBy p minutes points l m) (sym e) f })
-
-  -- ---- from blank words, and the least so far
-  module _ (costs : List Cost) where
-    abbrev next : List ℕ
-    next = stepOf p costs l
-
-    -- by a ride of the list and one of the ways one who paid c is ready by minute m
-    pub record ReadyUntil (m c : ℕ) : Type 0 where
-      pub way : Cost
-      pub among : way ∈ costs
-      pub ride : Ride
-      pub listed : ride ∈ l
-      pub until : ride .arrive + way .minutes .0 ≤ m
-      pub pays : paid p (way .minutes .0) (way .points .0) l ride ≡ c
-
-    pub record Stepped : Type 0 where
-      pub long : length next ≡ 2880
-      pub most : (m : ℕ) → getD next m noPoints ≤ noPoints
-      pub falls : (j m : ℕ) → j ≤ m → m < 2880 → getD next m noPoints ≤ getD next j noPoints
-      pub over : (c : Cost) → c ∈ costs → (r : Ride) → r ∈ l → (m : ℕ) → r .arrive + c .minutes .0 ≤ m → m < 2880
-          → getD next m noPoints ≤ paid p (c .minutes .0) (c .points .0) l r
-      pub attained : (m : ℕ) → getD next m noPoints < noPoints → ReadyUntil m (getD next m noPoints)
-
-    blank-long : length blank ≡ 2880
-    blank-long = length-replicate 2880 noPoints
-
-    abbrev all-noted-now : List ℕ
-    all-noted-now = takenWays p costs blank l
-
-    n : WaysNoting costs blank all-noted-now
-    n = ways-noting costs blank blank-long
-
-    pub stepped : Stepped
-    unfolding stepOf
-    stepped = record { long = long; most = most; falls = falls; over = over; attained = attained }
-      where
-        noted-long : length all-noted-now ≡ 2880
-        noted-long = n .long
-
-        long : length (lowest noPoints all-noted-now) ≡ 2880
-        long = length-lowest noPoints all-noted-now ∙ noted-long
-
-        most : (m : ℕ) → getD (lowest noPoints all-noted-now) m noPoints ≤ noPoints
-        most m =
-            elim (decLt m 2880) [
-              | yes h ↦ lowest-least noPoints all-noted-now noPoints m (omega (arith, noted-long))
-              | no h ↦ omega (
-                arith,
-                List·getD-eq-default (lowest noPoints all-noted-now) noPoints {n = m} (omega (arith, long)),
-              )
-            ]
-
-        falls : (j m : ℕ) → j ≤ m → m < 2880
-            → getD (lowest noPoints all-noted-now) m noPoints ≤ getD (lowest noPoints all-noted-now) j noPoints
-        falls j m h g = lowest-falls noPoints all-noted-now noPoints j m h (omega (arith, noted-long))
-
-        over : (c : Cost) → c ∈ costs → (r : Ride) → r ∈ l → (m : ℕ) → r .arrive + c .minutes .0 ≤ m → m < 2880
-            → getD (lowest noPoints all-noted-now) m noPoints ≤ paid p (c .minutes .0) (c .points .0) l r
-        over c j r i m h g =
-            let k = r .arrive + c .minutes .0 in
-            let low = n .low c j r i (omega arith) in
-            omega (arith, lowest-below noPoints all-noted-now noPoints k m h (omega (arith, noted-long)), low)
-
-        attained : (m : ℕ) → getD (lowest noPoints all-noted-now) m noPoints < noPoints
-            → ReadyUntil m (getD (lowest noPoints all-noted-now) m noPoints)
-        attained m h =
-            elim (decLt m 2880) [
-              | yes g ↦ stems (lowest-stems noPoints all-noted-now noPoints m (omega (arith, noted-long)))
-              | no g ↦ absurd (omega (
-                arith,
-                List·getD-eq-default (lowest noPoints all-noted-now) noPoints {n = m} (omega (arith, long)),
-              ))
-            ]
-          where
-            c : ℕ
-            c = getD (lowest noPoints all-noted-now) m noPoints
-
-            stems : (c ≡ noPoints) ⊎ Before noPoints all-noted-now m c → ReadyUntil m c
-            stems (inl e) = absurd (omega arith)
-            stems (inr b) = by-ride (n .stems (b .place))
-              where
-                by-ride : (getD all-noted-now (b .place) noPoints ≡ getD blank (b .place) noPoints)
-                    ⊎ ReadyWith costs (b .place) (getD all-noted-now (b .place) noPoints)
-                    → ReadyUntil m c
-                by-ride (inl e) = absurd (omega (arith, e, b .is, getD-blank 2880 noPoints (b .place)))
-                by-ride (inr k) =
-                    record {
-                      way = k .way;
-                      among = k .among;
-                      ride = k .ready .ride;
-                      listed = k .ready .listed;
-                      until = omega (arith, k .ready .at, b .before);
-                      pays = k .ready .pays ∙ b .is;
-                    }
+          stems : (c ≡ noPoints) ⊎ Before noPoints noted-now m c → ReadyUntil m c
+          stems (inl e) = absurd (omega arith)
+          stems (inr b) = by-ride (n .stems (b .place))
+            where
+              by-ride : (getD noted-now (b .place) noPoints ≡ noPoints)
+                  ⊎ (T (g .found) × ReadyBy p minutes points l (b .place) (getD noted-now (b .place) noPoints))
+                  → ReadyUntil m c
+              by-ride (inl e) = absurd (omega (arith, e, b .is))
+              by-ride (inr k) =
+                  record {
+                    found = k .0;
+                    ride = k .1 .ride;
+                    listed = k .1 .listed;
+                    until = omega (arith, k .1 .at, b .before);
+                    pays = k .1 .pays ∙ b .is;
+                  }

@@ -2,20 +2,17 @@
 // board at the present station by then.
 ghost use mathlib.Core.Path.{_≡_};
 ghost use mathlib.Core.Bool.{true, not};
-ghost use mathlib.Core.List.{[]};
 ghost use Prim.Native.Nat.{_+_, _-_, _*_, _≤_, _<_, min, max};
 ghost use lib.ListN.{length, getD};
 ghost use Rattle.timetable.specs.Words.{timetableOf, isTimetable};
-ghost use Rattle.lists.specs.Lists.{keep};
 ghost use Rattle.connections.specs.Connections.{net};
 ghost use Rattle.lines_check.specs.Question10.{areTables};
 ghost use Rattle.query_direct.specs.Candidates.{allRead};
 ghost use Rattle.query_minutes.specs.Minutes.{noPoints, blank, lowered};
-ghost use Rattle.query_rides.specs.Ways.{costsIn};
 ghost use Rattle.query_costs.specs.Lowest.{lowest};
-ghost use Rattle.query_costs.specs.Spans.{Within, widened, spanned};
+ghost use Rattle.query_costs.specs.Spans.{Within, widened};
 ghost use Rattle.query_costs.specs.Filling.{filled};
-ghost use Rattle.query_costs.specs.Layering.{takenAll, takenWays, startOf, firstValue, NoneBefore};
+ghost use Rattle.query_costs.specs.Layering.{takenAll, takenWay, startOf, firstValue, NoneBefore};
 ghost use Rattle.query_costs.specs.Fitting.{Fits, Fitting, Priced};
 ghost use Rattle.query_costs.specs.Turning.{held};
 ghost use Rattle.query_costs.specs.Onward.{Listed, Stations, changeWords};
@@ -23,9 +20,8 @@ ghost use Rattle.query_costs.specs.Patterns.{changesTo};
 ghost use Rattle.query_costs.specs.Lowered.{Lowered};
 use query_minutes::MINUTES;
 use query_minutes::NO_POINTS;
-use query_rides::Change;
 use query_rides::Ride;
-use query_rides::Ways;
+use query_rides::Way;
 use results::Cost;
 use results::Minutes;
 use results::Points;
@@ -76,16 +72,6 @@ fn widen(s: Span, m: usize) -> Span
     Span {
         from: earlier(s.from, m),
         to: later(s.to, m + 1),
-    }
-}
-
-// The minutes from the first of two spans to the last of them.
-fn join(a: Span, b: Span) -> Span
-    ensures { λ r. ⌜ r ≡ spanned a b ⌝ }
-{
-    Span {
-        from: earlier(a.from, b.from),
-        to: later(a.to, b.to),
     }
 }
 
@@ -206,68 +192,36 @@ fn note_rides(
     noted
 }
 
-// Notes those rides, if the way of changing after them that takes and costs so much is open. Returns the span of the
-// minutes noted.
+// Notes those rides, if there is a way of changing after them. Returns the span of the minutes noted.
 fn note_way(
-    offered: bool,
     lines: &[u16],
     from: usize,
     to: usize,
     earliest: usize,
     p: &[u32],
-    change: Cost,
+    way: Way,
     best: &mut [u32],
 ) -> Span
     requires { ⌜ (length (now p) ≡ 2880)
         × (length (now best) ≡ 2880)
         × Fitting (now p) (allRead (now lines) from earliest to)
-        × (change .minutes .0 ≤ 240)
-        × (change .points .0 ≤ 1000) ⌝ }
+        × Priced way ⌝ }
     ensures { λ _. ⌜ now (best .exit)
-        ≡ takenWays
+        ≡ takenWay
         (now (p .entry))
-        (keep offered change [])
+        way
         (now (best .entry))
         (allRead (now (lines .entry)) from earliest to) ⌝ }
     ensures { λ _. ⌜ length (now (best .exit)) ≡ length (now (best .entry)) ⌝ }
     ensures { λ r. ⌜ Within r (now (best .entry)) (now (best .exit)) × (r .from ≤ 2880) ⌝ }
 {
-    if !offered {
+    if !way.found {
         return nothing();
     }
-    note_rides(lines, from, to, earliest, p, change, best)
-}
-
-// Notes those rides once for each way of changing after them. Returns a span that holds the minutes noted.
-fn note_ways(
-    lines: &[u16],
-    from: usize,
-    to: usize,
-    earliest: usize,
-    p: &[u32],
-    ways: Ways,
-    best: &mut [u32],
-) -> Span
-    requires { ⌜ (length (now p) ≡ 2880)
-        × (length (now best) ≡ 2880)
-        × Fitting (now p) (allRead (now lines) from earliest to)
-        × Priced ways ⌝ }
-    ensures { λ _. ⌜ now (best .exit)
-        ≡ takenWays
-        (now (p .entry))
-        (costsIn ways)
-        (now (best .entry))
-        (allRead (now (lines .entry)) from earliest to) ⌝ }
-    ensures { λ _. ⌜ length (now (best .exit)) ≡ length (now (best .entry)) ⌝ }
-    ensures { λ r. ⌜ Within r (now (best .entry)) (now (best .exit)) × (r .from ≤ 2880) ⌝ }
-{
-    let here = ways.here;
-    let afoot = ways.walk;
-    let stay = query_rides::cost_of(here, Change::Here);
-    let walk = query_rides::cost_of(here, Change::Walk(afoot));
-    let stays = note_way(ways.stays, lines, from, to, earliest, p, stay, best);
-    let walks = note_way(ways.walks, lines, from, to, earliest, p, walk, best);
-    join(stays, walks)
+    let here = way.here;
+    let change = way.change;
+    let cost = query_rides::cost_of(here, change);
+    note_rides(lines, from, to, earliest, p, cost, best)
 }
 
 // One ride and the change after it: from the least penalties at station from, by a ride to the station alighted at, to
@@ -296,9 +250,9 @@ fn step(
     ensures { λ _. ⌜ length (now (q .exit)) ≡ length (now (q .entry)) ⌝ }
     ensures { λ r. ⌜ (r ≡ firstValue (now (q .exit))) × (r ≤ 2880) ⌝ }
 {
-    let ways = query_rides::ways_between(words, alighted, boarded);
+    let way = query_rides::way_between(words, alighted, boarded);
     query_minutes::fill_blank(q);
-    let noted = note_ways(lines, from, alighted, earliest, p, ways, q);
+    let noted = note_way(lines, from, alighted, earliest, p, way, q);
     lowest_so_far(q, noted);
     first_value(q, noted.from)
 }

@@ -9,7 +9,8 @@ use lib.Dec.{leb}
 use lib.ListN.{length}
 use Rattle.lists.specs.Lists.{concatMap}
 use Rattle.lines_lookup.specs.Lookup.{Line, departAt}
-use Rattle.lines_lookup.specs.First.{firstFrom, firstTrip}
+use Rattle.lists.specs.First.{firstFrom}
+use Rattle.lines_lookup.specs.First.{firstTrip}
 use Rattle.lines_lookup.specs.Calls.{Piece, Boarding, callsOf, callsIn, BoardsAt}
 use Rattle.lines_lookup.proofs.FirstLaws.{none-left, found, goes-on}
 use Rattle.lines_lookup.proofs.LookupLaws.{pairs-more, pairs-none}

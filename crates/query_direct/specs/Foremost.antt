@@ -1,15 +1,13 @@
--- The first that passes a test, by its place: among numbers, where the code looks, and in a list, where it is said.
+-- The first of a list that passes a test, by its place.
 use mathlib.Core.Path.{_≡_, refl, sym}
-use mathlib.Core.Bool.{Bool, true, false, cond}
+use mathlib.Core.Bool.{Bool, true, false}
 use mathlib.Core.List.{List, [], _∷_, List·Memᴰ·head as here, List·Memᴰ·eq-of-singleton}
-use Prim.Native.Nat.{ℕ, zero, suc, _+_, _≤_, _<_}
+use Prim.Native.Nat.{ℕ, zero, suc, _<_}
 use native.Mathlib.Omega.{arith}
-use native.Mathlib.Decide.{ℕ-discrete}
 use lib.Dec.{T}
 use lib.ListN.{length, getD}
 use Rattle.lists.specs.Lists.{_∈_, endWith, firstOf}
 use Rattle.lists.specs.Members.{none, cons-cases}
-use Rattle.lines_lookup.specs.First.{firstFrom}
 
 -- where a member of a list stands
 pub record Placed {A : Type 0} (l : List A) (d x : A) : Type 0 where
@@ -24,50 +22,6 @@ placed (y ∷ l) d x m =
     m
     (λ e. record { place = 0; inside = omega arith; is = sym e })
     (λ k. let p = placed l d x k in record { place = suc (p .place); inside = omega (arith, p .inside); is = p .is })
-
--- f is the first of n numbers from j on that passes, or the number behind them
-pub record Foremost (test : ℕ → Bool) (j n f : ℕ) : Type 0 where
-  pub least : j ≤ f
-  pub most : f ≤ j + n
-  pub passes : f < j + n → T (test f)
-  pub before : (k : ℕ) → j ≤ k → k < f → ¬ T (test k)
-
-pub foremost : (test : ℕ → Bool) (j n : ℕ) → Foremost test j n (firstFrom test j n)
-unfolding firstFrom
-foremost test j zero =
-    record {
-      least = omega arith;
-      most = omega arith;
-      passes = λ h. absurd (omega arith);
-      before = λ k h g t. omega arith;
-    }
-foremost test j (suc n) = go (test j) refl (foremost test (suc j) n)
-  where
-    rest : ℕ
-    rest = firstFrom test (suc j) n
-
-    go : (b : Bool) → test j ≡ b → Foremost test (suc j) n rest → Foremost test j (suc n) (cond b j rest)
-    go true e f =
-        record {
-          least = omega arith;
-          most = omega arith;
-          passes = λ h. rw e tt;
-          before = λ k h g t. omega arith;
-        }
-    go false e f =
-        record {
-          least = omega (arith, f .least);
-          most = omega (arith, f .most);
-          passes = λ h. f .passes (omega arith);
-          before = before;
-        }
-      where
-        before : (k : ℕ) → j ≤ k → k < rest → ¬ T (test k)
-        before k h g t =
-            elim (ℕ-discrete k j) [
-              | yes q ↦ rw e at (rw q at t)
-              | no q ↦ f .before k (omega arith) g t
-            ]
 
 -- what stands at place j of the list passes, and nothing before it does
 pub record FirstAt (test : ℕ → Bool) (l : List ℕ) (j : ℕ) : Type 0 where

@@ -1,64 +1,60 @@
--- The ways of changing from one station to another: at the station itself, if the two are the same, and the walk
--- between them, if there is one. "From and to may be equal, for a long platform, and then both ways of changing are
--- open."
+-- The way of changing from one station to another, of which there is one at the most: the walk between them, if there
+-- is one, and else the change at the station itself, if the two are the same. Document 02, Nine: "Some stations have
+-- both an S line and a W line from the station to itself [..] From now on such a W line goes first: the S values do not
+-- apply to changes there."
 use mathlib.Core.Path.{_≡_, refl, sym, ap, subst, _∙_}
-use mathlib.Core.Bool.{Bool, true, cond}
+use mathlib.Core.Bool.{Bool, true, false, cond}
 use mathlib.Core.Logic.{_⊎_, inl, inr}
-use mathlib.Core.List.{List, [], List·Memᴰ·head as here}
-use Prim.Native.Nat.{ℕ, _-_, _≤_, _<_}
+use mathlib.Core.List.{List}
+use Prim.Native.Nat.{ℕ, suc, _-_, _≤_, _<_}
 use native.Mathlib.Omega.{arith}
-use native.Mathlib.Decide.{decLt}
-use borrow.Author.Tests.{eqb-true, eq-eqb, lt-ltb}
-use lib.Dec.{eqb, ltb, ltb→lt}
-use Rattle.timetable.specs.Timetable.{Walk}
-use Rattle.timetable.specs.Words.{stationCount, stationAt, walksTo, walkCount, walkAt, timetableOf, isTimetable}
+use borrow.Author.Tests.{eqb-true, eq-eqb, ltb-true, ltb-false}
+use lib.Dec.{T, eqb, ltb}
+use Rattle.timetable.specs.Timetable.{Walk, Timetable}
+use Rattle.timetable.specs.Words.{stationCount, stationAt, walksTo, walkAt, timetableOf, isTimetable}
 use Rattle.timetable.specs.Check.{length-stations}
 use Rattle.timetable.specs.Access.{station-is}
-use Rattle.timetable.specs.Walks.{FromStation, walks-rise, walk-place, walk-from, walk-rises, walk-in, walk-out}
-use Rattle.lists.specs.Lists.{_∈_, keep}
+use Rattle.timetable.specs.Walks.{FromStation, walks-rise, walk-place, walk-from, walk-in, walk-out}
+use Rattle.timetable.specs.WalkTo.{walkTo, Sought, walk-sought}
+use Rattle.lists.specs.Lists.{_∈_}
 use Rattle.lists.specs.Tests.{T-true}
-use Rattle.lists.specs.Members.{none, keep-there, kept-cases}
 use Rattle.results.specs.declared.Cost.{Cost}
 use Rattle.connections.specs.Connections.{Change, Net, net, noStation, changeAt, onFoot}
-use Rattle.connections.specs.RideLaws.{changes-in, walks-in, changes-out}
-use Rattle.lines_lookup.specs.First.{firstFrom}
-use Rattle.query_direct.specs.Foremost.{Foremost, foremost}
-use Rattle.query_rides.specs.declared.Change.{Change as Way}
+use Rattle.connections.specs.RideLaws.{Own, changes-in, walks-in, changes-out}
+use Rattle.query_rides.specs.declared.Change.{Change as Manner}
 use Rattle.query_rides.specs.declared.Change.the-variants.{Here, Walk as OnFoot}
-use Rattle.query_rides.specs.declared.Ways.{Ways}
+use Rattle.query_rides.specs.declared.Way.{Way}
 
 -- what a change takes and costs by its case, where one at the station itself takes and costs so much: "The walk's
 -- minutes and penalty replace the station's."
-abbrev pub costOf : (stay : Cost) → Way → Cost
+abbrev pub costOf : (stay : Cost) → Manner → Cost
 costOf stay Here = stay
 costOf stay (OnFoot v) = record { minutes = record { 0 = v .minutes }; points = record { 0 = v .points } }
 
--- a change at station y itself
-abbrev pub stayAt : (w : List ℕ) (y : ℕ) → Cost
-stayAt w y =
+-- the S values of station y
+abbrev pub ownCost : (w : List ℕ) (y : ℕ) → Cost
+ownCost w y =
     record {
       minutes = record { 0 = stationAt w (y - 1) .minutes };
       points = record { 0 = stationAt w (y - 1) .points };
     }
 
--- the place of the walk from station y to station x among all walks, or the one past those from y
-unfoldable pub walkTo : (w : List ℕ) (y x : ℕ) → ℕ
-walkTo w y x = firstFrom (λ k. eqb (walkAt w k .to) x) (walksTo w (y - 1)) (walksTo w y - walksTo w (y - 1))
+-- on walk k, and at the station itself, if station x is the same
+abbrev pub onWalk : (w : List ℕ) (y k : ℕ) → Way
+onWalk w y k = record { found = true; here = ownCost w y; change = OnFoot (walkAt w k) }
 
-abbrev pub noWalk : Walk
-noWalk = record { from = 0; to = 0; minutes = 0; points = 0 }
+abbrev pub atStation : (w : List ℕ) (y x : ℕ) → Way
+atStation w y x = record { found = eqb y x; here = ownCost w y; change = Here }
 
--- the ways of changing from station y to station x
-unfoldable pub waysBetween : (w : List ℕ) (y x : ℕ) → Ways
-waysBetween w y x =
+-- the way of changing from station y to station x: "such a W line goes first"
+unfoldable pub wayBetween : (w : List ℕ) (y x : ℕ) → Way
+wayBetween w y x =
     let k = walkTo w y x in
-    let walks = ltb k (walksTo w y) in
-    record { stays = eqb y x; here = stayAt w y; walks = walks; walk = cond walks (walkAt w k) noWalk }
+    cond (ltb k (walksTo w y)) (onWalk w y k) (atStation w y x)
 
--- what those that are open take and cost
-unfoldable pub costsIn : Ways → List Cost
-costsIn g =
-    keep (g .stays) (costOf (g .here) Here) (keep (g .walks) (costOf (g .here) (OnFoot (g .walk))) [])
+-- what it takes and costs
+abbrev pub costIn : Way → Cost
+costIn g = costOf (g .here) (g .change)
 
 -- a change takes and costs so much
 pub record Takes (w : Change) (c : Cost) : Type 0 where
@@ -73,156 +69,138 @@ pub record Changes (n : Net) (y x : ℕ) (c : Cost) : Type 0 where
   pub to : change .to ≡ x
   pub takes : Takes change c
 
--- these are all changes from station y to station x, by what they take and cost
-pub record Open (n : Net) (y x : ℕ) (costs : List Cost) : Type 0 where
-  pub sound : (c : Cost) → c ∈ costs → Changes n y x c
-  pub all : (w : Change) → w ∈ n .changes → w .from ≡ y → w .to ≡ x → (c : Cost) × (c ∈ costs) × Takes w c
+-- way g, if it is one, is a change from station y to station x, and there is no other
+pub record Open (n : Net) (y x : ℕ) (g : Way) : Type 0 where
+  pub sound : T (g .found) → Changes n y x (costIn g)
+  pub all : (w : Change) → w ∈ n .changes → w .from ≡ y → w .to ≡ x → T (g .found) × Takes w (costIn g)
 
 module _ (w : List ℕ) (accepted : isTimetable w ≡ true) (y x : ℕ) (some : 1 ≤ y) (inside : y ≤ stationCount w) where
+  abbrev t : Timetable
+  t = timetableOf w
+
   abbrev n : Net
-  n = net (timetableOf w)
-
-  abbrev ways : Ways
-  ways = waysBetween w y x
-
-  -- ---- at the station itself
-  abbrev own : Change
-  own = changeAt (timetableOf w .stations) (y - 1)
-
-  own-listed : own ∈ n .changes
-  own-listed = changes-in (timetableOf w) (y - 1) (omega (arith, length-stations w))
-
-  own-from : own .from ≡ y
-  own-from = omega arith
-
-  own-takes : Takes own (stayAt w y)
-  own-takes =
-      let is = station-is w (y - 1) noStation (omega arith) in
-      record { minutes = ap (λ s. s .minutes) is; points = ap (λ s. s .points) is }
-
-  -- ---- on foot
-  abbrev first : ℕ
-  first = walksTo w (y - 1)
+  n = net t
 
   abbrev k : ℕ
   k = walkTo w y x
 
-  sought : Foremost (λ k. eqb (walkAt w k .to) x) first (walksTo w y - first) k
-  unfolding walkTo
-  sought = foremost (λ k. eqb (walkAt w k .to) x) first (walksTo w y - first)
+  sought : Sought w y x k
+  sought = walk-sought w accepted y some inside x
 
-  few : walksTo w y ≤ walkCount w
-  few = walks-rise w accepted y (stationCount w) inside (omega arith)
+  -- ---- the walk found, which is the only one
+  module _ (found : k < walksTo w y) where
+    found-in : walkAt w k ∈ t .walks
+    found-in =
+        let few = walks-rise w accepted y (stationCount w) inside (omega arith) in
+        walk-in w k (omega arith)
 
-  found-there : k < walksTo w y → FromStation w y k
-  found-there h = record { begun = sought .least; inside = h }
+    found-from : walkAt w k .from ≡ y
+    found-from = walk-from w accepted y k some inside (record { begun = sought .begun; inside = found })
 
-  found-from : k < walksTo w y → walkAt w k .from ≡ y
-  found-from h = walk-from w accepted y k some inside (found-there h)
+    walk-changes : Changes n y x (costIn (onWalk w y k))
+    walk-changes =
+        record {
+          change = onFoot (walkAt w k);
+          listed = walks-in t (walkAt w k) found-in;
+          from = found-from;
+          to = sought .found found;
+          takes = record { minutes = refl; points = refl };
+        }
 
-  found-to : k < walksTo w y → walkAt w k .to ≡ x
-  found-to h = eqb-true (walkAt w k .to) x (T-true _ (sought .passes (omega (arith, sought .least))))
-
-  walk-changes : k < walksTo w y → Changes n y x (costOf (stayAt w y) (OnFoot (walkAt w k)))
-  walk-changes h =
-      record {
-        change = onFoot (walkAt w k);
-        listed = walks-in (timetableOf w) (walkAt w k) (walk-in w k (omega (arith, few)));
-        from = found-from h;
-        to = found-to h;
-        takes = record { minutes = refl; points = refl };
-      }
-
-  -- the walk from y to x is the one found
-  walk-found : (v : Walk) → v ∈ timetableOf w .walks → v .from ≡ y → v .to ≡ x
-      → (k < walksTo w y) × (walkAt w k ≡ v)
+  walk-found : (v : Walk) → v ∈ t .walks → v .from ≡ y → v .to ≡ x → (k < walksTo w y) × (walkAt w k ≡ v)
   walk-found v m from to =
       let r = walk-out w v m in
-      let j = r .0 in
-      let from-j = ap (λ v. v .from) (r .2) ∙ from in
-      let to-j = ap (λ v. v .to) (r .2) ∙ to in
-      let place = subst (λ y. FromStation w y j) from-j (walk-place w accepted j (r .1)) in
-      let early = not-later j place to-j in
-      let same = at-once j early place (r .1) from-j to-j in
-      (omega (arith, place .inside), ap (walkAt w) same ∙ r .2)
+      let from-r = ap (λ v. v .from) (r .2) ∙ from in
+      let place = subst (λ y. FromStation w y (r .0)) from-r (walk-place w accepted (r .0) (r .1)) in
+      let same = sought .only (r .0) place (ap (λ v. v .to) (r .2) ∙ to) in
+      (omega (arith, place .inside, same), ap (walkAt w) (sym same) ∙ r .2)
+
+  -- ---- the change at the station itself
+  abbrev own : Change
+  own = changeAt (t .stations) (y - 1)
+
+  own-from : own .from ≡ y
+  own-from = omega arith
+
+  own-takes : Takes own (ownCost w y)
+  own-takes =
+      let is = station-is w (y - 1) noStation (omega arith) in
+      record { minutes = ap (λ s. s .minutes) is; points = ap (λ s. s .points) is }
+
+  own-changes : Own t (y - 1) → y ≡ x → Changes n y x (ownCost w y)
+  own-changes h e =
+      record {
+        change = own;
+        listed = changes-in t (y - 1) h;
+        from = own-from;
+        to = own-from ∙ e;
+        takes = own-takes;
+      }
+
+  -- a station's own change from y to x is that of y, which is x
+  module _ (v : Change) (from : v .from ≡ y) (to : v .to ≡ x) (z : ℕ) (is : changeAt (t .stations) z ≡ v) where
+    at-from : suc z ≡ y
+    at-from = ap (λ v. v .from) is ∙ from
+
+    at-to : suc z ≡ x
+    at-to = ap (λ v. v .to) is ∙ to
+
+    same-own : own ≡ v
+    same-own =
+        let same : y - 1 ≡ z = omega (arith, at-from) in
+        ap (changeAt (t .stations)) same ∙ is
+
+  -- ---- if there is a walk, the S values do not apply; if there is none, they do
+  abbrev Either : Change → Type 0
+  Either v =
+      ((z : ℕ) × Own t z × (changeAt (t .stations) z ≡ v)) ⊎ ((u : Walk) × (u ∈ t .walks) × (onFoot u ≡ v))
+
+  open-walk : k < walksTo w y → Open n y x (onWalk w y k)
+  open-walk h =
+      record { sound = λ f. walk-changes h; all = λ v m from to. (tt, go v from to (changes-out t v m)) }
     where
-      not-later : (j : ℕ) → FromStation w y j → walkAt w j .to ≡ x → k ≤ j
-      not-later j place e =
-          elim (decLt j k) [
-            | yes h ↦ absurd (sought .before j (place .begun) h (rw (eq-eqb (walkAt w j .to) x e) tt))
-            | no h ↦ omega arith
-          ]
+      go : (v : Change) → v .from ≡ y → v .to ≡ x → Either v → Takes v (costIn (onWalk w y k))
+      go v from to (inl r) =
+          absurd
+          (r .1 .alone (walkAt w k) (found-in h)
+          (found-from h ∙ sym (at-from v from to (r .0) (r .2)))
+          (sought .found h ∙ sym (at-to v from to (r .0) (r .2))))
+      go v from to (inr r) =
+          let found = walk-found (r .0) (r .1) (ap (λ v. v .from) (r .2) ∙ from) (ap (λ v. v .to) (r .2) ∙ to) in
+          subst
+          (λ v. Takes v (costIn (onWalk w y k)))
+          (ap onFoot (found .1) ∙ r .2)
+          (record { minutes = refl; points = refl })
 
-      -- walks from one station rise by where they lead to
-      at-once : (j : ℕ) → k ≤ j → FromStation w y j → j < walkCount w → walkAt w j .from ≡ y → walkAt w j .to ≡ x
-          → k ≡ j
-      at-once j h place within from-j to-j =
-          elim (decLt k j) [
-            | yes l ↦ absurd (rise (walk-rises w accepted k j l within))
-            | no l ↦ omega arith
-          ]
-        where
-          before : k < walksTo w y
-          before = omega (arith, place .inside)
-
-          rise : (walkAt w k .from < walkAt w j .from)
-              ⊎ ((walkAt w k .from ≡ walkAt w j .from) × (walkAt w k .to < walkAt w j .to))
-              → ⊥
-          rise (inl l) = omega (arith, found-from before)
-          rise (inr l) = omega (arith, found-to before, l .1)
-
-  stays-in : y ≡ x → stayAt w y ∈ costsIn ways
-  unfolding costsIn waysBetween
-  stays-in e = rw (eq-eqb y x e) (here refl)
-
-  walks-among : k < walksTo w y → costOf (stayAt w y) (OnFoot (walkAt w k)) ∈ costsIn ways
-  unfolding costsIn waysBetween
-  walks-among h = rw (lt-ltb k (walksTo w y) h) (keep-there (stayAt w y) (eqb y x) (here refl))
-
-  pub open-ways : Open n y x (costsIn ways)
-  unfolding costsIn waysBetween
-  open-ways = record { sound = sound; all = all }
+  open-station : walksTo w y ≤ k → Open n y x (atStation w y x)
+  open-station h = record { sound = sound; all = λ v m from to. go v from to (changes-out t v m) }
     where
-      stays : Cost
-      stays = stayAt w y
+      no-walk : (v : Walk) → v ∈ t .walks → v .from ≡ y → v .to ≡ x → ⊥
+      no-walk v m from to = omega (arith, walk-found v m from to .0)
 
-      own-changes : y ≡ x → Changes n y x (stayAt w y)
-      own-changes e =
-          record { change = own; listed = own-listed; from = own-from; to = own-from ∙ e; takes = own-takes }
+      sound : T (eqb y x) → Changes n y x (ownCost w y)
+      sound f =
+          let same = eqb-true y x (T-true (eqb y x) f) in
+          own-changes
+          (record {
+            inside = omega (arith, length-stations w);
+            alone = λ v m from to. no-walk v m (from ∙ own-from) (to ∙ own-from ∙ same);
+          })
+          same
 
-      walk : Bool → Cost
-      walk b = costOf (stayAt w y) (OnFoot (cond b (walkAt w k) noWalk))
+      go : (v : Change) → v .from ≡ y → v .to ≡ x → Either v → T (eqb y x) × Takes v (ownCost w y)
+      go v from to (inl r) =
+          let same = sym (at-from v from to (r .0) (r .2)) ∙ at-to v from to (r .0) (r .2) in (
+            rw (eq-eqb y x same) tt,
+            subst (λ v. Takes v (ownCost w y)) (same-own v from to (r .0) (r .2)) own-takes,
+          )
+      go v from to (inr r) =
+          absurd (no-walk (r .0) (r .1) (ap (λ v. v .from) (r .2) ∙ from) (ap (λ v. v .to) (r .2) ∙ to))
 
-      sound : (c : Cost) → c ∈ costsIn ways → Changes n y x c
-      sound c m =
-          kept-cases (eqb y x) m
-          (λ e t. subst (Changes n y x) (sym e) (own-changes (eqb-true y x (T-true (eqb y x) t))))
-          (λ m.
-          kept-cases (ltb k (walksTo w y)) m
-          (λ e t.
-          subst (Changes n y x)
-          (sym (e ∙ ap walk (T-true (ltb k (walksTo w y)) t)))
-          (walk-changes (ltb→lt k (walksTo w y) t)))
-          none)
-
-      all : (v : Change) → v ∈ n .changes → v .from ≡ y → v .to ≡ x → (c : Cost) × (c ∈ costsIn ways) × Takes v c
-      all v m from to =
-          elim (changes-out (timetableOf w) v m) [
-            | inl r ↦
-                (let same : r .0 ≡ y - 1 = omega (arith, ap (λ v. v .from) (r .2), from) in
-                let is = ap (changeAt (timetableOf w .stations)) (sym same) ∙ r .2 in
-                let same-station = sym from ∙ stays-there (r .0) (r .2) ∙ to in
-                (stayAt w y, stays-in same-station, subst (λ v. Takes v (stayAt w y)) is own-takes))
-            | inr r ↦
-                (let found =
-                walk-found (r .0) (r .1) (ap (λ v. v .from) (r .2) ∙ from) (ap (λ v. v .to) (r .2) ∙ to) in
-                let is = ap onFoot (found .1) ∙ r .2 in (
-                  costOf (stayAt w y) (OnFoot (walkAt w k)),
-                  walks-among (found .0),
-                  subst (λ v. Takes v (costOf (stayAt w y) (OnFoot (walkAt w k)))) is
-                      (record { minutes = refl; points = refl }),
-                ))
-          ]
-        where
-          stays-there : (z : ℕ) → changeAt (timetableOf w .stations) z ≡ v → v .from ≡ v .to
-          stays-there z e = sym (ap (λ v. v .from) e) ∙ ap (λ v. v .to) e
+  pub open-way : Open n y x (wayBetween w y x)
+  unfolding wayBetween
+  open-way = go (ltb k (walksTo w y)) refl
+    where
+      go : (b : Bool) → ltb k (walksTo w y) ≡ b → Open n y x (cond b (onWalk w y k) (atStation w y x))
+      go true e = open-walk (ltb-true k (walksTo w y) e)
+      go false e = open-station (ltb-false k (walksTo w y) e)

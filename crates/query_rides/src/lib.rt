@@ -1,5 +1,5 @@
 // The rides from one station to another that leave at a minute or later, one after the other, from line tables, all of
-// them or those to the nearest places; and the ways of changing between two rides, with what each takes and costs.
+// them or those to the nearest places; and the way of changing between two rides, with what it takes and costs.
 ghost use mathlib.Core.Path.{_≡_};
 ghost use mathlib.Core.Bool.{true};
 ghost use mathlib.Core.List.{_∷_};
@@ -10,7 +10,7 @@ ghost use Rattle.lines_lookup.specs.Calls.{Inside};
 ghost use Rattle.query_direct.specs.Candidates.{nearRead, allRead};
 ghost use Rattle.query_rides.specs.Riding.{Good, Tells, left, nearLeft, rideOf, callsFrom};
 ghost use Rattle.query_rides.specs.Riding.{nearFrom};
-ghost use Rattle.query_rides.specs.Ways.{costOf, walkTo, waysBetween};
+ghost use Rattle.query_rides.specs.Ways.{costOf, wayBetween};
 use lines_lookup::Boarding;
 use lines_lookup::Call;
 use lines_lookup::Line;
@@ -193,13 +193,12 @@ pub enum Change {
     Walk(Walk),
 }
 
-// The ways of changing from one station to another: one stays if the two are the same, and walks if there is a walk.
-// What a change at the station itself takes and costs, and the walk.
-pub struct Ways {
-    pub stays: bool,
+// The way of changing from one station to another, if there is one: what a change at the station itself takes and costs
+// by the S line, and the change.
+pub struct Way {
+    pub found: bool,
     pub here: Cost,
-    pub walks: bool,
-    pub walk: Walk,
+    pub change: Change,
 }
 
 // What a change takes and costs, where one at the station itself takes and costs so much.
@@ -215,7 +214,7 @@ pub fn cost_of(here: Cost, change: Change) -> Cost
     }
 }
 
-// What a change at a station itself takes and costs.
+// What a change at a station itself takes and costs by its S line, whether that applies or not.
 fn change_at(words: &[u16], station: usize) -> Cost
     requires { ⌜ (16384 ≤ length (now words)) × (1 ≤ station) × (station ≤ 64) ⌝ }
     ensures { λ r. ⌜ (r .minutes .0 ≡ stationAt (now (words .entry)) (station - 1) .minutes)
@@ -228,57 +227,28 @@ fn change_at(words: &[u16], station: usize) -> Cost
     }
 }
 
-// The place of the walk from one station to another, among all walks; the one past the station's walks if there is
-// none.
-fn seek_walk(words: &[u16], from: usize, to: usize) -> usize
+// The way of changing from one station to another: the walk, if there is one, and else the change at the station
+// itself, if the two are the same. A walk from a station to itself goes first.
+pub fn way_between(words: &[u16], from: usize, to: usize) -> Way
     requires { ⌜ (16384 ≤ length (now words))
         × (isTimetable (now words) ≡ true)
         × (1 ≤ from)
         × (from ≤ stationCount (now words)) ⌝ }
-    ensures { λ r. ⌜ r ≡ walkTo (now (words .entry)) from to ⌝ }
+    ensures { λ r. ⌜ r ≡ wayBetween (now (words .entry)) from to ⌝ }
 {
-    let end = timetable::walks_to(words, from);
-    let mut k = timetable::walks_to(words, from - 1);
-    let place = loop {
-        if end <= k {
-            break k;
-        }
-        if timetable::walk_at(words, k).to as usize == to {
-            break k;
-        }
-        k += 1;
-    };
-    place
-}
-
-// The ways of changing from one station to another.
-pub fn ways_between(words: &[u16], from: usize, to: usize) -> Ways
-    requires { ⌜ (16384 ≤ length (now words))
-        × (isTimetable (now words) ≡ true)
-        × (1 ≤ from)
-        × (from ≤ stationCount (now words)) ⌝ }
-    ensures { λ r. ⌜ r ≡ waysBetween (now (words .entry)) from to ⌝ }
-{
-    let stays = from == to;
     let here = change_at(words, from);
-    let k = seek_walk(words, from, to);
+    let k = timetable::walk_to(words, from, to);
     if timetable::walks_to(words, from) <= k {
-        return Ways {
-            stays,
+        return Way {
+            found: from == to,
             here,
-            walks: false,
-            walk: Walk {
-                from: 0,
-                to: 0,
-                minutes: 0,
-                points: 0,
-            },
+            change: Change::Here,
         };
     }
-    Ways {
-        stays,
+    let walk = timetable::walk_at(words, k);
+    Way {
+        found: true,
         here,
-        walks: true,
-        walk: timetable::walk_at(words, k),
+        change: Change::Walk(walk),
     }
 }

@@ -11,7 +11,7 @@ use Rattle.query_direct.specs.Candidates.{nearRead}
 use Rattle.query_minutes.specs.Minutes.{noPoints}
 use Rattle.query_rides.specs.declared.Ride.{Ride as RideStruct}
 use Rattle.query_rides.specs.declared.Cursor.{Cursor}
-use Rattle.query_rides.specs.declared.Ways.{Ways}
+use Rattle.query_rides.specs.declared.Way.{Way}
 use Rattle.query_rides.specs.Riding.{Tells, nearLeft, rideOf, near-none}
 use Rattle.query_shown.specs.Prices.{frontPrice}
 use Rattle.query_shown.specs.Heads.{noRide, headOf}
@@ -108,7 +108,7 @@ module _
             pub try-keeps : r ≡ false → best ≡ tried first z p best s
             try-keeps t = sym (tried-is ∙ ap (λ b. cond b s best) t)
 
-module _ (lines : List ℕ) (from to arrive : ℕ) (first : Bool) (g : Ways) (z : List ℕ) (p : ℕ) where
+module _ (lines : List ℕ) (from to arrive : ℕ) (first : Bool) (g : Way) (z : List ℕ) (p : ℕ) where
   abbrev whole : RideStruct
   whole = triedAll first (frontPrice first g arrive) z p (tellsOf noRide) (nearRead lines from arrive to)
 

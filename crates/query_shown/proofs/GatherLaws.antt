@@ -1,23 +1,21 @@
 -- All rides of a cursor noted one after the other, and a step from one ride to the one before it.
-use mathlib.Core.Path.{_≡_, refl, sym, ap, _∙_}
-use mathlib.Core.Bool.{Bool, true, false, not}
-use mathlib.Core.List.{List, [], _∷_, _++_}
+use mathlib.Core.Path.{_≡_, sym, ap, _∙_}
+use mathlib.Core.Bool.{true, false, not}
+use mathlib.Core.List.{List, _∷_}
 use Prim.Native.Nat.{ℕ, _+_, _-_, _*_}
 use borrow.Author.Tests.{not-true, not-false}
 use lib.ListN.{getD}
-use Rattle.lists.specs.Lists.{keep}
 use Rattle.results.specs.declared.Cost.{Cost}
 use Rattle.connections.specs.Rides.{Ride}
 use Rattle.query_direct.specs.Candidates.{nearRead}
-use Rattle.query_minutes.specs.Minutes.{noPoints, noteAll, noted, blank}
+use Rattle.query_minutes.specs.Minutes.{noPoints, noteAll, blank}
 use Rattle.query_rides.specs.declared.Ride.{Ride as RideStruct}
 use Rattle.query_rides.specs.declared.Cursor.{Cursor}
-use Rattle.query_rides.specs.declared.Change.the-variants.{Here, Walk as OnFoot}
-use Rattle.query_rides.specs.declared.Ways.{Ways}
+use Rattle.query_rides.specs.declared.Way.{Way}
 use Rattle.query_rides.specs.Riding.{Tells, nearLeft, rideOf, near-none}
-use Rattle.query_rides.specs.Ways.{costOf, waysBetween, costsIn}
+use Rattle.query_rides.specs.Ways.{costIn, wayBetween}
 use Rattle.query_shown.specs.Settling.{settledFrom}
-use Rattle.query_shown.specs.Stepping.{catches, ridesTo, caughtWays}
+use Rattle.query_shown.specs.Stepping.{catches, ridesTo, caughtWay}
 use Rattle.query_shown.specs.Turns.{tells-is, gatherBack, stepBack, caughtBy as caughtOne, catches-none}
 use Rattle.query_shown.specs.Turns.{catches-more}
 
@@ -51,85 +49,41 @@ module _ (lines : List ℕ) (from to minute cm cp : ℕ) (old first : List ℕ) 
         ∙ ap (λ l. noteAll z (catches cm cp old l)) (near-none lines minute c e)
         ∙ catches-none cm cp old z)
 
--- ---- by each way of changing, if it is open
-note-append : (z : List ℕ) (l k : List Ride) → noteAll z (l ++ k) ≡ noteAll (noteAll z l) k
-unfolding noteAll
-note-append z [] k = refl
-note-append z (r ∷ l) k = note-append (noted z r) l k
-
+-- ---- by the way of changing, if there is one
 module _ (minute : ℕ) (lines : List ℕ) (from to : ℕ) (old : List ℕ) where
-  abbrev caughtBy : List Cost → List Ride
-  caughtBy costs = caughtWays minute costs old (ridesTo lines from to)
-
   abbrev caughtAt : Cost → List Ride
   caughtAt c = catches (c .minutes .0) (c .points .0) old (nearRead lines from (minute + c .minutes .0) to)
 
-  caught-more : (c : Cost) (costs : List Cost) → caughtBy (c ∷ costs) ≡ caughtAt c ++ caughtBy costs
-  unfolding caughtWays ridesTo
-  caught-more c costs = refl
+  module _ (g : Way) (z : List ℕ) where
+    pub way-shut : not (g .found) ≡ true → z ≡ noteAll z (caughtWay minute g old (ridesTo lines from to))
+    unfolding caughtWay noteAll
+    way-shut e = rw (not-true (g .found) e)
 
-  caught-none : caughtBy [] ≡ []
-  unfolding caughtWays
-  caught-none = refl
-
-  note-none : (z : List ℕ) → z ≡ noteAll z (caughtBy [])
-  unfolding noteAll
-  note-none z = sym (ap (noteAll z) caught-none)
-
-  note-more : (z : List ℕ) (c : Cost) (costs : List Cost)
-      → noteAll z (caughtBy (c ∷ costs)) ≡ noteAll (noteAll z (caughtAt c)) (caughtBy costs)
-  note-more z c costs = ap (noteAll z) (caught-more c costs) ∙ note-append z (caughtAt c) (caughtBy costs)
-
-  note-one : (z : List ℕ) (c : Cost) → noteAll z (caughtAt c) ≡ noteAll z (caughtBy (c ∷ []))
-  note-one z c = note-none (noteAll z (caughtAt c)) ∙ sym (note-more z c [])
-
-  module _ (offered : Bool) (c : Cost) (z : List ℕ) where
-    pub way-shut : not offered ≡ true
-        → z ≡ noteAll z (caughtWays minute (keep offered c []) old (ridesTo lines from to))
-    way-shut e = rw (not-true offered e) (note-none z)
-
-    pub way-gathered : not offered ≡ false → (earliest : ℕ) → earliest ≡ minute + c .minutes .0 → (full : List ℕ)
+    pub way-gathered : not (g .found) ≡ false → (c : Cost) → c ≡ costIn g
+        → (earliest : ℕ) → earliest ≡ minute + c .minutes .0 → (full : List ℕ)
         → full ≡ noteAll z (catches (c .minutes .0) (c .points .0) old (nearRead lines from earliest to))
-        → full ≡ noteAll z (caughtWays minute (keep offered c []) old (ridesTo lines from to))
-    way-gathered e earliest is full f =
-        rw (not-false offered e)
+        → full ≡ noteAll z (caughtWay minute g old (ridesTo lines from to))
+    unfolding caughtWay ridesTo
+    way-gathered e c is-c earliest is full f =
+        rw (not-false (g .found) e)
         (f
         ∙ ap (λ u. noteAll z (catches (c .minutes .0) (c .points .0) old (nearRead lines from u to))) is
-        ∙ note-one z c)
-
-  both-gathered : (a b : Bool) (c d : Cost) (z : List ℕ)
-      → noteAll (noteAll z (caughtBy (keep a c []))) (caughtBy (keep b d []))
-      ≡ noteAll z (caughtBy (keep a c (keep b d [])))
-  both-gathered true b c d z =
-      ap (λ z. noteAll z (caughtBy (keep b d []))) (sym (note-one z c)) ∙ sym (note-more z c (keep b d []))
-  both-gathered false b c d z = ap (λ z. noteAll z (caughtBy (keep b d []))) (sym (note-none z))
-
-  pub ways-gathered : (g : Ways) (stay walk : Cost) (z mid full : List ℕ) → stay ≡ costOf (g .here) Here
-      → walk ≡ costOf (g .here) (OnFoot (g .walk))
-      → mid ≡ noteAll z (caughtWays minute (keep (g .stays) stay []) old (ridesTo lines from to))
-      → full ≡ noteAll mid (caughtWays minute (keep (g .walks) walk []) old (ridesTo lines from to))
-      → full ≡ noteAll z (caughtWays minute (costsIn g) old (ridesTo lines from to))
-  unfolding costsIn
-  ways-gathered g stay walk z mid full is-stay is-walk e f =
-      f
-      ∙ ap (λ z. noteAll z (caughtBy (keep (g .walks) walk []))) e
-      ∙ both-gathered (g .stays) (g .walks) stay walk z
-      ∙ (λ i. noteAll z (caughtBy (keep (g .stays) (is-stay i) (keep (g .walks) (is-walk i) []))))
+        ∙ ap (λ c. noteAll z (caughtAt c)) is-c)
 
 -- ---- one ride back
 
-module _ (w lines path : List ℕ) (minute j : ℕ) (old z full : List ℕ) (alighted from to : ℕ) (g : Ways) where
+module _ (w lines path : List ℕ) (minute j : ℕ) (old z full : List ℕ) (alighted from to : ℕ) (g : Way) where
   pub gathered : alighted ≡ getD path (2 * j - 2) 0 → from ≡ getD path (2 * j - 1) 0 → to ≡ getD path (2 * j) 0
-      → g ≡ waysBetween w alighted from
-      → full ≡ noteAll z (caughtWays minute (costsIn g) old (ridesTo lines from to))
+      → g ≡ wayBetween w alighted from
+      → full ≡ noteAll z (caughtWay minute g old (ridesTo lines from to))
       → full ≡ gatherBack w lines minute path j old z
   unfolding gatherBack
-  gathered is-alighted is-from is-to is-ways f =
+  gathered is-alighted is-from is-to is-way f =
       f
-      ∙ (λ i. noteAll z (caughtWays minute (costsIn (is-ways i)) old (ridesTo lines from to)))
+      ∙ (λ i. noteAll z (caughtWay minute (is-way i) old (ridesTo lines from to)))
       ∙ (λ i.
       noteAll z
-      (caughtWays minute (costsIn (waysBetween w (is-alighted i) (is-from i))) old
+      (caughtWay minute (wayBetween w (is-alighted i) (is-from i)) old
       (ridesTo lines (is-from i) (is-to i))))
 
 module _ (w lines path : List ℕ) (minute j : ℕ) (z copy empty full : List ℕ) where

@@ -12,13 +12,13 @@ use Rattle.timetable.specs.Words.{stationCount, timetableOf, isTimetable}
 use Rattle.timetable.specs.Check.{length-stations}
 use Rattle.timetable.specs.Access.{spelled-valid}
 use Rattle.lists.specs.Lists.{_∈_}
-use Rattle.results.specs.declared.Cost.{Cost}
 use Rattle.connections.specs.Rides.{Ride}
 use Rattle.connections.specs.Connections.{Net, net, Boards}
 use Rattle.query_direct.specs.Nearest.{Nearer}
 use Rattle.query_minutes.specs.Minutes.{blank}
 use Rattle.query_rides.specs.Ridden.{near-rides, rides-near, read-bounds}
-use Rattle.query_rides.specs.Ways.{waysBetween, costsIn, open-ways}
+use Rattle.query_rides.specs.declared.Way.{Way}
+use Rattle.query_rides.specs.Ways.{wayBetween, open-way}
 use Rattle.query_shown.specs.Rests.{Rests, RestsAt}
 use Rattle.query_shown.specs.Spans.{Spans, Arrived}
 use Rattle.query_shown.specs.Stepping.{ridesTo, stepped, noted-spans, rests-before, rests-end}
@@ -73,10 +73,10 @@ module _ (w lines path : List ℕ) (j v : ℕ) (given : Given w lines path (j + 
   unfolding gatherBack ridesTo
   gathered-spans minute z copy empty full early spans c e f =
       subst (Spans minute v) (sym (gathered-from w lines path minute j z copy empty full c e f))
-      (noted-spans minute v early (given .timely) costs z spans rides useful)
+      (noted-spans minute v early (given .timely) way z spans rides useful)
     where
-      costs : List Cost
-      costs = costsIn (waysBetween w (getD path (2 * j - 2) 0) x)
+      way : Way
+      way = wayBetween w (getD path (2 * j - 2) 0) x
 
       rides : ℕ → List Ride
       rides = ridesTo lines x (getD path (2 * j) 0)
@@ -187,11 +187,11 @@ module _ (w lines path : List ℕ) (r v : ℕ) (given : Given w lines path r v) 
         near : (u : ℕ) (g : Ride) → Boards n x u g × (g .to ≡ y) → (e : Ride) × (e ∈ rides u) × Nearer e g
         near u = rides-near w lines x y u accepted (given .own) first within
 
-        whole : Rests n b v minute (x ∷ y ∷ q) o (stepped minute (costsIn (waysBetween w o x)) z rides)
+        whole : Rests n b v minute (x ∷ y ∷ q) o (stepped minute (wayBetween w o x) z rides)
         whole =
             let there = given .listed .at (2 * j - 2) (omega arith) in
-            rests-before (timetableOf w) (is-valid w accepted) b v minute q o x y (costsIn (waysBetween w o x))
-            (open-ways w accepted o x (there .0) (there .1)) rides told near z s (omega (arith, given .timely))
+            rests-before (timetableOf w) (is-valid w accepted) b v minute q o x y (wayBetween w o x)
+            (open-way w accepted o x (there .0) (there .1)) rides told near z s (omega (arith, given .timely))
 
         on : slice (2 * (j - 1) + 1) (2 * r - 1) path ≡ x ∷ y ∷ q
         on =

@@ -1,78 +1,60 @@
 -- What one pays in front of a ride, and where it is boarded.
-use mathlib.Core.Path.{_≡_, sym, ap, subst, _∙_}
+use mathlib.Core.Path.{_≡_, ap, subst}
 use mathlib.Core.Bool.{Bool, true, false, not, cond}
 use mathlib.Core.List.{List}
 use Prim.Native.Nat.{ℕ, _+_, _-_, _*_, _≤_, _<_}
 use native.Mathlib.Omega.{arith}
-use borrow.Author.Tests.{lt-ltb, le-ltb, ltb-true, ltb-false, not-true, not-false}
-use lib.Dec.{ltb}
+use borrow.Author.Tests.{lt-ltb, le-ltb, not-true, not-false}
 use lib.ListN.{getD}
 use Rattle.results.specs.declared.Cost.{Cost}
-use Rattle.query_rides.specs.declared.Change.the-variants.{Here, Walk as OnFoot}
-use Rattle.query_rides.specs.declared.Ways.{Ways}
-use Rattle.query_rides.specs.Ways.{costOf}
+use Rattle.query_rides.specs.declared.Way.{Way}
+use Rattle.query_rides.specs.Ways.{costOf, costIn}
 use Rattle.query_shown.specs.declared.Step.{Step}
-use Rattle.query_shown.specs.Prices.{openIn, stepPrice, priceOf, frontPrice}
+use Rattle.query_shown.specs.Prices.{stepPrice, priceOf, frontPrice}
 use Rattle.query_shown.specs.OnTheWay.{boardedAt}
 
 -- ---- the price of a step
-module _ (g : Ways) (m : ℕ) (step : Step) (offered : Bool) (is : offered ≡ openIn g (step .change)) where
-  pub price-shut : not offered ≡ true → 4294967295 ≡ stepPrice g m (step .ride .depart) (step .change)
-  unfolding stepPrice
-  price-shut h = simp (sym is, not-true offered h)
+module _
+    (stay : Cost)
+    (m : ℕ)
+    (step : Step)
+    (c : Cost)
+    (is-c : c ≡ costOf stay (step .change))
+    (ready : ℕ)
+    (is : ready ≡ m + c .minutes .0)
+  where
+    abbrev cost : Cost
+    cost = costOf stay (step .change)
 
-  module _ (h : not offered ≡ false) (c : Cost) (is-c : c ≡ costOf (g .here) (step .change)) (ready : ℕ) where
     abbrev d : ℕ
     d = step .ride .depart
 
-    offers : openIn g (step .change) ≡ true
-    offers = sym is ∙ not-false offered h
-
-    pub price-late : ready ≡ m + c .minutes .0 → step .ride .depart < ready
-        → 4294967295 ≡ stepPrice g m (step .ride .depart) (step .change)
+    pub price-late : step .ride .depart < ready
+        → 4294967295 ≡ stepPrice (costOf stay (step .change)) m (step .ride .depart)
     unfolding stepPrice
-    price-late e l =
-        let late = lt-ltb d (m + costOf (g .here) (step .change) .minutes .0)
-        (omega (arith, e, ap (λ c. c .minutes .0) is-c)) in
-        simp (offers, late)
+    price-late h = rw (lt-ltb d (m + cost .minutes .0) (omega (arith, is, ap (λ c. c .minutes .0) is-c)))
 
-    pub price-timely : ready ≡ m + c .minutes .0 → ready ≤ step .ride .depart
-        → c .points .0 ≡ stepPrice g m (step .ride .depart) (step .change)
+    pub price-timely : ready ≤ step .ride .depart
+        → c .points .0 ≡ stepPrice (costOf stay (step .change)) m (step .ride .depart)
     unfolding stepPrice
-    price-timely e l =
-        let timely = le-ltb d (m + costOf (g .here) (step .change) .minutes .0)
-        (omega (arith, e, ap (λ c. c .minutes .0) is-c)) in
-        rw (offers, timely) (ap (λ c. c .points .0) is-c)
-
--- ---- the cheaper of the two
-module _
-    (g : Ways)
-    (m d a b : ℕ)
-    (is-a : a ≡ stepPrice g m d (OnFoot (g .walk)))
-    (is-b : b ≡ stepPrice g m d Here)
-    (less : Bool)
-    (is : less ≡ ltb a b)
-  where
-    pub cheaper-walk : less ≡ true → stepPrice g m d (OnFoot (g .walk)) ≡ priceOf g m d
-    unfolding priceOf
-    cheaper-walk e = omega (arith, is-a, is-b, ltb-true a b (sym is ∙ e))
-
-    pub cheaper-stay : less ≡ false → stepPrice g m d Here ≡ priceOf g m d
-    unfolding priceOf
-    cheaper-stay e = omega (arith, is-a, is-b, ltb-false a b (sym is ∙ e))
+    price-timely h =
+        rw (le-ltb d (m + cost .minutes .0) (omega (arith, is, ap (λ c. c .minutes .0) is-c)))
+        (ap (λ c. c .points .0) is-c)
 
 -- ---- in front of a ride
-module _ (first : Bool) (g : Ways) (m d : ℕ) where
+module _ (first : Bool) (g : Way) (m d : ℕ) where
   pub front-none : first ≡ true → 0 ≡ frontPrice first g m d
   unfolding frontPrice
   front-none e = rw e
 
-  pub front-paid : first ≡ false → (step : Step) (k : ℕ)
-      → stepPrice g m (step .ride .depart) (step .change) ≡ priceOf g m d
-      → k ≡ stepPrice g m (step .ride .depart) (step .change)
-      → k ≡ frontPrice first g m d
-  unfolding frontPrice
-  front-paid e step k f is = rw e (is ∙ f)
+  module _ (e : first ≡ false) where
+    pub front-shut : not (g .found) ≡ true → 4294967295 ≡ frontPrice first g m d
+    unfolding frontPrice priceOf
+    front-shut h = rw (e, not-true (g .found) h)
+
+    pub front-paid : not (g .found) ≡ false → (k : ℕ) → k ≡ stepPrice (costIn g) m d → k ≡ frontPrice first g m d
+    unfolding frontPrice priceOf
+    front-paid h k is = rw (e, not-false (g .found) h) is
 
 -- ---- where it is boarded
 module _ (path : List ℕ) (first : Bool) (i alighted : ℕ) where

@@ -20,9 +20,9 @@ use Rattle.query_direct.specs.Candidates.{nearRead}
 use Rattle.query_direct.specs.Nearest.{Nearer}
 use Rattle.optimality.specs.Greedy.{rideNumbers, Changing, Continues, Fits, fits-starts}
 use Rattle.query_rides.specs.declared.Ride.{Ride as RideStruct}
-use Rattle.query_rides.specs.declared.Ways.{Ways}
+use Rattle.query_rides.specs.declared.Way.{Way}
 use Rattle.query_rides.specs.Ridden.{near-rides, rides-near}
-use Rattle.query_rides.specs.Ways.{waysBetween, open-ways}
+use Rattle.query_rides.specs.Ways.{wayBetween, open-way}
 use Rattle.query_shown.specs.declared.At.{At}
 use Rattle.query_shown.specs.declared.Next.{Next}
 use Rattle.query_shown.specs.Showing.{Given, Fitting, FoundAt}
@@ -116,15 +116,15 @@ module _ (w lines path : List ℕ) (r v : ℕ) (given : Given w lines path r v) 
         → Fronts n (FrontAt w path r v first i at) (boardedAt path first i o) (at .arrive)
         (priceAt w path r v first i at)
     unfolding boardedAt
-    fronts true s = fronts-start n o (at .arrive) (waysBetween w o o)
+    fronts true s = fronts-start n o (at .arrive) (wayBetween w o o)
     fronts false s =
         let x = getD path (2 * i - 1) 0 in
-        fronts-change t (is-valid w accepted) o (at .arrive) x (waysBetween w o x)
-        (open-ways w accepted o x (s .least) (s .most))
+        fronts-change t (is-valid w accepted) o (at .arrive) x (wayBetween w o x)
+        (open-way w accepted o x (s .least) (s .most))
 
     pub head-taken : (first : Bool) → Standing w minute first i at
         → (from : ℕ) → from ≡ boardedAt path first i (at .alighted)
-        → (g : Ways) → g ≡ waysBetween w (at .alighted) from
+        → (g : Way) → g ≡ wayBetween w (at .alighted) from
         → (z : List ℕ) → RestsAt w path r v minute i z
         → (to : ℕ) → to ≡ getD path (2 * i) 0
         → (s : RideStruct)
@@ -173,7 +173,7 @@ module _ (w lines path : List ℕ) (r v : ℕ) (given : Given w lines path r v) 
             ∙ ap (λ g. tellsOf (headOf first (frontPrice first g e) z p (nearRead lines from e to))) is-g
             ∙ (λ j.
             tellsOf
-            (headOf first (frontPrice first (waysBetween w o (is-from j)) e) z p
+            (headOf first (frontPrice first (wayBetween w o (is-from j)) e) z p
             (nearRead lines (is-from j) e (is-to j))))
 
         go : ((one ≡ noRide) × ((c : Connection) → ¬ Continues n b v Front (y ∷ q) p c))
@@ -520,8 +520,8 @@ module _
         go (inl h) = inl (record { found = refl; none = h .none })
         go (inr h) = absurd (omega (arith, e, ap (λ s. s .trip) (h .tells), h .chosen .few))
 
-    pub rode-one : (from : ℕ) → from ≡ boardedAt path first i (at .alighted) → (g : Ways)
-        → g ≡ waysBetween w (at .alighted) from → (price : ℕ) → price ≡ frontPrice first g (at .arrive) (s .depart)
+    pub rode-one : (from : ℕ) → from ≡ boardedAt path first i (at .alighted) → (g : Way)
+        → g ≡ wayBetween w (at .alighted) from → (price : ℕ) → price ≡ frontPrice first g (at .arrive) (s .depart)
         → (old new : List ℕ) (next : At) → ¬ (s .trip ≡ 65536)
         → Moved path i (at .left .0) price s old new next
         → Rode w path r v first i at old new (record { found = true; depart = s .depart; at = next })
@@ -531,7 +531,7 @@ module _
         paid : price ≡ priceAt w path r v first i at (s .depart)
         paid =
             is
-            ∙ ap (λ g. frontPrice first g (at .arrive) (s .depart)) (is-g ∙ ap (waysBetween w (at .alighted)) is-from)
+            ∙ ap (λ g. frontPrice first g (at .arrive) (s .depart)) (is-g ∙ ap (wayBetween w (at .alighted)) is-from)
 
         go : Nothing w path r v first i at s ⊎ Taken w path r v first i at s
             → Stopped w path r v first i at (record { found = true; depart = s .depart; at = next })

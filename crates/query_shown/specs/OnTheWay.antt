@@ -13,7 +13,7 @@ use Rattle.connections.specs.Rides.{Ride}
 use Rattle.connections.specs.Connections.{net, Connection}
 use Rattle.optimality.specs.Greedy.{Starting, Changing, Continues}
 use Rattle.query_rides.specs.declared.Ride.{Ride as RideStruct}
-use Rattle.query_rides.specs.Ways.{waysBetween}
+use Rattle.query_rides.specs.Ways.{wayBetween}
 use Rattle.query_shown.specs.declared.At.{At}
 use Rattle.query_shown.specs.declared.Next.{Next}
 use Rattle.query_shown.specs.Prices.{frontPrice}
@@ -47,7 +47,7 @@ module _ (w path : List ℕ) (r v : ℕ) where
   -- what one pays in front of it, by its departure
   abbrev pub priceAt : (first : Bool) (i : ℕ) (at : At) (depart : ℕ) → ℕ
   priceAt first i at =
-      frontPrice first (waysBetween w (at .alighted) (boardedAt path first i (at .alighted))) (at .arrive)
+      frontPrice first (wayBetween w (at .alighted) (boardedAt path first i (at .alighted))) (at .arrive)
 
   -- s is ride i of the path, the one to take
   pub record Taken (first : Bool) (i : ℕ) (at : At) (s : RideStruct) : Type 0 where

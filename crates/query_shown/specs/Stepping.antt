@@ -1,8 +1,8 @@
--- From what is left behind one ride of a pattern to what is left behind the ride before it: for each way of changing
--- and each ride that can be caught by it, the latest minute of arrival for which it can, and what it costs with the
--- change before it and what is left behind it.
+-- From what is left behind one ride of a pattern to what is left behind the ride before it: for each ride that can be
+-- caught by the way of changing, the latest minute of arrival for which it can, and what it costs with the change
+-- before it and what is left behind it.
 use mathlib.Core.Path.{_≡_, sym, ap, _∙_}
-use mathlib.Core.Bool.{Bool, not, _&&_}
+use mathlib.Core.Bool.{Bool, true, false, not, cond, _&&_}
 use mathlib.Core.Logic.{inl, inr}
 use mathlib.Core.List.{List, [], _∷_, map, Memᴰ·map, Memᴰ·of-map}
 use Prim.Native.Nat.{ℕ, _+_, _-_, _≤_, _<_}
@@ -10,9 +10,9 @@ use native.Mathlib.Omega.{arith}
 use lib.Dec.{T, leb, ltb, ltb→lt, nltb→le}
 use lib.ListN.{length, getD}
 use Rattle.timetable.specs.Timetable.{Timetable, valid}
-use Rattle.lists.specs.Lists.{_∈_, filter, concatMap}
-use Rattle.lists.specs.Tests.{either, reads, writes}
-use Rattle.lists.specs.Members.{filter-in, filter-out, concatMap-in, concatMap-out}
+use Rattle.lists.specs.Lists.{_∈_, filter}
+use Rattle.lists.specs.Tests.{T-true, either, reads, writes}
+use Rattle.lists.specs.Members.{none, filter-in, filter-out}
 use Rattle.results.specs.declared.Cost.{Cost}
 use Rattle.connections.specs.Rides.{Ride}
 use Rattle.connections.specs.Connections.{Net, net, Boards}
@@ -21,7 +21,8 @@ use Rattle.connections.specs.Feasibility.{penalty-most}
 use Rattle.optimality.specs.Ways.{firstRide}
 use Rattle.query_direct.specs.Candidates.{nearRead}
 use Rattle.query_direct.specs.Nearest.{Nearer, nearer-sooner}
-use Rattle.query_rides.specs.Ways.{Changes, Open}
+use Rattle.query_rides.specs.declared.Way.{Way}
+use Rattle.query_rides.specs.Ways.{costIn, Changes, Open}
 use Rattle.query_minutes.specs.Minutes.{noPoints, noteAll, blank}
 use Rattle.query_minutes.specs.Noted.{Noted, Arrives, all-noted, LeastNoted, least-noted, length-noted}
 use Rattle.query_shown.specs.Rests.{Rest, Rests, rest-earlier, begun, parted}
@@ -55,15 +56,47 @@ catches cm cp old l = map (caught cm cp old) (filter (catchable cm old) l)
 unfoldable pub ridesTo : (lines : List ℕ) (from to : ℕ) → (u : ℕ) → List Ride
 ridesTo lines from to u = nearRead lines from u to
 
--- the same for each way of changing, by what it takes and costs, for one who arrives at minute t or later: rides tells
--- the rides that leave at a minute or later
-unfoldable pub caughtWays : (t : ℕ) → List Cost → (old : List ℕ) (rides : ℕ → List Ride) → List Ride
-caughtWays t costs old rides =
-    concatMap (λ c. catches (c .minutes .0) (c .points .0) old (rides (t + c .minutes .0))) costs
+-- the rides caught by a way of changing, if there is one, for one who arrives at minute t or later: rides tells those
+-- that leave at a minute or later
+unfoldable pub caughtWay : (t : ℕ) → Way → (old : List ℕ) (rides : ℕ → List Ride) → List Ride
+caughtWay t g old rides =
+    let c = costIn g in
+    cond (g .found) (catches (c .minutes .0) (c .points .0) old (rides (t + c .minutes .0))) []
 
 -- what is left at the station before from minute t on
-unfoldable pub stepped : (t : ℕ) → List Cost → (old : List ℕ) (rides : ℕ → List Ride) → List ℕ
-stepped t costs old rides = settledFrom noPoints t (noteAll blank (caughtWays t costs old rides))
+unfoldable pub stepped : (t : ℕ) → Way → (old : List ℕ) (rides : ℕ → List Ride) → List ℕ
+stepped t g old rides = settledFrom noPoints t (noteAll blank (caughtWay t g old rides))
+
+-- a ride that is caught, as it was before
+record Counted (t : ℕ) (g : Way) (old : List ℕ) (rides : ℕ → List Ride) (r : Ride) : Type 0 where
+  found : T (g .found)
+  ride : Ride
+  listed : ride ∈ rides (t + costIn g .minutes .0)
+  left : getD old (ride .arrive) noPoints < noPoints
+  early : costIn g .minutes .0 ≤ ride .depart
+  is : caught (costIn g .minutes .0) (costIn g .points .0) old ride ≡ r
+
+counted-out : (t : ℕ) (g : Way) (old : List ℕ) (rides : ℕ → List Ride) (r : Ride) → r ∈ caughtWay t g old rides
+    → Counted t g old rides r
+unfolding caughtWay catches
+counted-out t g old rides r m =
+    let o = when (g .found) m in
+    let cm = costIn g .minutes .0 in
+    let k = Memᴰ·of-map (caught cm (costIn g .points .0) old) (filter (catchable cm old) (rides (t + cm))) (o .1) in
+    let f = filter-out (catchable cm old) (rides (t + cm)) (k .1) in
+    let test = f .1 in
+    record {
+      found = o .0;
+      ride = k .0;
+      listed = f .0;
+      left = search reads;
+      early = search reads;
+      is = k .2;
+    }
+  where
+    when : (b : Bool) {l : List Ride} → r ∈ cond b l [] → T b × (r ∈ l)
+    when true m = (tt, m)
+    when false m = none m
 
 -- ---- the window is kept
 module _ (t v : ℕ) (early : t ≤ v) (timely : v ≤ 2879) where
@@ -97,31 +130,24 @@ module _ (t v : ℕ) (early : t ≤ v) (timely : v ≤ 2879) where
   -- Rides that can still be caught by one who arrives at minute t, and that take time, are noted for minutes from t
   -- on; and what is left behind them is left by minute v, so they are noted for minutes before it.
   module _
-      (costs : List Cost)
+      (g : Way)
       (old : List ℕ)
       (spans : Spans t v old)
       (rides : ℕ → List Ride)
       (useful : (u : ℕ) (r : Ride) → r ∈ rides u → (u ≤ r .depart) × (r .depart < r .arrive))
     where
       abbrev counted : List Ride
-      counted = caughtWays t costs old rides
+      counted = caughtWay t g old rides
 
       within : (r : Ride) → r ∈ counted → (t ≤ r .arrive) × (r .arrive ≤ v)
-      unfolding caughtWays catches
       within r m =
-          let o = concatMap-out (λ c. catches (c .minutes .0) (c .points .0) old (rides (t + c .minutes .0))) costs m in
-          let cm = (o .0) .minutes .0 in
-          let cp = (o .0) .points .0 in
-          let k = Memᴰ·of-map (caught cm cp old) (filter (catchable cm old) (rides (t + cm))) (o .2) in
-          let f = filter-out (catchable cm old) (rides (t + cm)) (k .1) in
-          let test = f .1 in
-          let left : getD old ((k .0) .arrive) noPoints < noPoints = search reads in
-          let by = spans-in t v old spans ((k .0) .arrive) left .1 in
-          let u = useful (t + cm) (k .0) (f .0) in
-          let at = ap (λ r. r .arrive) (k .2) in
+          let k = counted-out t g old rides r m in
+          let by = spans-in t v old spans (k .ride .arrive) (k .left) .1 in
+          let u = useful (t + costIn g .minutes .0) (k .ride) (k .listed) in
+          let at = ap (λ r. r .arrive) (k .is) in
           (omega (arith, u .0, at), omega (arith, u .1, by, at))
 
-      pub noted-spans : Spans t v (noteAll blank (caughtWays t costs old rides))
+      pub noted-spans : Spans t v (noteAll blank (caughtWay t g old rides))
       noted-spans =
           record {
             long = length-noted counted blank ∙ blank-spans .long;
@@ -157,12 +183,12 @@ module _ (timetable : Timetable) (okay : T (valid timetable)) (b v t : ℕ) wher
   ok : Sound n
   ok = sound timetable okay
 
-  -- ---- the changes from station o to station x, and the rides from x to y
+  -- ---- the change from station o to station x, and the rides from x to y
   module _
       (q : List ℕ)
       (o x y : ℕ)
-      (costs : List Cost)
-      (known : Open n o x costs)
+      (g : Way)
+      (known : Open n o x g)
       (rides : ℕ → List Ride)
       (told : (u : ℕ) (r : Ride) → r ∈ rides u → Boards n x u r × (r .to ≡ y))
       (near : (u : ℕ) (r : Ride) → Boards n x u r × (r .to ≡ y) → (e : Ride) × (e ∈ rides u) × Nearer e r)
@@ -170,57 +196,48 @@ module _ (timetable : Timetable) (okay : T (valid timetable)) (b v t : ℕ) wher
       (rests : Rests n b v t q y old)
     where
       abbrev those : List Ride
-      those = caughtWays t costs old rides
+      those = caughtWay t g old rides
 
-      -- a ride that can be caught by a change, as it is counted
+      abbrev c : Cost
+      c = costIn g
+
+      -- a ride that can be caught by the change, as it is counted
       record Caught (r : Ride) : Type 0 where
-        way : Cost
-        changes : Changes n o x way
+        changes : Changes n o x c
         ride : Ride
-        boards : Boards n x (t + way .minutes .0) ride
+        boards : Boards n x (t + c .minutes .0) ride
         to : ride .to ≡ y
         rest : Rest n b v q y (ride .arrive) (getD old (ride .arrive) noPoints)
-        early : way .minutes .0 ≤ ride .depart
-        minute : r .arrive + way .minutes .0 ≡ ride .depart
-        pays : r .points ≡ way .points .0 + ride .points + getD old (ride .arrive) noPoints
+        minute : r .arrive + c .minutes .0 ≡ ride .depart
+        pays : r .points ≡ c .points .0 + ride .points + getD old (ride .arrive) noPoints
 
       caught-out : (r : Ride) → r ∈ those → Caught r
-      unfolding caughtWays catches
       caught-out r m =
-          let i = concatMap-out (λ c. catches (c .minutes .0) (c .points .0) old (rides (t + c .minutes .0))) costs m in
-          let cm = (i .0) .minutes .0 in
-          let cp = (i .0) .points .0 in
-          let k = Memᴰ·of-map (caught cm cp old) (filter (catchable cm old) (rides (t + cm))) (i .2) in
-          let f = filter-out (catchable cm old) (rides (t + cm)) (k .1) in
-          let test = f .1 in
-          let left : getD old ((k .0) .arrive) noPoints < noPoints = search reads in
-          let early : (i .0) .minutes .0 ≤ (k .0) .depart = search reads in
-          let h = told (t + cm) (k .0) (f .0) in
+          let k = counted-out t g old rides r m in
+          let h = told (t + c .minutes .0) (k .ride) (k .listed) in
           record {
-            way = i .0;
-            changes = known .sound (i .0) (i .1);
-            ride = k .0;
+            changes = known .sound (k .found);
+            ride = k .ride;
             boards = h .0;
             to = h .1;
-            rest = rests .some ((k .0) .arrive) left;
-            early = early;
-            minute = omega (arith, ap (λ r. r .arrive) (k .2));
-            pays = sym (ap (λ r. r .points) (k .2));
+            rest = rests .some (k .ride .arrive) (k .left);
+            minute = omega (arith, ap (λ r. r .arrive) (k .is), k .early);
+            pays = sym (ap (λ r. r .points) (k .is));
           }
 
-      caught-in : (c : Cost) → c ∈ costs → (r : Ride) → r ∈ rides (t + c .minutes .0)
+      caught-in : T (g .found) → (r : Ride) → r ∈ rides (t + c .minutes .0)
           → getD old (r .arrive) noPoints < noPoints → c .minutes .0 ≤ r .depart
           → caught (c .minutes .0) (c .points .0) old r ∈ those
-      unfolding caughtWays catches
-      caught-in c i r m left early =
-          concatMap-in (λ c. catches (c .minutes .0) (c .points .0) old (rides (t + c .minutes .0))) i
+      unfolding caughtWay catches
+      caught-in f r m left early =
+          rw (T-true (g .found) f)
           (Memᴰ·map (caught (c .minutes .0) (c .points .0) old)
           (filter-in (catchable (c .minutes .0) old) m (search writes)))
 
       in-time : (r : Ride) → r ∈ those → r .arrive < 2880
       in-time r m =
-          let c = caught-out r m in
-          omega (arith, c .minute, ok .forward (c .ride) (c .boards .listed), ok .bounded (c .ride) (c .boards .listed))
+          let k = caught-out r m in
+          omega (arith, k .minute, ok .forward (k .ride) (k .boards .listed), ok .bounded (k .ride) (k .boards .listed))
 
       -- the least penalties of those, for who can wait
       module _ (after : List ℕ) (noted : LeastNoted noPoints after those) (inside : t ≤ length after) where
@@ -229,42 +246,41 @@ module _ (timetable : Timetable) (okay : T (valid timetable)) (b v t : ℕ) wher
         some m h =
             let k = from-is noPoints t after inside m h in
             let a = noted .arrives (k .0) (omega (arith, k .2)) in
-            let c = caught-out (a .ride) (a .listed) in
-            let r = c .ride in
-            let w = c .changes .change in
+            let d = caught-out (a .ride) (a .listed) in
+            let r = d .ride in
+            let w = d .changes .change in
             let boards : Boards n (w .to) (m + w .minutes) r =
             record {
-              listed = c .boards .listed;
-              here = c .boards .here ∙ sym (c .changes .to);
-              timely = omega (arith, k .1, a .at, c .minute, c .changes .takes .minutes);
+              listed = d .boards .listed;
+              here = d .boards .here ∙ sym (d .changes .to);
+              timely = omega (arith, k .1, a .at, d .minute, d .changes .takes .minutes);
             }
             in
             let left = getD old (r .arrive) noPoints in
-            let e = begun n b v q y (w .to) (m + w .minutes) r left boards (c .to) (c .rest) in
+            let e = begun n b v q y (w .to) (m + w .minutes) r left boards (d .to) (d .rest) in
             record {
               change = w;
               connection = e .connection;
-              listed = c .changes .listed;
-              from = c .changes .from;
-              to = c .changes .to;
+              listed = d .changes .listed;
+              from = d .changes .from;
+              to = d .changes .to;
               feasible = e .feasible;
               is = e .is;
               timely = e .timely;
-              total = omega (arith, k .2, a .costs, c .pays, e .total, c .changes .takes .points);
+              total = omega (arith, k .2, a .costs, d .pays, e .total, d .changes .takes .points);
             }
 
         least : (m s : ℕ) → t ≤ m → m < 2880 → Rest n b v (x ∷ y ∷ q) o m s
             → getD (settledFrom noPoints t after) m noPoints ≤ s
-        least m s h g rest =
+        least m s h e rest =
             let w = rest .change in
             let way = known .all w (rest .listed) (rest .from) (rest .to) in
-            let c = way .0 in
             let u = m + w .minutes in
             let e = rest .connection in
             let d = parted n b v q y (w .to) u e (rest .feasible) (rest .is) (rest .timely) in
             let r = firstRide e in
-            let minutes = way .2 .minutes in
-            let points = way .2 .points in
+            let minutes = way .1 .minutes in
+            let points = way .1 .points in
             let most = penalty-most timetable okay (w .to) u b e (rest .feasible) in
             let boards : Boards n x (t + c .minutes .0) r =
             record {
@@ -283,7 +299,7 @@ module _ (timetable : Timetable) (okay : T (valid timetable)) (b v t : ℕ) wher
             let low = rests .least (f .arrive) (d .points) (omega (arith, boards .timely)) (omega arith) behind in
             let left : getD old (f .arrive) noPoints < noPoints = omega (arith, low, d .total, most) in
             let early : c .minutes .0 ≤ f .depart = omega (arith, d .boards .timely, minutes) in
-            let in-list = caught-in c (way .1) f (k .1) left early in
+            let in-list = caught-in (way .0) f (k .1) left early in
             let waits : m ≤ f .depart - c .minutes .0 = omega (arith, d .boards .timely, minutes) in
             omega (
               arith,
@@ -299,7 +315,7 @@ module _ (timetable : Timetable) (okay : T (valid timetable)) (b v t : ℕ) wher
         settled-rests : Rests n b v t (x ∷ y ∷ q) o (settledFrom noPoints t after)
         settled-rests = record { some = some; least = least }
 
-      pub rests-before : t ≤ 2880 → Rests n b v t (x ∷ y ∷ q) o (stepped t costs old rides)
+      pub rests-before : t ≤ 2880 → Rests n b v t (x ∷ y ∷ q) o (stepped t g old rides)
       unfolding stepped
       rests-before h =
           let long = length-noted those blank ∙ spans-blank t v .long in

@@ -10,9 +10,9 @@ use Rattle.connections.specs.Rides.{Ride}
 use Rattle.query_minutes.specs.Minutes.{noPoints, noteAll, blank, lowered}
 use Rattle.query_rides.specs.declared.Ride.{Ride as RideStruct}
 use Rattle.query_rides.specs.Riding.{Tells}
-use Rattle.query_rides.specs.Ways.{waysBetween, costsIn}
+use Rattle.query_rides.specs.Ways.{wayBetween}
 use Rattle.query_shown.specs.Settling.{settledFrom}
-use Rattle.query_shown.specs.Stepping.{catchable, catches, ridesTo, caughtWays}
+use Rattle.query_shown.specs.Stepping.{catchable, catches, ridesTo, caughtWay}
 use Rattle.query_shown.specs.Foremost.{former, foremost}
 use Rattle.query_shown.specs.Heads.{lateness, headKey, noRide, payable, endable, takeable, headOf}
 
@@ -62,13 +62,13 @@ catches-more cm cp old z r l = go (catchable cm old r) refl
     go true e = rw e
     go false e = rw e
 
--- z once the rides that can be ride j of a path, to the nearest places, are noted by each way of changing before them,
+-- z once the rides that can be ride j of a path, to the nearest places, are noted by the way of changing before them,
 -- old being what is left behind
 unfoldable pub gatherBack : (w lines : List ℕ) (minute : ℕ) (path : List ℕ) (j : ℕ) (old z : List ℕ) → List ℕ
 gatherBack w lines minute path j old z =
     let y = getD path (2 * j - 2) 0 in
     let x = getD path (2 * j - 1) 0 in
-    noteAll z (caughtWays minute (costsIn (waysBetween w y x)) old (ridesTo lines x (getD path (2 * j) 0)))
+    noteAll z (caughtWay minute (wayBetween w y x) old (ridesTo lines x (getD path (2 * j) 0)))
 
 -- what is left behind the ride before ride j of a path
 unfoldable pub stepBack : (w lines : List ℕ) (minute : ℕ) (path : List ℕ) (j : ℕ) (z : List ℕ) → List ℕ

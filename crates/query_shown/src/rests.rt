@@ -5,23 +5,19 @@
 ghost use mathlib.Core.Path.{_≡_};
 ghost use mathlib.Core.Bool.{true};
 ghost use Prim.Native.Nat.{_+_, _-_, _*_, _≤_, _<_};
-ghost use mathlib.Core.List.{[]};
 ghost use lib.ListN.{length, getD};
-ghost use Rattle.lists.specs.Lists.{keep as keptIf};
 ghost use Rattle.timetable.specs.Words.{stationCount, isTimetable};
 ghost use Rattle.query_direct.specs.Candidates.{nearRead};
 ghost use Rattle.query_minutes.specs.Minutes.{noPoints, noteAll, blank, lowered};
-ghost use Rattle.query_rides.specs.Ways.{costsIn};
 ghost use Rattle.query_shown.specs.Showing.{Given};
 ghost use Rattle.query_shown.specs.Rests.{RestsAt};
 ghost use Rattle.query_shown.specs.Settling.{settledFrom};
 ghost use Rattle.query_shown.specs.Spans.{Spans, Stored, Arrived};
-ghost use Rattle.query_shown.specs.Stepping.{catches, ridesTo, caughtWays};
+ghost use Rattle.query_shown.specs.Stepping.{catches, ridesTo, caughtWay};
 ghost use Rattle.query_shown.specs.Turns.{caughtBy, gatherBack, stepBack};
 use query_minutes::NO_POINTS;
-use query_rides::Change;
 use query_rides::Ride;
-use query_rides::Ways;
+use query_rides::Way;
 use results::Cost;
 use results::Points;
 
@@ -149,57 +145,35 @@ fn clear(z: &mut [u32], minute: usize, v: usize)
     fill(z, minute, v + 1, Points(NO_POINTS));
 }
 
-// Notes those rides, if the way of changing before them that takes and costs so much is open, for one who arrives at
-// the minute or later: a ride that leaves before he can have changed is of no use.
+// Notes those rides, if there is a way of changing before them, for one who arrives at the minute or later: a ride that
+// leaves before he can have changed is of no use.
 fn gather_way(
-    offered: bool,
     lines: &[u16],
     from: usize,
     to: usize,
     minute: usize,
-    change: Cost,
+    way: Way,
     old: &[u32],
     z: &mut [u32],
 )
     requires { ⌜ minute ≤ 2879 ⌝ }
     ensures { λ _. ⌜ now (z .exit)
         ≡ noteAll (now (z .entry))
-        (caughtWays minute (keptIf offered change []) (now (old .entry)) (ridesTo (now (lines .entry)) from to)) ⌝ }
+        (caughtWay minute way (now (old .entry)) (ridesTo (now (lines .entry)) from to)) ⌝ }
     ensures { λ _. ⌜ length (now (z .exit)) ≡ length (now (z .entry)) ⌝ }
 {
-    if !offered {
+    if !way.found {
         return;
     }
-    let wait = change.minutes;
+    let here = way.here;
+    let change = way.change;
+    let cost = query_rides::cost_of(here, change);
+    let wait = cost.minutes;
     let earliest = query_minutes::minute_after(minute, wait);
-    gather(lines, from, to, earliest, change, old, z);
+    gather(lines, from, to, earliest, cost, old, z);
 }
 
-// Notes those rides by each way of changing before them.
-fn gather_ways(
-    lines: &[u16],
-    from: usize,
-    to: usize,
-    minute: usize,
-    ways: Ways,
-    old: &[u32],
-    z: &mut [u32],
-)
-    requires { ⌜ minute ≤ 2879 ⌝ }
-    ensures { λ _. ⌜ now (z .exit)
-        ≡ noteAll (now (z .entry))
-        (caughtWays minute (costsIn ways) (now (old .entry)) (ridesTo (now (lines .entry)) from to)) ⌝ }
-    ensures { λ _. ⌜ length (now (z .exit)) ≡ length (now (z .entry)) ⌝ }
-{
-    let here = ways.here;
-    let afoot = ways.walk;
-    let stay = query_rides::cost_of(here, Change::Here);
-    let walk = query_rides::cost_of(here, Change::Walk(afoot));
-    gather_way(ways.stays, lines, from, to, minute, stay, old, z);
-    gather_way(ways.walks, lines, from, to, minute, walk, old, z);
-}
-
-// Notes all rides to the station where ride j of a path ends, by each way of changing from the station where the ride
+// Notes all rides to the station where ride j of a path ends, by the way of changing from the station where the ride
 // before it ends.
 fn gather_back(
     words: &[u16],
@@ -226,8 +200,8 @@ fn gather_back(
     let alighted = station(path, 2 * j - 2);
     let from = station(path, 2 * j - 1);
     let to = station(path, 2 * j);
-    let ways = query_rides::ways_between(words, alighted, from);
-    gather_ways(lines, from, to, minute, ways, old, z);
+    let way = query_rides::way_between(words, alighted, from);
+    gather_way(lines, from, to, minute, way, old, z);
 }
 
 // From what is left after ride j along a path to what is left after the one before it.

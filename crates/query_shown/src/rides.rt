@@ -7,8 +7,8 @@ ghost use Prim.Native.Nat.{_+_, _*_, _≤_, _<_};
 ghost use lib.ListN.{length};
 ghost use Rattle.words.specs.Put.{put};
 ghost use Rattle.query_direct.specs.Candidates.{nearRead};
-ghost use Rattle.query_rides.specs.Ways.{waysBetween};
-ghost use Rattle.query_shown.specs.Prices.{openIn, stepPrice, priceOf, frontPrice};
+ghost use Rattle.query_rides.specs.Ways.{costOf, wayBetween};
+ghost use Rattle.query_shown.specs.Prices.{stepPrice, frontPrice};
 ghost use Rattle.query_shown.specs.Showing.{Given};
 ghost use Rattle.query_shown.specs.Spans.{Spans};
 ghost use Rattle.query_shown.specs.Heads.{lateness, headOf};
@@ -19,9 +19,9 @@ use crate::Next;
 use crate::Step;
 use crate::rests;
 use query_minutes::NO_POINTS;
-use query_rides::Change;
 use query_rides::Ride;
-use query_rides::Ways;
+use query_rides::Way;
+use results::Cost;
 use results::Minutes;
 use results::Points;
 
@@ -75,26 +75,13 @@ fn goes_before(first: bool, g: Ride, f: Ride) -> bool
     numbers_before(g, f)
 }
 
-// Whether a way of changing is open.
-fn is_open(ways: Ways, change: Change) -> bool
-    ensures { λ r. ⌜ r ≡ openIn ways change ⌝ }
-{
-    match change {
-        Change::Here => ways.stays,
-        Change::Walk(_) => ways.walks,
-    }
-}
-
-// What the change of a step costs for one who arrived at a minute; NO_POINTS if it is not open or not in time.
-fn price_of(ways: Ways, arrive: usize, step: Step) -> Points
+// What the change of a step costs for one who arrived at a minute, where one at the station itself takes and costs so
+// much; NO_POINTS if it is not in time.
+fn price_of(here: Cost, arrive: usize, step: Step) -> Points
     requires { ⌜ arrive ≤ 65536 ⌝ }
-    ensures { λ r. ⌜ r .0 ≡ stepPrice ways arrive (step .ride .depart) (step .change) ⌝ }
+    ensures { λ r. ⌜ r .0 ≡ stepPrice (costOf here (step .change)) arrive (step .ride .depart) ⌝ }
 {
     let change = step.change;
-    if !is_open(ways, change) {
-        return Points(NO_POINTS);
-    }
-    let here = ways.here;
     let cost = query_rides::cost_of(here, change);
     let wait = cost.minutes;
     if step.ride.depart < query_minutes::minute_after(arrive, wait) {
@@ -103,36 +90,21 @@ fn price_of(ways: Ways, arrive: usize, step: Step) -> Points
     cost.points
 }
 
-// The step to a ride by the cheapest way that is in time, if there is one.
-fn step_onto(ways: Ways, arrive: usize, ride: Ride) -> Step
+// What one pays in front of a ride: NO_POINTS if one cannot change to it. No change stands in front of the first.
+fn front_price(first: bool, way: Way, arrive: usize, ride: Ride) -> Points
     requires { ⌜ arrive ≤ 65536 ⌝ }
-    ensures { λ r. ⌜ stepPrice ways arrive (r .ride .depart) (r .change) ≡ priceOf ways arrive (ride .depart) ⌝ }
-{
-    let afoot = ways.walk;
-    let stay = Step {
-        change: Change::Here,
-        ride,
-    };
-    let walk = Step {
-        change: Change::Walk(afoot),
-        ride,
-    };
-    if query_minutes::less(price_of(ways, arrive, walk), price_of(ways, arrive, stay)) {
-        return walk;
-    }
-    stay
-}
-
-// What one pays in front of a ride; no change stands in front of the first.
-fn front_price(first: bool, ways: Ways, arrive: usize, ride: Ride) -> Points
-    requires { ⌜ arrive ≤ 65536 ⌝ }
-    ensures { λ r. ⌜ r .0 ≡ frontPrice first ways arrive (ride .depart) ⌝ }
+    ensures { λ r. ⌜ r .0 ≡ frontPrice first way arrive (ride .depart) ⌝ }
 {
     if first {
         return Points(0);
     }
-    let step = step_onto(ways, arrive, ride);
-    price_of(ways, arrive, step)
+    if !way.found {
+        return Points(NO_POINTS);
+    }
+    let here = way.here;
+    let change = way.change;
+    let step = Step { change, ride };
+    price_of(here, arrive, step)
 }
 
 // One ride more: taken if something is left after it that can be paid, and it comes before the best so far.
@@ -181,14 +153,14 @@ fn choose(
     to: usize,
     arrive: usize,
     first: bool,
-    ways: Ways,
+    way: Way,
     left: Points,
     z: &[u32],
 ) -> Ride
     requires { ⌜ arrive ≤ 65536 ⌝ }
     ensures { λ r. ⌜ (r
         ≡ tellsOf
-        (headOf first (frontPrice first ways arrive) (now (z .entry)) (left .0)
+        (headOf first (frontPrice first way arrive) (now (z .entry)) (left .0)
         (nearRead (now (lines .entry)) from arrive to)))
         × Sized r ⌝ }
 {
@@ -203,7 +175,7 @@ fn choose(
     let mut c = query_rides::begin(lines, from, to, arrive);
     while c.more {
         let ride = query_rides::tell(lines, c);
-        let price = front_price(first, ways, arrive, ride);
+        let price = front_price(first, way, arrive, ride);
         best = try_onto(first, z, left, price, best, ride);
         c = query_rides::next_nearest(lines, arrive, c);
     }
@@ -233,7 +205,7 @@ fn take_ride(
     at: At,
     first: bool,
     from: usize,
-    ways: Ways,
+    way: Way,
     z: &mut [u32],
     old: &mut [u32],
 ) -> Ride
@@ -241,7 +213,7 @@ fn take_ride(
         × (i < r)
         × Standing (now words) minute first i at
         × (from ≡ boardedAt (now path) first i (at .alighted))
-        × (ways ≡ waysBetween (now words) (at .alighted) from)
+        × (way ≡ wayBetween (now words) (at .alighted) from)
         × (minute ≤ v)
         × Spans minute v (now z)
         × Spans minute v (now old) ⌝ }
@@ -255,7 +227,7 @@ fn take_ride(
     rests::rest(words, lines, minute, path, i, r, v, z, old);
     let left = at.left;
     let to = rests::station(path, 2 * i);
-    choose(lines, from, to, at.arrive, first, ways, left, z)
+    choose(lines, from, to, at.arrive, first, way, left, z)
 }
 
 // Writes the numbers of ride i.
@@ -319,7 +291,7 @@ pub fn ride_on(
         × (length (now (old .exit)) ≡ length (now (old .entry))) ⌝ }
 {
     let from = boarded(path, i, first, at.alighted);
-    let ways = query_rides::ways_between(words, at.alighted, from);
+    let way = query_rides::way_between(words, at.alighted, from);
     let ride = take_ride(
         words,
         lines,
@@ -331,7 +303,7 @@ pub fn ride_on(
         at,
         first,
         from,
-        ways,
+        way,
         z,
         old,
     );
@@ -343,7 +315,7 @@ pub fn ride_on(
         };
     }
     let left = at.left;
-    let price = front_price(first, ways, at.arrive, ride);
+    let price = front_price(first, way, at.arrive, ride);
     let next = move_on(path, i, left, price, ride, rides);
     Next {
         found: true,

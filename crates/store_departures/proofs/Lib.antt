@@ -4,3 +4,4 @@ pub mod PlaceLaws
 pub mod LegLaws
 pub mod OrderLaws
 pub mod CatchLaws
+pub mod PriceLaws

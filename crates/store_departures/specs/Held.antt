@@ -1,4 +1,4 @@
--- The arrays that hold the departures station by station, and where each station's begin.
+-- The arrays that hold the departures station by station, where each station's begin, and what a change there costs.
 use mathlib.Core.Path.{_≡_, sym, ap, subst, _∙_}
 use mathlib.Core.Bool.{true}
 use mathlib.Core.List.{List, List·Memᴰ·head as here, List·Memᴰ·tail as there}
@@ -9,18 +9,33 @@ use lib.ListN.{length, getD, take, drop}
 use lib.Seq.{slice, slice-cons, take-take}
 use Rattle.lists.specs.Lists.{_∈_}
 use Rattle.lists.specs.Members.{filter-few}
-use Rattle.timetable.specs.Words.{isTimetable}
-use Rattle.store_stops.specs.Stopwise.{station, Goes}
+use Rattle.timetable.specs.Words.{stationCount, isTimetable}
+use Rattle.store_stops.specs.Stopwise.{station, changePoints, Goes}
 use Rattle.store_stops.specs.TimelyLaws.{timely}
 use Rattle.store_departures.specs.Order.{beginOf, order, chain, waiting}
 use Rattle.store_departures.specs.Parts.{chain-part, begin-next, chain-length, order-length, leaving-few}
 
+-- the first k words are as they were
+pub record Front (k : ℕ) (old new : List ℕ) : Type 0 where
+  pub same : (m : ℕ) → m < k → getD new m 0 ≡ getD old m 0
+
+-- a change at each station itself costs what stands 66 places behind the beginning of its departures
+pub record Priced (w first : List ℕ) : Type 0 where
+  pub price : (c : ℕ) → 1 ≤ c → c ≤ stationCount w → getD first (66 + c) 0 ≡ changePoints w c
+
 -- the departures of station m stand at places first[m] up to first[m + 1] of the chain
 pub record Departures (w chained first : List ℕ) : Type 0 where
   pub chain-long : length chained ≡ 2048
-  pub first-long : length first ≡ 66
+  pub first-long : length first ≡ 131
   pub chain-is : take (length (chain w)) chained ≡ chain w
   pub first-is : (m : ℕ) → m ≤ 65 → getD first m 0 ≡ beginOf (station w) m (order w)
+  pub priced : Priced w first
+
+pub held-first : (w chained first : List ℕ) → Departures w chained first → length first ≡ 131
+held-first w chained first held = held .first-long
+
+pub held-prices : (w chained first : List ℕ) → Departures w chained first → Priced w first
+held-prices w chained first held = held .priced
 
 -- what stands at one of the places of a part is in it
 slice-in : (l : List ℕ) (m b t : ℕ) → b + m < t → t ≤ length l → getD l (b + m) 0 ∈ slice b t l

@@ -13,7 +13,7 @@ use Rattle.store_stops.specs.Stopwise.{station, changePoints, stay, nowhere}
 use Rattle.store_stops.specs.OpenWays.{Open, ByWalk, WalkTo, walked-none, walked-more, open-ways}
 use Rattle.store_departures.specs.Order.{catchBy}
 use Rattle.store_departures.specs.InOrderLaws.{caught-there}
-use Rattle.store_departures.specs.Held.{goes-few}
+use Rattle.store_departures.specs.Held.{Departures, goes-few}
 use Rattle.store_frontier.specs.Bounding.{
   caughtBound,
   caught-some,
@@ -64,21 +64,24 @@ module _ (w : List ℕ) (yes : isTimetable w ≡ true) where
     pub station-listed : station w j ≤ stationCount w → s .station ≤ stationCount w
     station-listed h = rw is-s h
 
-    module _ (first : List ℕ) (f : ℕ) (is-f : f ≡ getD first j 0)
-        (is-first : getD first j 0 ≡ catchBy w (stay w (station w j)) j) where
+    module _ (caught : List ℕ) (f : ℕ) (is-f : f ≡ getD caught j 0)
+        (is-caught : getD caught j 0 ≡ catchBy w (stay w (station w j)) j) where
       pub here-inside : (q : List ℕ) → length q ≡ 2048 → (f < nowhere) → f < length q
       here-inside q long h =
-          let e = is-f ∙ is-first in
+          let e = is-f ∙ is-caught in
           rw e (caught-few (stay w (station w j)) j q long (rw e at h))
 
-      pub onto-bounds : (q : List ℕ) (x here walks r : ℕ) → 1 ≤ station w j → station w j ≤ stationCount w
-          → x ≡ changePoints w (s .station) → here ≡ caughtBound q f x
+      pub onto-bounds : (chain first : List ℕ) → Departures w chain first → (q : List ℕ) (x here walks r : ℕ)
+          → 1 ≤ station w j → station w j ≤ stationCount w
+          → x ≡ getD first (66 + s .station) 0 → here ≡ caughtBound q f x
           → Bounding w q j (WalkTo w (s .station) (walksTo w (s .station))) walks → r ≡ max here walks
           → Bounding w q j (Open w j) r
-      onto-bounds q x here walks r some few costs is-here onto is-r =
+      onto-bounds chain first held q x here walks r some few price is-here onto is-r =
+          let costs : x ≡ changePoints w (s .station) =
+          price ∙ held .priced .price (s .station) (station-some some) (station-listed few) in
           let at : Bounding w q j (λ way. way ≡ stay w (station w j)) here =
           subst (Bounding w q j (λ way. way ≡ stay w (station w j)))
-          (sym (is-here ∙ rw (costs, is-s, is-f, is-first)))
+          (sym (is-here ∙ rw (costs, is-s, is-f, is-caught)))
           (bounding-one w q j (stay w (station w j))) in
           let walked : Bounding w q j (WalkTo w (station w j) (walksTo w (station w j))) walks =
           (rw is-s at onto) in

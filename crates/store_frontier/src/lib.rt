@@ -337,7 +337,7 @@ fn onto_bound(
 {
     let c = timetable::stop_at(words, j).station as usize;
     let f = words::word(catch, j) as usize;
-    let here = caught_bound(q, f, store_points::of_change(words, c));
+    let here = caught_bound(q, f, store_departures::change_points(first, c));
     query_minutes::larger(here, walks_bound(words, chain, first, q, c, j))
 }
 

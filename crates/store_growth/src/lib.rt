@@ -21,7 +21,11 @@ const SLOTS: usize = 320;
 // Stations count from 1, 64 at most, and the departures of each end where those of the next one begin.
 const BEGINS: usize = 66;
 
-// Writes the departures by minute and by station, and what each arrival catches. Returns how many departures there are.
+// Behind where departures begin stands for each station what a change there costs.
+const BY_STATION: usize = BEGINS + 65;
+
+// Writes the departures by minute and by station, what changes cost there, and what each arrival catches. Returns how
+// many departures there are.
 fn list_departures(
     words: &[u16],
     work: &mut [u32],
@@ -35,7 +39,7 @@ fn list_departures(
         × (length (now work) ≡ 16384)
         × (length (now order) ≡ 2048)
         × (length (now chain) ≡ 2048)
-        × (length (now first) ≡ 66)
+        × (length (now first) ≡ 131)
         × (length (now catch) ≡ 2048) ⌝ }
     ensures { λ r. ⌜ Routes (now (words .entry)) (now (order .exit)) r (now (catch .exit))
         × Departures (now (words .entry)) (now (chain .exit)) (now (first .exit)) ⌝ }
@@ -43,6 +47,7 @@ fn list_departures(
     let n = store_departures::order_departures(words, work, order);
     store_departures::chain_departures(words, order, n, chain, first);
     store_departures::find_catches(words, chain, first, catch);
+    store_departures::price_changes(words, first);
     n
 }
 
@@ -158,7 +163,7 @@ pub fn make_tree(words: &[u16], source: usize, work: &mut [u32], targets: &mut [
 {
     let mut order = [0u16; STOPS_MOST];
     let mut chain = [0u16; STOPS_MOST];
-    let mut first = [0u32; BEGINS];
+    let mut first = [0u32; BY_STATION];
     let mut catch = [0u16; STOPS_MOST];
     let count = list_departures(words, work, &mut order, &mut chain, &mut first, &mut catch);
     grow_tree(

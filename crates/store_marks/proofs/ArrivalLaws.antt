@@ -10,17 +10,18 @@ use lib.Dec.{ltb}
 use lib.ListN.{length, getD}
 use Rattle.lists.specs.Lists.{range}
 use Rattle.timetable.specs.Timetable.{Station, Stop, Walk, lastMinute}
-use Rattle.timetable.specs.Words.{stationCount, walksTo, walkCount, walkAt, stationAt, stopAt, isTimetable}
+use Rattle.timetable.specs.Words.{stationCount, walksTo, walkCount, walkAt, stopAt, isTimetable}
 use Rattle.timetable.specs.Access.{stations-few}
 use Rattle.timetable.specs.Walks.{walks-few, walks-rise, good-walk}
+use Rattle.timetable.specs.WalkTo.{stayAt}
 use Rattle.connections.specs.Connections.{onFoot}
-use Rattle.connections.specs.Sound.{Priced}
+use Rattle.connections.specs.Sound.{Priced as PricedWay}
 use Rattle.store_stops.specs.Stopwise.{station, arrive, changePoints, stay}
 use Rattle.store_stops.specs.TimelyLaws.{timely}
 use Rattle.store_stops.specs.Ways.{good-way}
 use Rattle.store_slots.specs.Slots.{hereSlot, walkSlot, walksFrom}
 use Rattle.store_departures.specs.Order.{catchBy, catch}
-use Rattle.store_departures.specs.Held.{goes-few}
+use Rattle.store_departures.specs.Held.{Priced, goes-few}
 use Rattle.store_points.specs.Lowered.{lowered}
 use Rattle.store_marks.specs.Arrays.{raised}
 use Rattle.store_marks.specs.Riding.{visit, offer, staying, raiseTry, raiseAll, endsTry, changeTry}
@@ -31,7 +32,7 @@ use Rattle.store_marks.specs.Held.{Changes, Arrival, Way}
 pub stop-station : (w : List ℕ) (j : ℕ) (s : Stop) → s ≡ stopAt w j → s .station ≡ station w j
 stop-station w j s is = ap (λ (z : Stop). z .station) is
 
-pub own-is : (w : List ℕ) (y : ℕ) (s : Station) → s ≡ stationAt w (y - 1)
+pub own-is : (w : List ℕ) (y : ℕ) (s : Station) → s ≡ stayAt w y
     → record { from = y; to = y; minutes = s .minutes; points = s .points } ≡ staying w y
 own-is w y s is = ap (λ (z : Station). record { from = y; to = y; minutes = z .minutes; points = z .points }) is
 
@@ -81,12 +82,18 @@ module _ (w : List ℕ) (ok : isTimetable w ≡ true) where
       pub kid-room : (flags : List ℕ) → length flags ≡ 320 → b - 1 < length flags
       kid-room flags long = omega (arith, arrival-some, arrival-low)
 
-      pub own-fits : (y cost : ℕ) → y < 4000000 → cost ≡ changePoints w b → y + cost < 2 ^ 32
-      own-fits y cost h is = omega (arith, timely w ok .most b arrival-some arrival-listed)
+      pub own-costs : (first : List ℕ) → Priced w first → (cost : ℕ) → cost ≡ getD first (66 + b) 0
+          → cost ≡ changePoints w b
+      own-costs first priced cost is = is ∙ priced .price b arrival-some arrival-listed
+
+      pub own-fits : (first : List ℕ) → Priced w first → (y cost : ℕ) → y < 4000000 → cost ≡ getD first (66 + b) 0
+          → y + cost < 2 ^ 32
+      own-fits first priced y cost h is =
+          omega (arith, own-costs first priced cost is, timely w ok .most b arrival-some arrival-listed)
 
   -- ---- a way of changing
   module _ (own : Bool) (way : Walk) (held : Way w own way) where
-    good : Priced (stationCount w) (onFoot way)
+    good : PricedWay (stationCount w) (onFoot way)
     good = good-way w ok (onFoot way) (held .listed)
 
     pub way-near : way .to ≤ 64
@@ -137,11 +144,13 @@ arc-tried w allowed old new j b y bound at says e =
 
 module _ (w q old new : List ℕ) (j y : ℕ) where
   pub own-tried : isTimetable w ≡ true → Arrival w j → (caught : List ℕ) → Changes w caught → (b : ℕ)
-      → b ≡ station w j → (cost sum f bound : ℕ) → cost ≡ changePoints w b → sum ≡ y + cost → f ≡ getD caught j 0
+      → b ≡ station w j → (first : List ℕ) → Priced w first → (cost sum f bound : ℕ)
+      → cost ≡ getD first (66 + b) 0 → sum ≡ y + cost → f ≡ getD caught j 0
       → bound ≡ getD q f 0 → new ≡ raised (ltb sum bound) (b - 1) old
       → new ≡ raiseTry (changeTry w q (visit j y) (stay w (station w j)) (hereSlot (station w j))) old
   unfolding raiseTry changeTry
-  own-tried ok a caught changes b at cost sum f bound costs adds is says e =
+  own-tried ok a caught changes b at first priced cost sum f bound price adds is says e =
+      let costs = own-costs w ok j a b at first priced cost price in
       e
       ∙ ap (λ z. raised (ltb sum z) (b - 1) old)
       (says ∙ ap (λ k. getD q k 0) (is ∙ caught-stay w ok j a caught changes))

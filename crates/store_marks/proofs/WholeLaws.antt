@@ -4,11 +4,10 @@ use mathlib.Core.Path.{_≡_, sym, ap, subst, _∙_}
 use mathlib.Core.Bool.{Bool, true, false, false≢true}
 use mathlib.Core.Logic.{_≢_}
 use mathlib.Core.List.{List, [], _∷_, _++_}
-use Prim.Native.Nat.{ℕ, suc, _+_, _-_, _≤_, _<_}
+use Prim.Native.Nat.{ℕ, suc, _+_, _-_, _^_, _≤_, _<_}
 use native.Mathlib.Numerals.{add-one}
 use native.Mathlib.Omega.{arith}
-use borrow.Author.Tests.{lt-ltb, le-ltb, eq-eqb, ne-eqb, eqb-true}
-use lib.Dec.{eqb}
+use borrow.Author.Tests.{lt-ltb, le-ltb, eq-eqb, ne-eqb}
 use lib.ListN.{length, getD}
 use lib.Seq.{slice, slice-cons, slice-empty}
 use Rattle.lists.specs.Lists.{_∈_}
@@ -29,8 +28,7 @@ use Rattle.store_marks.specs.Arrays.{fill, fall}
 use Rattle.store_marks.specs.Riding.{Visit, boarding, boardings, run, offer, rides, ridesBy, stepped}
 use Rattle.store_marks.specs.Riding.{staying, stays, foots, flagArc, flagKids}
 use Rattle.store_marks.specs.Held.{Way}
-use Rattle.store_marks.specs.Ways.{leadsTo, Sought, NotBefore, RidesBetween, nor-this, sought-none}
-use Rattle.store_marks.specs.Ways.{sought-here, between}
+use Rattle.store_marks.specs.Ways.{RidesBetween, between}
 use Rattle.store_marks.specs.Stepping.{pair, pair-same, Leads, Steps, Stepped, run-append}
 use Rattle.store_marks.specs.Stepping.{step-labelled, step-kept}
 use Rattle.store_marks.specs.Marking.{Marked, Slotted, ArcsMarked, KidsMarked, arcs-marked, kids-marked}
@@ -151,8 +149,8 @@ module _ (w : List ℕ) (ok : isTimetable w ≡ true) where
     pub station-low : y ≤ 64
     station-low = omega (arith, stations-few w ok)
 
-    pub station-before : y - 1 ≤ 64
-    station-before = omega (arith, station-low)
+    pub station-fits : y < 2 ^ 32
+    station-fits = omega (arith, station-low)
 
     module _ (k end : ℕ) (is : end ≡ walksTo w y) (inside : k < end) where
       walk-listed : k < walksTo w (stationCount w)
@@ -168,13 +166,6 @@ module _ (w : List ℕ) (ok : isTimetable w ≡ true) where
             stays = λ e. absurd (false≢true e);
           }
 
-    pub walks-begin : (k end : ℕ) → k ≡ walksTo w (y - 1) → end ≡ walksTo w y → k ≤ end
-    walks-begin k end from to = omega (arith, walks-rise w ok (y - 1) y (omega arith) listed)
-
-pub walk-leads : (w : List ℕ) (k e : ℕ) (v : Walk) → v ≡ walkAt w k → eqb (v .to) e ≡ leadsTo w k e
-unfolding leadsTo
-walk-leads w k e v is = ap (λ (z : Walk). eqb (z .to) e) is
-
 -- word 0 has the number of stations
 module _ (w : List ℕ) (n : ℕ) (is : n ≡ getD w 0 0) where
   pub count-low : isTimetable w ≡ true → n ≤ 64
@@ -182,25 +173,6 @@ module _ (w : List ℕ) (n : ℕ) (is : n ≡ getD w 0 0) where
 
   pub all-walks : (r : ℕ) → r ≡ walksTo w n → r ≡ walkCount w
   all-walks r e = e ∙ ap (walksTo w) is
-
--- the walk between two stations is looked for
-module _ (w : List ℕ) (y e k : ℕ) (b : Bool) (leads : b ≡ leadsTo w k e) (so-far : NotBefore w y e k) where
-  pub nor-next : b ≡ false → NotBefore w y e (k + 1)
-  unfolding leadsTo
-  nor-next is = nor-this w y e k so-far (λ q. false≢true (sym is ∙ leads ∙ eq-eqb ((walkAt w k) .to) e q))
-
-  pub found-here : isTimetable w ≡ true → 1 ≤ y → y ≤ stationCount w → (end : ℕ) → end ≡ walksTo w y
-      → walksTo w (y - 1) ≤ k → k < end → b ≡ true → Sought w y e k
-  unfolding leadsTo
-  found-here ok some listed end is begun inside passes =
-      sought-here w y e ok some listed k so-far begun (omega arith)
-      (eqb-true ((walkAt w k) .to) e (sym leads ∙ passes))
-
-pub found-none : (w : List ℕ) → isTimetable w ≡ true → (y e : ℕ) → 1 ≤ y → y ≤ stationCount w → (k end : ℕ)
-    → end ≡ walksTo w y → walksTo w (y - 1) ≤ k → k ≤ end → end ≤ k → NotBefore w y e k → Sought w y e end
-found-none w ok y e some listed k end is begun inside past so-far =
-    let same : k ≡ end = omega arith in
-    subst (Sought w y e) same (sought-none w y e ok some listed k (same ∙ is) so-far begun)
 
 module _ (w : List ℕ) (c y : ℕ) (x : List ℕ) where
   pub own-rides : (e : ℕ) (way : Walk) (x′ : List ℕ) → y ≡ e → way ≡ staying w y
@@ -256,7 +228,7 @@ module _
 
     pub steps : Steps w c (pair y e) x₀ x₃
     steps =
-        let ways-are = between w y e ok (leads .first) (leads .last) (ridden .k) (ridden .sought) in
+        let ways-are = between w ok y e (leads .first) (leads .last) (ridden .k) (ridden .sought) in
         record {
           next = λ a d rev there-c labels.
               subst (Labelled w a d (pair y e ∷ rev) e) (sym is-stepped)

@@ -14,7 +14,7 @@ ghost use Rattle.store_stops.specs.Stopwise.{station, stay, unreached, Goes};
 ghost use Rattle.store_stops.specs.Paid.{Labelled};
 ghost use Rattle.store_slots.specs.Slots.{hereSlot, walkSlot, walksFrom};
 ghost use Rattle.store_departures.specs.Order.{waiting, catchBy};
-ghost use Rattle.store_departures.specs.Held.{Departures};
+ghost use Rattle.store_departures.specs.Held.{Priced, Departures};
 ghost use Rattle.store_marks.specs.Arrays.{fill, fall, raised};
 ghost use Rattle.store_marks.specs.Riding.{
   comesBack,
@@ -39,7 +39,7 @@ ghost use Rattle.store_marks.specs.Riding.{
   flagKids,
 };
 ghost use Rattle.store_marks.specs.Held.{Changes, Inside, Arrival, Way};
-ghost use Rattle.store_marks.specs.Ways.{leadsTo, Sought, RidesBetween};
+ghost use Rattle.store_marks.specs.Ways.{RidesBetween};
 ghost use Rattle.store_marks.specs.Stepping.{pair, Leads, Steps, Stepped};
 ghost use Rattle.store_marks.specs.Marking.{ArcsMarked, KidsMarked};
 ghost use Rattle.store_marks.specs.Paths.{Onward, changed, reached, Path};
@@ -114,10 +114,11 @@ fn clear(chain: &[u16], begin: usize, end: usize, x: &mut [u32])
 
 // The change at station y itself.
 fn own_way(words: &[u16], y: usize) -> Walk
-    requires { ⌜ (16384 ≤ length (now words)) × (1 ≤ y) × (y ≤ 64) ⌝ }
+    requires { ⌜ (16384 ≤ length (now words)) × (isTimetable (now words) ≡ true) ⌝ }
+    requires { ⌜ (1 ≤ y) × (y ≤ stationCount (now words)) ⌝ }
     ensures { λ r. ⌜ r ≡ staying (now (words .entry)) y ⌝ }
 {
-    let s = timetable::station_at(words, y - 1);
+    let s = timetable::stay_at(words, y);
     Walk {
         from: y as u32,
         to: y as u32,
@@ -373,31 +374,6 @@ fn ride_own(
     }
 }
 
-// Whether walk k leads to station e.
-fn leads_to(words: &[u16], k: usize, e: usize) -> bool
-    requires { ⌜ (16384 ≤ length (now words)) × (isTimetable (now words) ≡ true) × (k < 256) ⌝ }
-    ensures { λ r. ⌜ r ≡ leadsTo (now (words .entry)) k e ⌝ }
-{
-    timetable::walk_at(words, k).to as usize == e
-}
-
-// The walk from station y to station e; the number of walks from stations up to y if there is none.
-fn walk_between(words: &[u16], y: usize, e: usize) -> usize
-    requires { ⌜ (16384 ≤ length (now words)) × (isTimetable (now words) ≡ true) ⌝ }
-    requires { ⌜ (1 ≤ y) × (y ≤ stationCount (now words)) ⌝ }
-    ensures { λ r. ⌜ Sought (now (words .entry)) y e r ⌝ }
-{
-    let end = timetable::walks_to(words, y);
-    let mut k = timetable::walks_to(words, y - 1);
-    while k < end {
-        if leads_to(words, k, e) {
-            return k;
-        }
-        k += 1;
-    }
-    end
-}
-
 // All who board at station c and change by walk k, if it is one of those from station y.
 fn ride_walk(
     words: &[u16],
@@ -449,7 +425,7 @@ fn ride_ways(
     ensures { λ _. ⌜ RidesBetween (now (words .entry)) c y e (now (x .entry)) (now (x .exit)) ⌝ }
     ensures { λ _. ⌜ length (now (x .exit)) ≡ 2048 ⌝ }
 {
-    let k = walk_between(words, y, e);
+    let k = timetable::walk_to(words, y, e);
     ride_own(words, chain, first, catch, c, y, e, x);
     ride_walk(words, chain, first, catch, c, y, k, x);
 }
@@ -595,9 +571,22 @@ fn peek(q: &[u32], f: usize) -> Points
 }
 
 // One who arrives at stop j, at station b, having paid y, changes at the station itself.
-fn mark_own(words: &[u16], catch: &[u16], q: &[u32], b: usize, j: usize, y: Points, kids: &mut [u8])
-    requires { ⌜ (16384 ≤ length (now words)) × (isTimetable (now words) ≡ true) ⌝ }
-    requires { ⌜ Changes (now words) (now catch) × Arrival (now words) j × (b ≡ station (now words) j) ⌝ }
+fn mark_own(
+    words: &[u16],
+    first: &[u32],
+    catch: &[u16],
+    q: &[u32],
+    b: usize,
+    j: usize,
+    y: Points,
+    kids: &mut [u8],
+)
+    requires { ⌜ (isTimetable (now words) ≡ true)
+        × (length (now first) ≡ 131)
+        × Priced (now words) (now first)
+        × Changes (now words) (now catch)
+        × Arrival (now words) j
+        × (b ≡ station (now words) j) ⌝ }
     requires { ⌜ (y .0 < 4000000) × (length (now kids) ≡ 320) ⌝ }
     ensures { λ _. ⌜ now (kids .exit)
         ≡ raiseTry (changeTry (now (words .entry)) (now (q .entry)) (visit j (y .0))
@@ -605,7 +594,7 @@ fn mark_own(words: &[u16], catch: &[u16], q: &[u32], b: usize, j: usize, y: Poin
         (now (kids .entry)) ⌝ }
     ensures { λ _. ⌜ length (now (kids .exit)) ≡ length (now (kids .entry)) ⌝ }
 {
-    let paid = query_minutes::sum(y, store_points::of_change(words, b));
+    let paid = query_minutes::sum(y, store_departures::change_points(first, b));
     raise(kids, b - 1, paid, peek(q, words::word(catch, j) as usize));
 }
 
@@ -683,7 +672,7 @@ fn mark_changes(
         ≡ flagKids (now (words .entry)) (now (q .entry)) (visit j (y .0)) (now (kids .entry)) ⌝ }
     ensures { λ _. ⌜ length (now (kids .exit)) ≡ 320 ⌝ }
 {
-    mark_own(words, catch, q, b, j, y, kids);
+    mark_own(words, first, catch, q, b, j, y, kids);
     if walks != 0 {
         mark_walks(words, chain, first, q, b, j, y, kids);
     }

@@ -18,7 +18,7 @@ use Rattle.store_departures.specs.Order.{beginOf, order, chain, arrivals, stati
 use Rattle.store_departures.specs.Keys.{Begins}
 use Rattle.store_departures.specs.Legs.{byArrival}
 use Rattle.store_departures.specs.Catches.{Caught}
-use Rattle.store_departures.specs.Held.{Departures}
+use Rattle.store_departures.specs.Held.{Priced, Front, Departures}
 use Rattle.store_departures.specs.InOrderLaws.{in-order}
 use Rattle.store_departures.specs.Parts.{
   begin-next,
@@ -83,13 +83,15 @@ module _ (w listed : List ℕ) (n : ℕ) (caught : List ℕ) (r : Routes w liste
 
 -- ---- the departures by station
 pub departures-of : (w chained first old : List ℕ) → chained ≡ put 0 (chain w) old → length chained ≡ 2048
-    → Begins (station w) 65 (order w) first → length first ≡ 66 → Departures w chained first
-departures-of w chained first old is long begins long-first =
+    → (begun : List ℕ) → Begins (station w) 65 (order w) begun → Front 66 begun first → Priced w first
+    → length first ≡ 131 → Departures w chained first
+departures-of w chained first old is long begun begins front priced long-first =
     record {
       chain-long = long;
       first-long = long-first;
       chain-is = chain-front w chained old is;
-      first-is = begins .begin;
+      first-is = λ m h. front .same m (omega arith) ∙ begins .begin m h;
+      priced = priced;
     }
 
 -- ---- where the parts of a list by key begin and end

@@ -12,6 +12,7 @@ use Rattle.connections.specs.Connections.{onFoot}
 use Rattle.store_stops.specs.Stopwise.{station, changePoints, stay, unreached}
 use Rattle.store_stops.specs.OpenWays.{Open, ByWalk, WalkTo, walked-none, walked-more, open-ways, walk-cheap}
 use Rattle.store_departures.specs.Order.{catchBy}
+use Rattle.store_departures.specs.Held.{Departures}
 use Rattle.store_points.specs.Lowered.{lowered}
 use Rattle.store_penalties.specs.Offering.{Offering, offering-none, offering-one, offering-as, offering-both}
 
@@ -46,16 +47,17 @@ module _ (w : List ℕ) (c j u : ℕ) where
       let e : k ≡ walksTo w c = omega arith in subst (λ m. Offering w j u (WalkTo w c m) q q′) e
 
   -- and at the station itself
-  pub change-fits : (x : ℕ) → u ≤ unreached → x ≡ changePoints w c → changePoints w c ≤ 1000 → u + x < 2 ^ 32
-  change-fits x h e cheap = omega arith
+  module _ (chain first : List ℕ) (held : Departures w chain first) (some : 1 ≤ c) (few : c ≤ stationCount w) where
+    pub change-fits : (x : ℕ) → u ≤ unreached → x ≡ getD first (66 + c) 0 → changePoints w c ≤ 1000 → u + x < 2 ^ 32
+    change-fits x h e cheap = omega (arith, held .priced .price c some few)
 
-  pub all-open : (caught : List ℕ) (f x sum : ℕ) (q q′ q″ : List ℕ) → isTimetable w ≡ true → 1 ≤ c
-      → c ≤ stationCount w → station w j ≡ c → getD caught j 0 ≡ catchBy w (stay w c) j → f ≡ getD caught j 0
-      → x ≡ changePoints w c → sum ≡ u + x → q′ ≡ lowered f sum q
-      → Offering w j u (WalkTo w c (walksTo w c)) q′ q″ → Offering w j u (Open w j) q q″
-  all-open caught f x sum q q′ q″ accepted some few here catches reads costs adds lowers walks =
-      offering-both w j u (λ way. way ≡ stay w c) (WalkTo w c (walksTo w c)) q q′ q″
-      (offering-one w j u (stay w c) q q′ (rw (lowers, adds, costs, reads, catches)))
-      walks
-      (Open w j)
-      (open-ways w c accepted some few j here)
+    pub all-open : (caught : List ℕ) (f x sum : ℕ) (q q′ q″ : List ℕ) → isTimetable w ≡ true → station w j ≡ c
+        → getD caught j 0 ≡ catchBy w (stay w c) j → f ≡ getD caught j 0 → x ≡ getD first (66 + c) 0 → sum ≡ u + x
+        → q′ ≡ lowered f sum q → Offering w j u (WalkTo w c (walksTo w c)) q′ q″ → Offering w j u (Open w j) q q″
+    all-open caught f x sum q q′ q″ accepted here catches reads price adds lowers walks =
+        let costs = price ∙ held .priced .price c some few in
+        offering-both w j u (λ way. way ≡ stay w c) (WalkTo w c (walksTo w c)) q q′ q″
+        (offering-one w j u (stay w c) q q′ (rw (lowers, adds, costs, reads, catches)))
+        walks
+        (Open w j)
+        (open-ways w c accepted some few j here)

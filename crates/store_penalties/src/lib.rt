@@ -173,7 +173,7 @@ fn change(
     store_points::lower(
         q,
         f,
-        query_minutes::sum(u, store_points::of_change(words, c)),
+        query_minutes::sum(u, store_departures::change_points(first, c)),
     );
     walk_all(words, chain, first, c, j, u, q);
 }

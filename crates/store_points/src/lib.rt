@@ -1,9 +1,8 @@
-// The penalty points that the store call reads from a timetable: those of a ride and of a change; and the points of a
+// The penalty points that the store call reads from a timetable: those of a ride and of a walk; and the points of a
 // stop that is not reached. To read points from arrays, compare, add up and write them is for `query_minutes`.
 ghost use mathlib.Core.Path.{_≡_};
 ghost use Prim.Native.Nat.{_+_, _≤_, _<_, _^_};
 ghost use lib.ListN.{length};
-ghost use Rattle.store_stops.specs.Stopwise.{changePoints};
 ghost use Rattle.store_points.specs.Lowered.{lowered};
 use results::Points;
 use timetable::Stop;
@@ -36,14 +35,6 @@ pub fn after_ride(paid: Points, stop: Stop) -> Points
     ensures { λ r. ⌜ r .0 ≡ paid .0 + stop .points ⌝ }
 {
     query_minutes::sum(paid, of_ride(stop))
-}
-
-// What a change costs at station c itself.
-pub fn of_change(words: &[u16], c: usize) -> Points
-    requires { ⌜ (16384 ≤ length (now words)) × (1 ≤ c) × (c ≤ 64) ⌝ }
-    ensures { λ r. ⌜ r .0 ≡ changePoints (now (words .entry)) c ⌝ }
-{
-    Points(timetable::station_at(words, c - 1).points)
 }
 
 // What a change on foot costs.

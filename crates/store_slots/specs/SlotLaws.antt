@@ -461,7 +461,7 @@ module _ (w : List ℕ) (yes : isTimetable w ≡ true) where
             f
             (suc (r .0))
             (omega arith)
-            (omega (arith, r .1, length-stations w))
+            (omega (arith, r .1 .inside, length-stations w))
             (sym (ap (λ c. c .from) (r .2)))
             (sym (ap (λ c. c .to) (r .2)))
         | inr r ↦

@@ -1,6 +1,6 @@
 -- The slots of a timetable: a number below 320 for each pair of stations that a change can name. A change at station y
 -- itself has slot y - 1, walk k slot 64 + k, but a walk from a station to itself has the slot of that station, since
--- both ways have one pattern.
+-- both have one pattern.
 use mathlib.Core.Bool.{cond}
 use mathlib.Core.List.{List, _∷_, _++_, map}
 use Prim.Native.Nat.{ℕ, suc, _+_, _-_}

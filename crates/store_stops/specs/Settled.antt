@@ -67,9 +67,7 @@ pub record Timely (w : List ℕ) : Type 0 where
   pub listed : (i : ℕ) → Goes w i → station w i ≤ stationCount w
   pub next-first : (i : ℕ) → Goes w i → 1 ≤ station w (suc i)
   pub next-listed : (i : ℕ) → Goes w i → station w (suc i) ≤ stationCount w
-  pub some : (c : ℕ) → 1 ≤ c → c ≤ stationCount w → 1 ≤ changePoints w c
   pub most : (c : ℕ) → 1 ≤ c → c ≤ stationCount w → changePoints w c ≤ 1000
-  pub way-some : (way : Change) → way ∈ waysOf w → 1 ≤ way .points
   pub way-most : (way : Change) → way ∈ waysOf w → way .points ≤ 1000
   -- behind a stop that is left again, a stop is left again exactly if it has a departure
   pub goes-on : (i : ℕ) → Goes w i → 1 ≤ depart w (suc i) → Goes w (suc i)

@@ -2,9 +2,10 @@
 -- left again is the next one.
 use mathlib.Core.Path.{_≡_}
 use mathlib.Core.List.{List}
-use Prim.Native.Nat.{ℕ, zero, suc, _+_, _-_, _≤_, _<_}
+use Prim.Native.Nat.{ℕ, zero, suc, _+_, _≤_, _<_}
 use lib.Dec.{T}
-use Rattle.timetable.specs.Words.{tripCount, stationAt, stopAt, startAt, timetableOf}
+use Rattle.timetable.specs.Words.{tripCount, stopAt, startAt, timetableOf}
+use Rattle.timetable.specs.WalkTo.{stayAt}
 use Rattle.lists.specs.Lists.{_∈_}
 use Rattle.connections.specs.Rides.{mayBoard, mayAlight}
 use Rattle.connections.specs.Connections.{Change, changesOf}
@@ -33,10 +34,10 @@ module _ (w : List ℕ) where
 
   -- what a change at station c itself, counted from 1, takes and costs
   abbrev pub changeMinutes : ℕ → ℕ
-  changeMinutes c = (stationAt w (c - 1)) .minutes
+  changeMinutes c = (stayAt w c) .minutes
 
   abbrev pub changePoints : ℕ → ℕ
-  changePoints c = (stationAt w (c - 1)) .points
+  changePoints c = (stayAt w c) .points
 
   -- the change at station c itself
   abbrev pub stay : (c : ℕ) → Change

@@ -8,19 +8,18 @@ use native.Mathlib.Omega.{arith}
 use lib.Dec.{T}
 use lib.ListN.{length, getD}
 use Rattle.lists.specs.Tests.{T-left, T-right, reads}
-use Rattle.timetable.specs.Timetable.{Stop, Trip, Station, lastMinute, validStation, listed, leaves, ends}
+use Rattle.timetable.specs.Timetable.{Stop, Trip, lastMinute, listed, leaves, ends}
 use Rattle.timetable.specs.Timetable.{follows, runs, validTrip, valid}
-use Rattle.timetable.specs.Words.{stationCount, tripCount, stopCount, stationAt, stopAt, startAt, tripAt, timetableOf}
+use Rattle.timetable.specs.Words.{stationCount, tripCount, stopCount, stopAt, startAt, tripAt, timetableOf}
 use Rattle.timetable.specs.Words.{isTimetable}
 use Rattle.timetable.specs.Check.{length-stations, length-trips}
-use Rattle.timetable.specs.Access.{station-is, trip-is, trip-long, stop-is, spelled-valid, start-most, trip-stops}
+use Rattle.timetable.specs.Access.{trip-is, trip-long, stop-is, spelled-valid, start-most, trip-stops}
 use Rattle.timetable.specs.Access.{stops-few}
 use Rattle.connections.specs.Rides.{noStop}
-use Rattle.connections.specs.Connections.{noStation}
-use Rattle.connections.specs.Sound.{valid-trip, valid-station, trips-valid, stations-valid}
-use Rattle.store_stops.specs.Stopwise.{arrive, depart, Goes}
+use Rattle.connections.specs.Sound.{valid-trip, trips-valid}
+use Rattle.store_stops.specs.Stopwise.{arrive, depart, stay, Goes}
 use Rattle.store_stops.specs.Settled.{Timely}
-use Rattle.store_stops.specs.Ways.{good-way}
+use Rattle.store_stops.specs.Ways.{stay-way, good-way}
 
 -- ---- two stops of a trip, one behind the other
 record Leg (n : ℕ) (b s : Stop) : Type 0 where
@@ -119,14 +118,6 @@ module _ (n : ℕ) where
   trip-ends [] t p h = absurd t
   trip-ends (b ∷ l) t p h = ends-at n b l (search T-right) p (omega arith)
 
-record Price (s : Station) : Type 0 where
-  some : 1 ≤ s .points
-  most : s .points ≤ 1000
-
-price : (s : Station) → T (validStation s) → Price s
-unfolding validStation
-price s t = record { some = search reads; most = search reads }
-
 -- ---- words with a yes
 module _ (w : List ℕ) (yes : isTimetable w ≡ true) where
   is-valid : T (valid (timetableOf w))
@@ -223,13 +214,6 @@ module _ (w : List ℕ) (yes : isTimetable w ≡ true) where
     few : suc i < stopCount w
     few = omega (arith, g .inside, start-most w yes (z + 1) (omega (arith, g .listed)))
 
-  price-here : (c : ℕ) → 1 ≤ c → c ≤ stationCount w → Price (stationAt w (c - 1))
-  price-here c h k =
-      let s = (timetableOf w) .stations in
-      let long : c - 1 < length s = omega (arith, length-stations w) in
-      let one = valid-station s (stations-valid (timetableOf w) is-valid) (c - 1) long in
-      price (stationAt w (c - 1)) (rw (station-is w (c - 1) noStation (omega arith)) at one)
-
   pub timely : Timely w
   timely =
       record {
@@ -244,9 +228,7 @@ module _ (w : List ℕ) (yes : isTimetable w ≡ true) where
         listed = λ i g. leg-here i g .last;
         next-first = λ i g. leg-here i g .next-first;
         next-listed = λ i g. leg-here i g .next-last;
-        some = λ c h k. price-here c h k .some;
-        most = λ c h k. price-here c h k .most;
-        way-some = λ way m. good-way w yes way m .points-least;
+        most = λ c h k. good-way w yes (stay w c) (stay-way w yes c h k) .points-most;
         way-most = λ way m. good-way w yes way m .points-most;
         goes-on = goes-on;
         ends = λ i g h. omega (arith, leg-here i g .forward, waits-here i g (same-trip i g h));

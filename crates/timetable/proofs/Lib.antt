@@ -4,3 +4,4 @@ pub mod CheckLaws
 pub mod DecideLaws
 pub mod WriteLaws
 pub mod CopyLaws
+pub mod WalkToLaws

@@ -5,6 +5,7 @@ pub mod WordLaws
 pub mod Check
 pub mod Access
 pub mod Walks
+pub mod WalkTo
 pub mod Parts
 pub mod Changes
 pub mod Worked

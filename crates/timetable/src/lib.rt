@@ -1,7 +1,7 @@
 // The abstract timetable, the words that hold it, and question 9: can a text and changes after it lead to these words?
 ghost use mathlib.Core.Path.{_≡_};
 ghost use Prim.Native.Nat.{_+_, _-_, _*_, _≤_, _<_};
-ghost use mathlib.Core.Bool.{cond};
+ghost use mathlib.Core.Bool.{true, cond};
 ghost use mathlib.Core.List.{_++_};
 ghost use lib.Dec.{leb};
 ghost use lib.ListN.{length, take};
@@ -44,6 +44,7 @@ ghost use Rattle.timetable.specs.Words.{
   isTimetable,
   timetableNumber,
 };
+ghost use Rattle.timetable.specs.WalkTo.{walkTo, stayAt};
 ghost use Rattle.timetable.specs.Check.{
   begins,
   passes,
@@ -236,6 +237,47 @@ pub fn walk_at(words: &[u16], k: usize) -> Walk
         to: words::word(words, place + 1),
         minutes: words::word(words, place + 2),
         points: words::word(words, place + 3),
+    }
+}
+
+// The place of the walk from station y to station x among all walks; the one past those from y if there is none.
+pub fn walk_to(words: &[u16], y: usize, x: usize) -> usize
+    requires { ⌜ (16384 ≤ length (now words))
+        × (isTimetable (now words) ≡ true)
+        × (1 ≤ y)
+        × (y ≤ stationCount (now words)) ⌝ }
+    ensures { λ r. ⌜ r ≡ walkTo (now (words .entry)) y x ⌝ }
+{
+    let end = walks_to(words, y);
+    let mut k = walks_to(words, y - 1);
+    let place = loop {
+        if end <= k {
+            break k;
+        }
+        if walk_at(words, k).to as usize == x {
+            break k;
+        }
+        k += 1;
+    };
+    place
+}
+
+// What a change at station c itself takes and costs: what its walk to itself says, if there is one.
+pub fn stay_at(words: &[u16], c: usize) -> Station
+    requires { ⌜ (16384 ≤ length (now words))
+        × (isTimetable (now words) ≡ true)
+        × (1 ≤ c)
+        × (c ≤ stationCount (now words)) ⌝ }
+    ensures { λ r. ⌜ r ≡ stayAt (now (words .entry)) c ⌝ }
+{
+    let k = walk_to(words, c, c);
+    if walks_to(words, c) <= k {
+        return station_at(words, c - 1);
+    }
+    let walk = walk_at(words, k);
+    Station {
+        minutes: walk.minutes,
+        points: walk.points,
     }
 }
 

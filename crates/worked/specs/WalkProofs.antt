@@ -17,8 +17,9 @@ use Rattle.results.specs.Results.{dominates}
 use Rattle.connections.specs.Rides.{mayBoard, mayAlight, ridePoints, ridesOf}
 use Rattle.connections.specs.Connections.{net, changesOf}
 use Rattle.connections.specs.Planner.{connections, plannerList}
-use Rattle.connections.specs.Worked.{planned, onToThree, platform, roundAtEnd, roundAtStart, sameTrip}
-use Rattle.connections.specs.Worked.{on-foot, both-open, walked-to-target, walked-from-source, boarded-again}
+use Rattle.connections.specs.Worked.{planned, onToThree, platform, alongTwo, roundAtEnd, roundAtStart, sameTrip}
+use Rattle.connections.specs.Worked.{on-foot, walk-alone, changed-rows, walked-to-target, walked-from-source}
+use Rattle.connections.specs.Worked.{boarded-again}
 use Rattle.stores.specs.Stored.{optimals, optimalStations, stored}
 use Rattle.stores.specs.Words.{nodes, arcs, encode, storeWords, readable, wellMade, keptList}
 use Rattle.lines.specs.Lines.{inOrder, lines}
@@ -31,6 +32,7 @@ use Rattle.worked.specs.Walks.{
   textOnFoot,
   onFootWords,
   textPlatform,
+  textAlongTwo,
   textRoundAtEnd,
   textRoundAtStart,
   textSameTrip,
@@ -46,13 +48,17 @@ on-foot-spelled : words onToThree ≡ onFootWords
 unfolding words stationWords stopWords startWords walkWords countTo footWords onToThree
 on-foot-spelled = refl
 
-accepted-24 : reading (textPlatform "00:24") ≡ Accepted (platform 24) 8
+accepted-22 : reading (textPlatform "00:22") ≡ Accepted (platform 22) 8
 unfolding readAll bytes textPlatform platform
-accepted-24 = refl
+accepted-22 = refl
 
 accepted-25 : reading (textPlatform "00:25") ≡ Accepted (platform 25) 8
 unfolding readAll bytes textPlatform platform
 accepted-25 = refl
+
+along-accepted : reading textAlongTwo ≡ Accepted alongTwo 11
+unfolding readAll bytes textAlongTwo alongTwo M variant
+along-accepted = refl
 
 end-accepted : reading textRoundAtEnd ≡ Accepted roundAtEnd 10
 unfolding readAll bytes textRoundAtEnd roundAtEnd
@@ -77,6 +83,13 @@ unfolding platform ridesOf mayBoard mayAlight ridePoints changesOf plannerList c
     stored storeWords encode nodes arcs optimalStations optimals
 platform-stored = refl
 
+along-stored : (storeWords (net alongTwo) 1 ≡ 0 ∷ 2 ∷ 2 ∷ 0 ∷ 3 ∷ 0 ∷ [])
+    × (storeWords (net alongTwo) 2 ≡ 0 ∷ 1 ∷ 3 ∷ 0 ∷ [])
+    × (storeWords (net alongTwo) 3 ≡ 0 ∷ 0 ∷ [])
+unfolding alongTwo M variant ridesOf mayBoard mayAlight ridePoints changesOf plannerList connections dominates
+    stored storeWords encode nodes arcs optimalStations optimals
+along-stored = (refl, refl, refl)
+
 end-stored : storeWords (net roundAtEnd) 1 ≡ 1 ∷ 3 ∷ 2 ∷ 3 ∷ 0 ∷ 2 ∷ 0 ∷ 3 ∷ 1 ∷ 4 ∷ 1 ∷ []
 unfolding roundAtEnd ridesOf mayBoard mayAlight ridePoints changesOf plannerList connections dominates
     stored storeWords encode nodes arcs optimalStations optimals
@@ -93,13 +106,17 @@ unfolding onToThree lines inOrder
 known-on-foot =
     record { accepted = on-foot-accepted; counted = refl; few-lines = omega arith; few-counted = omega arith }
 
-known-24 : Known (textPlatform "00:24") (platform 24) 8 2
+known-22 : Known (textPlatform "00:22") (platform 22) 8 2
 unfolding platform lines inOrder
-known-24 = record { accepted = accepted-24; counted = refl; few-lines = omega arith; few-counted = omega arith }
+known-22 = record { accepted = accepted-22; counted = refl; few-lines = omega arith; few-counted = omega arith }
 
 known-25 : Known (textPlatform "00:25") (platform 25) 8 2
 unfolding platform lines inOrder
 known-25 = record { accepted = accepted-25; counted = refl; few-lines = omega arith; few-counted = omega arith }
+
+known-along : Known textAlongTwo alongTwo 11 2
+unfolding alongTwo M variant lines inOrder
+known-along = record { accepted = along-accepted; counted = refl; few-lines = omega arith; few-counted = omega arith }
 
 known-end : Known textRoundAtEnd roundAtEnd 10 2
 unfolding roundAtEnd lines inOrder
@@ -140,7 +157,7 @@ module _ (s : Slices) where
 
 -- the theorem
 pub walk-cases : (s : Slices) → WalkCases s
-unfolding onToThree platform roundAtEnd roundAtStart sameTrip
+unfolding onToThree platform alongTwo M variant roundAtEnd roundAtStart sameTrip
 walk-cases s =
     record {
       on-foot-text = read-done s textOnFoot onToThree 9 2 known-on-foot;
@@ -151,13 +168,26 @@ walk-cases s =
           store-known s textOnFoot onToThree 9 2 known-on-foot 1 1 2 _ on-foot-stored
           (omega arith) (omega arith) (omega arith) (omega arith) refl;
       on-foot = asks s textOnFoot onToThree 9 2 4 4 known-on-foot refl refl refl refl _ on-foot;
-      platform-24 =
-          asks s (textPlatform "00:24") (platform 24) 8 2 3 3 known-24 refl refl refl refl _ (both-open .0);
+      platform-22 =
+          asks s (textPlatform "00:22") (platform 22) 8 2 3 3 known-22 refl refl refl refl _ (walk-alone .0);
       platform-25 =
-          asks s (textPlatform "00:25") (platform 25) 8 2 3 3 known-25 refl refl refl refl _ (both-open .1);
+          asks s (textPlatform "00:25") (platform 25) 8 2 3 3 known-25 refl refl refl refl _ (walk-alone .1);
       platform-store =
           store-known s (textPlatform "00:25") (platform 25) 8 2 known-25 1 1 2 _ platform-stored
           (omega arith) (omega arith) (omega arith) (omega arith) refl;
+      along-store-1 =
+          store-known s textAlongTwo alongTwo 11 2 known-along 1 0 2 _ (along-stored .0)
+          (omega arith) (omega arith) (omega arith) (omega arith) refl;
+      along-store-2 =
+          store-known s textAlongTwo alongTwo 11 2 known-along 2 0 1 _ (along-stored .1)
+          (omega arith) (omega arith) (omega arith) (omega arith) refl;
+      along-store-3 =
+          store-known s textAlongTwo alongTwo 11 2 known-along 3 0 0 _ (along-stored .2)
+          (omega arith) (omega arith) (omega arith) (omega arith) refl;
+      along-rows =
+          λ done.
+          rows-known s textAlongTwo alongTwo 11 2 known-along 1 3 470 done
+          (query-known alongTwo 3 1 3 470 refl refl refl refl refl) _ [] (changed-rows .0);
       at-end = asks s textRoundAtEnd roundAtEnd 10 2 4 3 known-end refl refl refl refl _ walked-to-target;
       at-end-store =
           store-known s textRoundAtEnd roundAtEnd 10 2 known-end 1 1 3 _ end-stored

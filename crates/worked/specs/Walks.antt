@@ -1,12 +1,12 @@
--- Document 02, One: walks. The timetables of connections/specs/Worked.antt as texts, and what the calls reply and
--- write. The theorem is `walk-cases` in WalkProofs.antt. For a reader.
+-- Document 02, One and Nine: walks. The timetables of connections/specs/Worked.antt as texts, and what the calls reply
+-- and write. The theorem is `walk-cases` in WalkProofs.antt. For a reader.
 use mathlib.Core.Path.{_≡_}
 use mathlib.Core.List.{List, [], _∷_, _++_}
 use Prim.Native.Nat.{ℕ}
 use Prim.Native.String.{String}
 use lib.ListN.{drop}
 use Rattle.accepted.specs.Cases.{bytes, textM}
-use Rattle.connections.specs.Worked.{twoRides}
+use Rattle.connections.specs.Worked.{oneRide, twoRides}
 use Rattle.worked.specs.Calls.{Slices, returned, read, timetableAfter, Stores, ShowsNone, IllMade, Asks}
 
 unfoldable pub textOnFoot : List ℕ
@@ -36,6 +36,14 @@ textPlatform depart =
     ++ bytes depart
     ++ bytes ",0,0\nT,2,2,3,01:30,,,0\n"
 
+-- timetable M with a walk from station 2 to itself
+unfoldable pub textAlongTwo : List ℕ
+textAlongTwo =
+    bytes "S,1,2,10\nS,2,3,10\nS,3,5,10\nW,2,2,4,15\n"
+    ++ bytes "T,1,1,1,,08:00,0,0\nT,1,2,2,08:20,08:21,0,0\nT,1,3,3,09:20,,,0\n"
+    ++ bytes "T,2,1,2,,08:23,0,0\nT,2,2,3,08:40,,,0\n"
+    ++ bytes "T,3,1,2,,08:22,0,0\nT,3,2,3,08:35,,,0\n"
+
 unfoldable pub textRoundAtEnd : List ℕ
 textRoundAtEnd =
     bytes "S,1,0,1\nS,2,0,1\nS,3,0,1\nS,4,0,1\nW,2,3,2,3\n"
@@ -60,11 +68,17 @@ pub record WalkCases (s : Slices) : Type 0 where
   pub on-foot-words : timetableAfter s textOnFoot ≡ onFootWords ++ drop 45 (s .timetable)
   pub on-foot-store : Stores s textOnFoot 1 (1 ∷ 2 ∷ 2 ∷ 3 ∷ 0 ∷ 2 ∷ 0 ∷ 4 ∷ 1 ∷ [])
   pub on-foot : Asks s textOnFoot 1 4 0 (twoRides 30 9 1 1 2 2 1 2 ∷ [])
-  -- "From and to may be equal, for a long platform, and then both ways of changing are open.": at 24 only the walk is
-  -- in time, at 25 the cheaper change at the station too; a pattern names both ways alike
-  pub platform-24 : Asks s (textPlatform "00:24") 1 3 0 (twoRides 90 70 1 1 2 2 1 2 ∷ [])
-  pub platform-25 : Asks s (textPlatform "00:25") 1 3 0 (twoRides 90 50 1 1 2 2 1 2 ∷ [])
+  -- "such a W line goes first: the S values do not apply to changes there": the walk of 2 minutes is in time at 22; at
+  -- 25 it costs its 70 points still, though the station's change of 5 minutes would cost 50
+  pub platform-22 : Asks s (textPlatform "00:22") 1 3 0 (twoRides 90 70 1 1 2 2 1 2 ∷ [])
+  pub platform-25 : Asks s (textPlatform "00:25") 1 3 0 (twoRides 90 70 1 1 2 2 1 2 ∷ [])
   pub platform-store : Stores s (textPlatform "00:25") 1 (1 ∷ 2 ∷ 2 ∷ 2 ∷ 0 ∷ 2 ∷ 0 ∷ 3 ∷ 1 ∷ [])
+  -- "timetable M with `W,2,2,4,15` added": the walk is over at 504, when both trips to station 3 have left, which at
+  -- first showed a row of two rides; docs/two-rules.md lists all that differs
+  pub along-store-1 : Stores s textAlongTwo 1 (0 ∷ 2 ∷ 2 ∷ 0 ∷ 3 ∷ 0 ∷ [])
+  pub along-store-2 : Stores s textAlongTwo 2 (0 ∷ 1 ∷ 3 ∷ 0 ∷ [])
+  pub along-store-3 : Stores s textAlongTwo 3 (0 ∷ 0 ∷ [])
+  pub along-rows : Asks s textAlongTwo 1 3 470 (oneRide 90 0 1 1 3 ∷ [])
   -- "No walk stands before the first ride or after the last.": who walked to station 3 rides a round from it, and who
   -- walks from station 1 rode a round to it
   pub at-end : Asks s textRoundAtEnd 1 3 0 (twoRides 25 7 1 1 2 2 1 3 ∷ [])

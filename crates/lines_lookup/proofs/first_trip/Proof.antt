@@ -5,7 +5,8 @@ use Prim.Native.Nat.{_≤_, _-_}
 use lib.Dec.{leb}
 use borrow.Author.Needs.{needs}
 use Rattle.lines_lookup.specs.Lookup.{departAt}
-use Rattle.lines_lookup.specs.First.{firstFrom, firstTrip}
+use Rattle.lists.specs.First.{firstFrom}
+use Rattle.lines_lookup.specs.First.{firstTrip}
 use Rattle.lines_lookup.proofs.FirstLaws.{none-left, found, goes-on}
 use Rattle.lines_lookup.proofs.first_trip.Statement.{statement}
 use Rattle.lines_lookup.proofs.first_trip.Tie as tie

@@ -4,7 +4,7 @@ use Prim.Native.Nat.{_≤_, _-_}
 use lib.Dec.{ltb}
 use lib.ListN.{getD}
 use borrow.Author.Needs.{needs}
-use Rattle.lines_lookup.specs.First.{firstFrom}
+use Rattle.lists.specs.First.{firstFrom}
 use Rattle.query_minutes.specs.Minutes.{noPoints}
 use Rattle.query_costs.specs.Layering.{firstValue}
 use Rattle.query_costs.proofs.LowestLaws.{looks-on, none-left, found, goes-on}

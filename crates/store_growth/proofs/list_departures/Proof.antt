@@ -1,5 +1,4 @@
 -- The order of departures, by minute and by station, and the departures caught.
-use native.Mathlib.Omega.{arith}
 use borrow.Author.Needs.{needs}
 use Rattle.store_stops.specs.TimelyLaws.{timely}
 use Rattle.store_minutes.specs.Prepared.{chain-front, order-first, routes, departures-of}
@@ -39,13 +38,11 @@ find-catches-requires c κs = (
   search needs,
 )
 
+price-changes-requires : tie.Need-price-changes-requires
+price-changes-requires c κs = (search needs, search needs, search needs)
+
 returns : tie.Need-returns
-returns c =
-    let chained = c .before .before .before .before .before .before .before .before .before .before in
-    let ordered = chained .before .before .before .before .before .before .before .before in
-    let b = ordered .before .before .before .before .before .before .before .before .before in
-    let e = chained .chain-departures .ensures in
-    (search routes, departures-of _ _ _ _ (e .0) (e .1 .0) (e .1 .1 .0) (omega (arith, e .1 .1 .1, b .pre .5)))
+returns c = (search routes, search departures-of)
 
 pub list-departures-spec : {M : Type 1} → statement M
 list-departures-spec =
@@ -54,6 +51,7 @@ list-departures-spec =
     order-departures-requires
     chain-departures-requires
     find-catches-requires
+    price-changes-requires
     (λ c. search needs)
     (λ c. search needs)
     (λ c. search needs)

@@ -5,14 +5,14 @@ use Rattle.store_marks.proofs.ArrivalLaws.{own-tried}
 use Rattle.store_marks.proofs.mark_own.Statement.{statement}
 use Rattle.store_marks.proofs.mark_own.Tie as tie
 
-of-change-requires : tie.Need-of-change-requires
-of-change-requires c κs = (search needs, search arrival-some, search arrival-low)
+change-points-requires : tie.Need-change-points-requires
+change-points-requires c κs = (search needs, search arrival-low)
 
 pub mark-own-spec : {M : Type 1} → statement M
 mark-own-spec =
     tie.close
     (tie.spec
-    of-change-requires
+    change-points-requires
     (λ c κs. search own-fits)
     (λ c. search arrival-some)
     (λ c κs. search arrival-room)

@@ -1,4 +1,4 @@
--- Both ways of changing, one after the other, are all there are.
+-- The change at the station itself and the walk between the two are all ways there are.
 use borrow.Author.Needs.{needs}
 use Rattle.store_marks.specs.Ways.{rides-between}
 use Rattle.store_marks.proofs.ride_ways.Statement.{statement}

@@ -5,8 +5,8 @@ use Rattle.query_shown.proofs.PatternLaws.{named-first, named-most}
 use Rattle.query_shown.proofs.rests.gather_back.Statement.{statement}
 use Rattle.query_shown.proofs.rests.gather_back.Tie as tie
 
-ways-between-requires : tie.Need-ways-between-requires
-ways-between-requires c κs = (search needs, search needs, search named-first, search named-most)
+way-between-requires : tie.Need-way-between-requires
+way-between-requires c κs = (search needs, search needs, search named-first, search named-most)
 
 returns : tie.Need-returns
 returns c = (search gathered, search needs)
@@ -23,7 +23,7 @@ gather-back-spec =
     (λ c. search needs)
     (λ c. search needs)
     (λ c. search needs)
-    ways-between-requires
+    way-between-requires
     (λ c. search needs)
     (λ c. search needs)
     returns)

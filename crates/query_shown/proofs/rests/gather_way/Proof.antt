@@ -1,4 +1,4 @@
--- A way that is not open leads to no ride.
+-- Where there is no way of changing no ride is noted.
 use borrow.Author.Needs.{needs}
 use Rattle.query_shown.proofs.GatherLaws.{way-shut, way-gathered}
 use Rattle.query_shown.proofs.rests.gather_way.Statement.{statement}
@@ -12,4 +12,11 @@ returns-2 c = (search way-gathered, search needs)
 
 pub gather-way-spec : {M : Type 1} → statement M
 gather-way-spec =
-    tie.close (tie.spec returns (λ c κs. search needs) (λ c κs. search needs) (λ c. search needs) returns-2)
+    tie.close
+    (tie.spec
+    returns
+    (λ c κs. search needs)
+    (λ c κs. search needs)
+    (λ c κs. search needs)
+    (λ c. search needs)
+    returns-2)

@@ -12,14 +12,14 @@ use Rattle.query_shown.proofs.rides.choose.Statement.{statement}
 use Rattle.query_shown.proofs.rides.choose.Tie as tie
 
 abbrev Inv-loop : tie.InvT-loop
-Inv-loop lines from to arrive first ways left z best₀ c₀ best c =
+Inv-loop lines from to arrive first way left z best₀ c₀ best c =
     Good lines c
     × Sized best
-    × (triedAll first (frontPrice first ways arrive) z (left .0) (tellsOf noRide) (nearRead lines from arrive to)
-    ≡ triedAll first (frontPrice first ways arrive) z (left .0) best (nearLeft lines arrive c))
+    × (triedAll first (frontPrice first way arrive) z (left .0) (tellsOf noRide) (nearRead lines from arrive to)
+    ≡ triedAll first (frontPrice first way arrive) z (left .0) best (nearLeft lines arrive c))
 
 abbrev μ-loop : tie.MeasureT-loop
-μ-loop lines from to arrive first ways left z best₀ c₀ best c = length (nearLeft lines arrive c)
+μ-loop lines from to arrive first way left z best₀ c₀ best c = length (nearLeft lines arrive c)
 
 loop-holds : tie.Need-loop-holds Inv-loop μ-loop
 loop-holds c = (search needs, search needs, search choose-begins)

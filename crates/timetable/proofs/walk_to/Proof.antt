@@ -3,20 +3,20 @@ use mathlib.Core.Path.{_≡_}
 use Prim.Native.Nat.{_-_}
 use lib.Dec.{eqb}
 use borrow.Author.Needs.{needs}
+use Rattle.lists.specs.First.{firstFrom}
 use Rattle.timetable.specs.Words.{walkAt}
 use Rattle.timetable.specs.Access.{stations-few, trips-few, stops-few}
-use Rattle.lines_lookup.specs.First.{firstFrom}
-use Rattle.query_rides.specs.Ways.{walkTo}
-use Rattle.query_rides.proofs.WaysLaws.{station-few, before-few, walk-few}
-use Rattle.query_rides.proofs.WaysLaws.{seek-begins, seek-none, seek-here, seek-on}
-use Rattle.query_rides.proofs.seek_walk.Statement.{statement}
-use Rattle.query_rides.proofs.seek_walk.Tie as tie
+use Rattle.timetable.specs.WalkTo.{walkTo}
+use Rattle.timetable.proofs.WalkToLaws.{station-few, before-few, walk-few}
+use Rattle.timetable.proofs.WalkToLaws.{seek-begins, seek-none, seek-here, seek-on}
+use Rattle.timetable.proofs.walk_to.Statement.{statement}
+use Rattle.timetable.proofs.walk_to.Tie as tie
 
 abbrev Inv-loop : tie.InvT-loop
-Inv-loop words from to end k₀ k = walkTo words from to ≡ firstFrom (λ k. eqb (walkAt words k .to) to) k (end - k)
+Inv-loop words y x end k₀ k = walkTo words y x ≡ firstFrom (λ k. eqb (walkAt words k .to) x) k (end - k)
 
 abbrev μ-loop : tie.MeasureT-loop
-μ-loop words from to end k₀ k = end - k
+μ-loop words y x end k₀ k = end - k
 
 walks-to-requires : tie.Need-walks-to-requires Inv-loop μ-loop
 walks-to-requires c κs =
@@ -48,8 +48,8 @@ returns-2 c =
     let so-far = told .before .before .loop .inv in
     seek-here _ _ _ _ _ so-far _ (told .before .if1 .left) (told .walk-at .ensures) (c .if2 .taken)
 
-pub seek-walk-spec : {M : Type 1} → statement M
-seek-walk-spec =
+pub walk-to-spec : {M : Type 1} → statement M
+walk-to-spec =
     tie.close
     (tie.spec
     Inv-loop
