@@ -44,7 +44,7 @@ static const struct command commands[] = {
      "  slower    a departure is struck since one that leaves earlier takes fewer\n"
      "            minutes, from departure to arrival, and costs no more\n"
      "  seated    a connection is struck since a bus on which the rider stays stands\n"
-     "            at a station for less than its change minutes\n"
+     "            at a station for less than a change there takes\n"
      "  quickest  all rows are struck but the quickest\n"},
     {"compare", compare, "planner compare OLD NEW [STATION] [--at hh:mm]..", 2, 3, OPTION_AT,
      "The sequences that the new timetable loses and gains, for STATION or for all.\n"

@@ -14,7 +14,7 @@ use crate::timetable::{clock, Timetable, LAST_MINUTE};
 /// The W line that is added to timetable M.
 pub const WALK: &str = "W,2,2,4,15";
 
-/// "Timetable M with `W,2,2,4,15` added."
+/// Document 02, Nine: "timetable M with `W,2,2,4,15` added".
 pub fn platform() -> Timetable {
     accepted(&M.replacen("T,", &format!("{WALK}\nT,"), 1))
 }

@@ -1,7 +1,7 @@
 // The penalty points that the store call reads from a timetable: those of a ride and of a walk; and the points of a
 // stop that is not reached. To read points from arrays, compare, add up and write them is for `query_minutes`.
 ghost use mathlib.Core.Path.{_≡_};
-ghost use Prim.Native.Nat.{_+_, _≤_, _<_, _^_};
+ghost use Prim.Native.Nat.{_+_, _<_, _^_};
 ghost use lib.ListN.{length};
 ghost use Rattle.store_points.specs.Lowered.{lowered};
 use results::Points;

@@ -1,7 +1,7 @@
--- The walk from one station to another, where it stands among the words, and the change at a station itself: "Some
--- stations have both an S line and a W line from the station to itself [..] such a W line goes first: the S values do
--- not apply to changes there."
-use mathlib.Core.Path.{_≡_, refl, sym, ap, _∙_}
+-- The walk from one station to another, where it stands among the words, and the change at a station itself. Document
+-- 02, Nine: "Some stations have both an S line and a W line from the station to itself [..] such a W line goes first:
+-- the S values do not apply to changes there."
+use mathlib.Core.Path.{_≡_, refl, ap}
 use mathlib.Core.Bool.{Bool, true, false, cond}
 use mathlib.Core.Logic.{_⊎_, inl, inr}
 use mathlib.Core.List.{List}
@@ -20,7 +20,7 @@ use Rattle.timetable.specs.Walks.{FromStation, walks-rise, walk-from, wa
 unfoldable pub walkTo : (w : List ℕ) (y x : ℕ) → ℕ
 walkTo w y x = firstFrom (λ k. eqb (walkAt w k .to) x) (walksTo w (y - 1)) (walksTo w y - walksTo w (y - 1))
 
--- "The walk's minutes and penalty replace the station's."
+-- One: "The walk's minutes and penalty replace the station's."
 abbrev pub afoot : Walk → Station
 afoot v = record { minutes = v .minutes; points = v .points }
 
@@ -33,7 +33,6 @@ stayAt w c =
 -- walk k is the one from station y to station x, if it is one of those from y, and no other is
 pub record Sought (w : List ℕ) (y x k : ℕ) : Type 0 where
   pub begun : walksTo w (y - 1) ≤ k
-  pub most : k ≤ walksTo w y
   pub found : k < walksTo w y → walkAt w k .to ≡ x
   pub only : (i : ℕ) → FromStation w y i → walkAt w i .to ≡ x → i ≡ k
 
@@ -63,7 +62,6 @@ module _ (w : List ℕ) (ok : isTimetable w ≡ true) (y : ℕ) (some : 1 ≤ y)
   walk-sought x =
       record {
         begun = sought .least;
-        most = omega (arith, sought .most, rises);
         found = found;
         only = λ i f e. elim (decLt i k) [ yes h ↦ absurd (not-before i f e h) | no h ↦ at-once i f e (omega arith) ];
       }

@@ -73,8 +73,8 @@ pub record WalkCases (s : Slices) : Type 0 where
   pub platform-22 : Asks s (textPlatform "00:22") 1 3 0 (twoRides 90 70 1 1 2 2 1 2 ∷ [])
   pub platform-25 : Asks s (textPlatform "00:25") 1 3 0 (twoRides 90 70 1 1 2 2 1 2 ∷ [])
   pub platform-store : Stores s (textPlatform "00:25") 1 (1 ∷ 2 ∷ 2 ∷ 2 ∷ 0 ∷ 2 ∷ 0 ∷ 3 ∷ 1 ∷ [])
-  -- "timetable M with `W,2,2,4,15` added": the walk is over at 504, when both trips to station 3 have left, which at
-  -- first showed a row of two rides; docs/two-rules.md lists all that differs
+  -- "timetable M with `W,2,2,4,15` added": the walk is over at 504, after trips 2 and 3 have left; by request One
+  -- a row of two rides was shown. docs/two-rules.md lists all that differs.
   pub along-store-1 : Stores s textAlongTwo 1 (0 ∷ 2 ∷ 2 ∷ 0 ∷ 3 ∷ 0 ∷ [])
   pub along-store-2 : Stores s textAlongTwo 2 (0 ∷ 1 ∷ 3 ∷ 0 ∷ [])
   pub along-store-3 : Stores s textAlongTwo 3 (0 ∷ 0 ∷ [])
