@@ -3,5 +3,4 @@ pub mod SumLaws
 pub mod PlaceLaws
 pub mod LegLaws
 pub mod OrderLaws
-pub mod CatchLaws
 pub mod PriceLaws

@@ -1,18 +1,23 @@
--- The arrays that hold the departures station by station, where each station's begin, and what a change there costs.
+-- The arrays that hold the departures station by station, where each station's begin, what a change there costs, and
+-- what arrivals catch on foot.
 use mathlib.Core.Path.{_≡_, sym, ap, subst, _∙_}
-use mathlib.Core.Bool.{true}
+use mathlib.Core.Bool.{Bool, true, false}
 use mathlib.Core.List.{List, List·Memᴰ·head as here, List·Memᴰ·tail as there}
 use Prim.Native.Nat.{ℕ, zero, suc, _+_, _-_, _≤_, _<_}
 use native.Mathlib.Omega.{arith}
+use borrow.Author.Tests.{ltb-false}
 use lib.Dec.{ltb}
 use lib.ListN.{length, getD, take, drop}
 use lib.Seq.{slice, slice-cons, take-take}
 use Rattle.lists.specs.Lists.{_∈_}
 use Rattle.lists.specs.Members.{filter-few}
-use Rattle.timetable.specs.Words.{stationCount, isTimetable}
-use Rattle.store_stops.specs.Stopwise.{station, changePoints, Goes}
+use Rattle.timetable.specs.Words.{stationCount, walkCount, walkAt, isTimetable}
+use Rattle.timetable.specs.Walks.{FromStation}
+use Rattle.connections.specs.Connections.{onFoot}
+use Rattle.store_stops.specs.Stopwise.{station, changePoints, Goes, Arrival}
 use Rattle.store_stops.specs.TimelyLaws.{timely}
-use Rattle.store_departures.specs.Order.{beginOf, order, chain, waiting}
+use Rattle.store_departures.specs.Order.{beginOf, order, chain, waiting, catchBy}
+use Rattle.store_departures.specs.Keys.{Begins}
 use Rattle.store_departures.specs.Parts.{chain-part, begin-next, chain-length, order-length, leaving-few}
 
 -- the first k words are as they were
@@ -24,15 +29,45 @@ pub record Priced (w first : List ℕ) : Type 0 where
   pub price : (c : ℕ) → 1 ≤ c → c ≤ stationCount w → getD first (66 + c) 0 ≡ changePoints w c
 
 -- the departures of station m stand at places first[m] up to first[m + 1] of the chain
-pub record Departures (w chained first : List ℕ) : Type 0 where
-  pub chain-long : length chained ≡ 2048
-  pub first-long : length first ≡ 131
+pub record Standing (w chained first : List ℕ) : Type 0 where
+  pub chain-long : length chained ≡ 20480
   pub chain-is : take (length (chain w)) chained ≡ chain w
-  pub first-is : (m : ℕ) → m ≤ 65 → getD first m 0 ≡ beginOf (station w) m (order w)
-  pub priced : Priced w first
+  pub first-listed : 65 < length first
+  pub begins : Begins (station w) 65 (order w) first
 
-pub held-first : (w chained first : List ℕ) → Departures w chained first → length first ≡ 131
+-- Behind the chain each stop has a word: where what is caught on foot after the arrival there stands, less the place of
+-- the walk; 0 says that it is not kept.
+abbrev pub keptAt : (chained : List ℕ) (j : ℕ) → ℕ
+keptAt chained j = getD chained (2048 + j) 0
+
+-- what is kept for stop j stands before place end
+pub record Kept (w chained : List ℕ) (end j : ℕ) : Type 0 where
+  pub begun : (k : ℕ) → FromStation w (station w j) k → 1 ≤ keptAt chained j → 4096 ≤ keptAt chained j + k
+  pub inside : (k : ℕ) → FromStation w (station w j) k → 1 ≤ keptAt chained j → keptAt chained j + k < end
+  pub is : (k : ℕ) → FromStation w (station w j) k → 1 ≤ keptAt chained j
+      → getD chained (keptAt chained j + k) 0 ≡ catchBy w (onFoot (walkAt w k)) j
+
+pub record KeptAll (w chained : List ℕ) : Type 0 where
+  pub kept : (j : ℕ) → Arrival w j → Kept w chained 20480 j
+
+pub record Departures (w chained first : List ℕ) : Type 0 where
+  pub standing : Standing w chained first
+  pub all-kept : KeptAll w chained
+  pub first-long : length first ≡ 132
+  pub priced : Priced w first
+  pub walks-counted : getD first 131 0 ≡ walkCount w
+
+pub held-standing : (w chained first : List ℕ) → Departures w chained first → Standing w chained first
+held-standing w chained first held = held .standing
+
+pub held-first : (w chained first : List ℕ) → Departures w chained first → length first ≡ 132
 held-first w chained first held = held .first-long
+
+-- whether there are walks at all
+pub some-walks : (w chained first : List ℕ) → Departures w chained first → (b : Bool) → b ≡ ltb 0 (getD first 131 0)
+    → b ≡ false → walkCount w ≡ 0
+some-walks w chained first held b is e =
+    omega (arith, ltb-false 0 (getD first 131 0) (sym is ∙ e), held .walks-counted)
 
 pub held-prices : (w chained first : List ℕ) → Departures w chained first → Priced w first
 held-prices w chained first held = held .priced
@@ -68,17 +103,17 @@ module _ (w : List ℕ) (yes : isTimetable w ≡ true) where
     part-ordered =
         omega (
           arith,
-          held .first-is c (omega arith),
-          held .first-is (c + 1) (omega arith),
+          held .standing .begins .begin c (omega arith),
+          held .standing .begins .begin (c + 1) (omega arith),
           begin-next (station w) (order w) c,
         )
 
     pub part-most : getD first (c + 1) 0 ≤ 2048
     part-most =
-        let e = ap length (held .chain-is) in
+        let e = ap length (held .standing .chain-is) in
         omega (
           arith,
-          held .first-is (c + 1) (omega arith),
+          held .standing .begins .begin (c + 1) (omega arith),
           begin-most (c + 1),
           chain-length w yes,
           leaving-few w yes,
@@ -87,12 +122,12 @@ module _ (w : List ℕ) (yes : isTimetable w ≡ true) where
 
     pub part-is : slice (getD first c 0) (getD first (c + 1) 0) chained ≡ waiting w c
     part-is =
-        let b = held .first-is c (omega arith) in
-        let e = held .first-is (c + 1) (omega arith) in
+        let b = held .standing .begins .begin c (omega arith) in
+        let e = held .standing .begins .begin (c + 1) (omega arith) in
         let inside = begin-most (c + 1) in
         ap (λ k. drop (getD first c 0) k)
         (sym (take-take (getD first (c + 1) 0) (length (chain w)) chained (omega arith))
-        ∙ ap (take (getD first (c + 1) 0)) (held .chain-is))
+        ∙ ap (take (getD first (c + 1) 0)) (held .standing .chain-is))
         ∙ ap (λ k. slice k (getD first (c + 1) 0) (chain w)) b
         ∙ ap (λ k. slice (beginOf (station w) c (order w)) k (chain w)) e
         ∙ chain-part w c few
@@ -103,4 +138,4 @@ module _ (w : List ℕ) (yes : isTimetable w ≡ true) where
         let e : b + (k - b) ≡ k = omega arith in
         subst (λ r. getD chained k 0 ∈ r) part-is
         (subst (λ i. getD chained i 0 ∈ slice b (getD first (c + 1) 0) chained) e
-        (slice-in chained (k - b) b (getD first (c + 1) 0) (omega arith) (omega (arith, part-most, held .chain-long))))
+        (slice-in chained (k - b) b (getD first (c + 1) 0) (omega arith) (omega (arith, part-most, held .standing .chain-long))))

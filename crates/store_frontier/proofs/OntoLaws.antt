@@ -1,19 +1,20 @@
 -- What each way of changing allows, as the code goes through them: at the station itself, and by one walk after the
 -- other.
 use mathlib.Core.Path.{_≡_, refl, sym, ap, subst, _∙_}
-use mathlib.Core.Bool.{true}
+use mathlib.Core.Bool.{Bool, true, false}
 use mathlib.Core.List.{List}
 use Prim.Native.Nat.{ℕ, _+_, _-_, _≤_, _<_, max}
 use native.Mathlib.Omega.{arith}
+use lib.Dec.{ltb}
 use lib.ListN.{length, getD}
 use Rattle.timetable.specs.Timetable.{Stop, Walk}
 use Rattle.timetable.specs.Words.{stationCount, stopAt, walksTo, walkAt, isTimetable}
 use Rattle.connections.specs.Connections.{Change, onFoot}
 use Rattle.store_stops.specs.Stopwise.{station, changePoints, stay, nowhere}
-use Rattle.store_stops.specs.OpenWays.{Open, ByWalk, WalkTo, walked-none, walked-more, open-ways}
+use Rattle.store_stops.specs.OpenWays.{Open, ByWalk, WalkTo, walked-none, walked-more, open-ways, never-walked}
 use Rattle.store_departures.specs.Order.{catchBy}
 use Rattle.store_departures.specs.InOrderLaws.{caught-there}
-use Rattle.store_departures.specs.Held.{Departures, goes-few}
+use Rattle.store_departures.specs.Held.{Departures, some-walks, goes-few}
 use Rattle.store_frontier.specs.Bounding.{
   caughtBound,
   caught-some,
@@ -43,23 +44,27 @@ module _ (w : List ℕ) (yes : isTimetable w ≡ true) where
   caught-few way j q long h = omega (arith, goes-few w yes (catchBy w way j) (caught-there w yes way j h .goes))
 
   -- ---- by one walk
-  module _ (k : ℕ) (walk : Walk) (is : walk ≡ walkAt w k) (j f : ℕ) (caught : f ≡ catchBy w (onFoot walk) j) where
+  module _ (k j f : ℕ) (caught : f ≡ catchBy w (onFoot (walkAt w k)) j) where
     pub walk-inside : (q : List ℕ) → length q ≡ 2048 → (f < nowhere) → f < length q
-    walk-inside q long h = rw caught (caught-few (onFoot walk) j q long (rw caught at h))
+    walk-inside q long h = rw caught (caught-few (onFoot (walkAt w k)) j q long (rw caught at h))
 
-    pub walk-bounds : (q : List ℕ) (x r : ℕ) → x ≡ walk .points → r ≡ caughtBound q f x
-        → Bounding w q j (ByWalk w k) r
-    walk-bounds q x r costs is-r =
-        subst (Bounding w q j (ByWalk w k)) (sym (is-r ∙ rw (costs, caught)))
-        (bounding-as w q j (λ way. way ≡ onFoot walk) (caughtBound q (catchBy w (onFoot walk) j) (walk .points))
-        (bounding-one w q j (onFoot walk))
+    pub walk-bounds : (walk : Walk) → walk ≡ walkAt w k → (q : List ℕ) (x r : ℕ) → x ≡ walk .points
+        → r ≡ caughtBound q f x → Bounding w q j (ByWalk w k) r
+    walk-bounds walk is q x r costs is-r =
+        subst (Bounding w q j (ByWalk w k)) (sym (is-r ∙ rw (costs, is, caught)))
+        (bounding-as w q j (λ way. way ≡ onFoot (walkAt w k))
+        (caughtBound q (catchBy w (onFoot (walkAt w k)) j) (walkAt w k .points))
+        (bounding-one w q j (onFoot (walkAt w k)))
         (ByWalk w k)
-        (λ way. (λ e. record { is = e ∙ ap onFoot is }, λ b. b .is ∙ ap onFoot (sym is))))
+        (λ way. (λ e. record { is = e }, λ b. b .is)))
 
   -- ---- at the station itself
   module _ (j : ℕ) (s : Stop) (is-s : s ≡ stopAt w j) where
     pub station-some : 1 ≤ station w j → 1 ≤ s .station
     station-some h = rw is-s h
+
+    pub station-here : station w j ≡ s .station
+    station-here = rw is-s
 
     pub station-listed : station w j ≤ stationCount w → s .station ≤ stationCount w
     station-listed h = rw is-s h
@@ -89,6 +94,16 @@ module _ (w : List ℕ) (yes : isTimetable w ≡ true) where
           (bounding-both w q j (λ way. way ≡ stay w (station w j)) (WalkTo w (station w j) (walksTo w (station w j)))
           here walks at walked (Open w j)
           (open-ways w (station w j) yes some few j refl))
+
+      -- where there are no walks, that is all
+      pub own-bounds : (chain first : List ℕ) → Departures w chain first → (b : Bool) → b ≡ ltb 0 (getD first 131 0)
+          → b ≡ false → (q : List ℕ) (x here : ℕ) → 1 ≤ station w j → station w j ≤ stationCount w
+          → x ≡ getD first (66 + s .station) 0 → here ≡ caughtBound q f x → Bounding w q j (Open w j) here
+      own-bounds chain first held b is e q x here some few price is-here =
+          onto-bounds chain first held q x here 0 here some few price is-here
+          (bounding-none w q j (WalkTo w (s .station) (walksTo w (s .station)))
+          (never-walked w yes (s .station) (station-listed few) (some-walks w chain first held b is e)))
+          (omega arith)
 
 -- ---- by all walks from a station
 module _ (w q : List ℕ) (c j : ℕ) where

@@ -8,13 +8,13 @@ use native.Mathlib.Numerals.{add-one}
 use lib.ListN.{length, getD, take, drop, set, replicate, take-append-drop, drop-of-length-le}
 use lib.Seq.{length-take-le, getD-take, drop-cons}
 use Rattle.lists.specs.Lists.{_∈_}
-use Rattle.timetable.specs.Timetable.{Stop, lastMinute}
+use Rattle.timetable.specs.Timetable.{Stop}
 use Rattle.timetable.specs.Words.{stationCount, stopAt, isTimetable}
 use Rattle.connections.specs.Rides.{mayBoard}
 use Rattle.timetable.specs.Access.{stations-few}
 use Rattle.store_departures.specs.Order.{order, catchBy}
 use Rattle.store_departures.specs.Rising.{minuteAt, Rising, Early, InTime, departures-rise, departures-early}
-use Rattle.store_stops.specs.Stopwise.{station, arrive, stay, Goes}
+use Rattle.store_stops.specs.Stopwise.{station, stay, Goes, Arrival}
 use Rattle.store_stops.specs.OpenWays.{Open}
 use Rattle.store_frontier.specs.Bounding.{Bounding}
 use Rattle.store_frontier.specs.Passed.{
@@ -117,8 +117,8 @@ module _
     pub first-long : length first ≡ 2048
     first-long = r .long-first
 
-    pub next-timely : arrive w (i + 1) ≤ lastMinute
-    next-timely = rw (add-one i) (r .timely .minute i goes)
+    pub next-arrives : Arrival w (i + 1)
+    next-arrives = record { i = i; goes = goes; is = sym (add-one i) }
 
     pub next-caught : getD first (i + 1) 0 ≡ catchBy w (stay w (station w (i + 1))) (i + 1)
     next-caught = rw (add-one i) (r .caught i goes)

@@ -1,7 +1,7 @@
 -- The frontiers of all stations, one after the other. At the start's own station no one is to end, so nothing is low
 -- enough there. Where a stop is closed to alighting, no one is taken to arrive.
 use mathlib.Core.Path.{_≡_, refl, sym, ap, subst, _∙_}
-use mathlib.Core.Bool.{Bool, true, false, cond}
+use mathlib.Core.Bool.{Bool, true, false, cond, not}
 use mathlib.Core.Logic.{_↔_, _≢_}
 use mathlib.Core.List.{List}
 use Prim.Native.Nat.{ℕ, suc, _+_, _≤_, _<_}
@@ -19,7 +19,7 @@ use Rattle.store_stops.specs.Stopwise.{station, arrive, unreached, Goes, Alight
 use Rattle.store_stops.specs.Paid.{OnFrontier}
 use Rattle.store_stops.specs.Prospects.{Allows}
 use Rattle.store_stops.specs.Settled.{Timely}
-use Rattle.store_frontier.specs.Arrivals.{part, Arrivals, Placed, placed, arrives-at}
+use Rattle.store_frontier.specs.Arrivals.{part, Tells, Arrivals, Placed, placed, arrives-at}
 use Rattle.lists.specs.Lists.{_∈_}
 use Rattle.lists.specs.Tests.{either, T-true, T-false}
 use Rattle.store_frontier.specs.Front.{Front, Fronted}
@@ -236,6 +236,40 @@ module _ (w v : List ℕ) where
 
   pub closing-all : (n m : ℕ) (v′ : List ℕ) → m ≡ stopCount w → m ≤ n → Closing w n v v′ → Closed w v v′
   closing-all n m v′ is h c = record { each = λ k g. c .done k (omega arith) }
+
+  -- where riders may alight at all stops
+  pub all-open : (first : List ℕ) (r : ℕ) → Tells w (getD first 66 0) → r ≡ getD first 66 0 → r ≡ 0 → Closed w v v
+  unfolding openWord
+  all-open first r tells is e = record { each = λ k h. rw (tells .all (sym is ∙ e) k h) }
+
+-- ---- whether there are any
+pub record OpenTo (w : List ℕ) (j : ℕ) : Type 0 where
+  pub each : (k : ℕ) → k < j → mayAlight (stopAt w k) ≡ true
+
+open-yes : (b : Bool) → not b ≡ false → b ≡ true
+open-yes true e = refl
+open-yes false e = sym e
+
+module _ (w : List ℕ) where
+  pub open-none : OpenTo w 0
+  open-none = record { each = λ k h. absurd (omega arith) }
+
+  pub open-more : (j : ℕ) (s : Stop) (b : Bool) → OpenTo w j → s ≡ stopAt w j → b ≡ mayAlight s
+      → not b ≡ false → OpenTo w (j + 1)
+  open-more j s b so-far is is-b e =
+      record {
+        each = λ k h.
+            elim (ℕ-discrete k j) [
+              | yes z ↦ rw (z, ← is, ← is-b) (open-yes b e)
+              | no z ↦ so-far .each k (omega arith)
+            ];
+      }
+
+  pub open-all : (j n : ℕ) → n ≡ getD w 2 0 → n ≤ j → OpenTo w j → Tells w 0
+  open-all j n is h so-far = record { all = λ e k g. so-far .each k (omega arith) }
+
+  pub told-closed : Tells w 1
+  told-closed = record { all = λ e. absurd (omega arith) }
 
 -- the frontiers of what is left are those where one may alight
 module _ (w : List ℕ) (a : ℕ) (v c e : List ℕ) (t : Timely w) (closed : Closed w v c) (k : AllowsAhead w a c e) where

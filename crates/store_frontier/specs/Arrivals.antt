@@ -1,6 +1,7 @@
 -- The arrivals of each station in a part of an array of their own, by rising minute: stated over the parts, and then
 -- place by place.
 use mathlib.Core.Path.{_≡_, refl, sym, ap, subst, _∙_}
+use mathlib.Core.Bool.{true}
 use mathlib.Core.Logic.{_≢_}
 use mathlib.Core.List.{List, _∷_, _++_, Memᴰ·cast, Memᴰ·append-right, List·Memᴰ·head as here}
 use Prim.Native.Nat.{ℕ, zero, suc, _+_, _-_, _≤_, _<_}
@@ -9,7 +10,8 @@ use lib.ListN.{length, getD, take, drop, take-append-drop}
 use lib.Seq.{slice, slice-empty, slice-cons, length-take-le, take-take, drop-append-le}
 use Rattle.lists.specs.Lists.{_∈_, Distinct}
 use Rattle.lists.specs.Members.{none, cons-cases}
-use Rattle.timetable.specs.Words.{stationCount}
+use Rattle.timetable.specs.Words.{stationCount, stopCount, stopAt}
+use Rattle.connections.specs.Rides.{mayAlight}
 use Rattle.store_stops.specs.Stopwise.{station, arrive, Goes}
 use Rattle.store_stops.specs.Settled.{Timely}
 use Rattle.store_frontier.specs.Parts.{distinct-rest}
@@ -25,8 +27,13 @@ pub record ArrivesAt (w : List ℕ) (c k : ℕ) : Type 0 where
   pub next : suc i ≡ k
   pub here : station w k ≡ c
 
+-- 0 tells that riders may alight at all stops
+pub record Tells (w : List ℕ) (r : ℕ) : Type 0 where
+  pub all : r ≡ 0 → (k : ℕ) → k < stopCount w → mayAlight (stopAt w k) ≡ true
+
 pub record Arrivals (w arrivals first : List ℕ) : Type 0 where
-  pub long-first : length first ≡ 66
+  pub long-first : length first ≡ 67
+  pub tells : Tells w (getD first 66 0)
   pub rises : (c : ℕ) → 1 ≤ c → c ≤ stationCount w → getD first c 0 ≤ getD first (c + 1) 0
   pub inside : (c : ℕ) → 1 ≤ c → c ≤ stationCount w → getD first (c + 1) 0 ≤ length arrivals
   pub within : (c k : ℕ) → 1 ≤ c → c ≤ stationCount w → k ∈ part arrivals first c → ArrivesAt w c k
@@ -34,6 +41,13 @@ pub record Arrivals (w arrivals first : List ℕ) : Type 0 where
   pub once : (c : ℕ) → 1 ≤ c → c ≤ stationCount w → Distinct (part arrivals first c)
   pub rising : (c j k : ℕ) (xs ys : List ℕ) → 1 ≤ c → c ≤ stationCount w
       → part arrivals first c ≡ xs ++ (j ∷ ys) → k ∈ ys → arrive w j ≤ arrive w k
+
+module _ (w arrivals first : List ℕ) (a : Arrivals w arrivals first) where
+  pub first-listed : length first ≡ 67
+  first-listed = a .long-first
+
+  pub first-tells : Tells w (getD first 66 0)
+  first-tells = a .tells
 
 -- ---- places of a part
 -- the part from place f up to place t, in two

@@ -1,7 +1,7 @@
 -- What one who arrives at a stop can have paid, less than that, to end well after a change, where q has for each
 -- departure what one can have paid who changes to it or to a later one of its station: the most that a way of changing
 -- allows.
-use mathlib.Core.Path.{_≡_, refl, sym, ap, subst, _∙_}
+use mathlib.Core.Path.{_≡_, refl, subst}
 use mathlib.Core.Bool.{cond}
 use mathlib.Core.Logic.{_⊎_, inl, inr, _↔_}
 use mathlib.Core.List.{List}

@@ -3,17 +3,17 @@ ghost use mathlib.Core.Path.{_≡_};
 ghost use mathlib.Core.Bool.{true, cond};
 ghost use Prim.Native.Nat.{_+_, _≤_, _<_, max};
 ghost use lib.ListN.{length, getD, set, drop};
-ghost use Rattle.timetable.specs.Timetable.{lastMinute};
-ghost use Rattle.timetable.specs.Words.{stationCount, stopAt, walkCount, walksTo, isTimetable};
+ghost use Rattle.timetable.specs.Words.{stationCount, stopAt, walksTo, isTimetable};
+ghost use Rattle.timetable.specs.Walks.{FromStation};
 ghost use Rattle.connections.specs.Rides.{mayBoard};
-ghost use Rattle.store_stops.specs.Stopwise.{station, arrive, stay, nowhere};
+ghost use Rattle.store_stops.specs.Stopwise.{station, arrive, stay, nowhere, Arrival};
 ghost use Rattle.store_stops.specs.OpenWays.{Open, ByWalk, WalkTo};
 ghost use Rattle.store_stops.specs.Prospects.{Allows, Bounded};
 ghost use Rattle.store_stops.specs.Settled.{Timely};
 ghost use Rattle.store_departures.specs.Order.{order as departures, catchBy};
 ghost use Rattle.store_departures.specs.Held.{Departures};
 ghost use Rattle.store_departures.specs.Rising.{minuteAt, InTime};
-ghost use Rattle.store_frontier.specs.Arrivals.{Arrivals, Held, Run};
+ghost use Rattle.store_frontier.specs.Arrivals.{Tells, Arrivals, Held, Run};
 ghost use Rattle.store_frontier.specs.Front.{Least, MinuteEnd, markOf, Marked, LeftOut, Fronted};
 ghost use Rattle.store_frontier.specs.Allowing.{topOf, AllowsAhead, ClosedAt, Closed};
 ghost use Rattle.store_frontier.specs.Bounding.{caughtBound, Bounding};
@@ -215,7 +215,7 @@ fn close_stop(words: &[u16], j: usize, v: &mut [u32])
     query_minutes::set_points(v, j, UNREACHED);
 }
 
-fn close(words: &[u16], v: &mut [u32])
+fn close_stops(words: &[u16], v: &mut [u32])
     requires { ⌜ (16384 ≤ length (now words)) × (isTimetable (now words) ≡ true) × (length (now v) ≡ 2048) ⌝ }
     ensures { λ _. ⌜ Closed (now (words .entry)) (now (v .entry)) (now (v .exit)) ⌝ }
     ensures { λ _. ⌜ length (now (v .exit)) ≡ length (now (v .entry)) ⌝ }
@@ -226,6 +226,25 @@ fn close(words: &[u16], v: &mut [u32])
         close_stop(words, j, v);
         j += 1;
     }
+}
+
+// The word of first that tells whether riders may alight at all stops.
+const CLOSES: usize = 66;
+
+// The same; nothing is looked at where riders may alight at all stops.
+fn close(words: &[u16], first: &[u32], v: &mut [u32])
+    requires { ⌜ (16384 ≤ length (now words))
+        × (isTimetable (now words) ≡ true)
+        × (length (now first) ≡ 67)
+        × Tells (now words) (getD (now first) 66 0)
+        × (length (now v) ≡ 2048) ⌝ }
+    ensures { λ _. ⌜ Closed (now (words .entry)) (now (v .entry)) (now (v .exit)) ⌝ }
+    ensures { λ _. ⌜ length (now (v .exit)) ≡ length (now (v .entry)) ⌝ }
+{
+    if place_at(first, CLOSES) == 0 {
+        return;
+    }
+    close_stops(words, v);
 }
 
 // The arrivals of all stations.
@@ -258,8 +277,24 @@ pub fn allow(words: &[u16], arrivals: &[u16], first: &[u32], source: usize, v: &
     ensures { λ _. ⌜ Allows (now (words .entry)) source (now (v .entry)) (now (v .exit)) ⌝ }
     ensures { λ _. ⌜ length (now (v .exit)) ≡ 2048 ⌝ }
 {
-    close(words, v);
+    close(words, first, v);
     allow_all(words, arrivals, first, source, v);
+}
+
+// Whether some stop is closed to alighting: 1 if so, 0 if not.
+pub fn closes(words: &[u16]) -> u32
+    requires { ⌜ (16384 ≤ length (now words)) × (isTimetable (now words) ≡ true) ⌝ }
+    ensures { λ r. ⌜ Tells (now (words .entry)) r ⌝ }
+{
+    let stops = words::word(words, 2) as usize;
+    let mut j = 0;
+    while j < stops {
+        if !store_departures::may_alight(timetable::stop_at(words, j)) {
+            return 1;
+        }
+        j += 1;
+    }
+    0
 }
 
 // ---- who can still end well
@@ -281,14 +316,12 @@ fn walk_bound(words: &[u16], chain: &[u16], first: &[u32], q: &[u32], k: usize, 
         × (isTimetable (now words) ≡ true)
         × Departures (now words) (now chain) (now first)
         × (length (now q) ≡ 2048)
-        × (k < walkCount (now words))
-        × (j < 2048)
-        × (arrive (now words) j ≤ lastMinute) ⌝ }
+        × Arrival (now words) j
+        × FromStation (now words) (station (now words) j) k ⌝ }
     ensures { λ r. ⌜ Bounding (now (words .entry)) (now (q .entry)) j (ByWalk (now (words .entry)) k) (r .0) ⌝ }
 {
-    let walk = timetable::walk_at(words, k);
-    let f = store_departures::catch_on_foot(words, chain, first, walk, j) as usize;
-    caught_bound(q, f, store_points::of_walk(walk))
+    let f = store_catches::caught_on_foot(words, chain, first, k, j);
+    caught_bound(q, f, store_points::of_walk(timetable::walk_at(words, k)))
 }
 
 // The same by any walk from station c.
@@ -299,8 +332,8 @@ fn walks_bound(words: &[u16], chain: &[u16], first: &[u32], q: &[u32], c: usize,
         × (length (now q) ≡ 2048)
         × (1 ≤ c)
         × (c ≤ stationCount (now words))
-        × (j < 2048)
-        × (arrive (now words) j ≤ lastMinute) ⌝ }
+        × Arrival (now words) j
+        × (station (now words) j ≡ c) ⌝ }
     ensures { λ r. ⌜ Bounding (now (words .entry)) (now (q .entry)) j
         (WalkTo (now (words .entry)) c (walksTo (now (words .entry)) c)) (r .0) ⌝ }
 {
@@ -327,9 +360,9 @@ fn onto_bound(
         × (isTimetable (now words) ≡ true)
         × Departures (now words) (now chain) (now first)
         × (j < 2048)
+        × Arrival (now words) j
         × (1 ≤ station (now words) j)
         × (station (now words) j ≤ stationCount (now words))
-        × (arrive (now words) j ≤ lastMinute)
         × (length (now catch) ≡ 2048)
         × (getD (now catch) j 0 ≡ catchBy (now words) (stay (now words) (station (now words) j)) j)
         × (length (now q) ≡ 2048) ⌝ }
@@ -338,7 +371,10 @@ fn onto_bound(
     let c = timetable::stop_at(words, j).station as usize;
     let f = words::word(catch, j) as usize;
     let here = caught_bound(q, f, store_departures::change_points(first, c));
-    query_minutes::larger(here, walks_bound(words, chain, first, q, c, j))
+    if store_departures::has_walks(first) {
+        return query_minutes::larger(here, walks_bound(words, chain, first, q, c, j));
+    }
+    here
 }
 
 // One who leaves stop i, which is s, ends well if they have paid less than this.
@@ -357,9 +393,9 @@ fn leave_bound(
         × (isTimetable (now words) ≡ true)
         × Departures (now words) (now chain) (now first)
         × (i + 1 < 2048)
+        × Arrival (now words) (i + 1)
         × (1 ≤ station (now words) (i + 1))
         × (station (now words) (i + 1) ≤ stationCount (now words))
-        × (arrive (now words) (i + 1) ≤ lastMinute)
         × (length (now catch) ≡ 2048)
         × (getD (now catch) (i + 1) 0
         ≡ catchBy (now words) (stay (now words) (station (now words) (i + 1))) (i + 1))

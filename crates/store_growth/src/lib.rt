@@ -7,7 +7,9 @@ ghost use mathlib.Core.Bool.{true};
 ghost use Prim.Native.Nat.{_≤_};
 ghost use lib.ListN.{length};
 ghost use Rattle.timetable.specs.Words.{stationCount, isTimetable};
-ghost use Rattle.store_departures.specs.Held.{Departures};
+ghost use Rattle.store_departures.specs.Held.{Standing, Departures};
+ghost use Rattle.store_departures.specs.Catches.{Caught};
+ghost use Rattle.store_minutes.specs.Prepared.{Ordered, PricedBehind};
 ghost use Rattle.store_frontier.specs.Routes.{Routes};
 ghost use Rattle.store_frontier.specs.Arrivals.{Arrivals};
 ghost use Rattle.stores.specs.Stored.{sequences};
@@ -15,52 +17,80 @@ ghost use Rattle.store_growth.specs.Chunks.{Whole};
 use store_tree::Counts;
 use tree::STOPS_MOST;
 
+// The departures by station, and what is caught on foot.
+const CHAIN_WORDS: usize = store_departures::CHAIN_WORDS;
+
 // There are at most so many slots.
 const SLOTS: usize = 320;
 
-// Stations count from 1, 64 at most, and the departures of each end where those of the next one begin.
-const BEGINS: usize = 66;
+// Stations count from 1, 64 at most, and the arrivals of each end where those of the next one begin. Behind these stands
+// whether a stop is closed to alighting.
+const CLOSES: usize = 66;
 
-// Behind where departures begin stands for each station what a change there costs.
-const BY_STATION: usize = BEGINS + 65;
+const BEGINS: usize = CLOSES + 1;
 
-// Writes the departures by minute and by station, what changes cost there, and what each arrival catches. Returns how
-// many departures there are.
+// Where departures begin, what changes cost, and how many walks there are.
+const BY_STATION: usize = store_departures::BY_STATION;
+
+// Writes the departures by minute and by station. Returns how many departures there are.
 fn list_departures(
     words: &[u16],
     work: &mut [u32],
     order: &mut [u16],
     chain: &mut [u16],
     first: &mut [u32],
-    catch: &mut [u16],
 ) -> usize
     requires { ⌜ (16384 ≤ length (now words))
         × (isTimetable (now words) ≡ true)
         × (length (now work) ≡ 16384)
         × (length (now order) ≡ 2048)
-        × (length (now chain) ≡ 2048)
-        × (length (now first) ≡ 131)
-        × (length (now catch) ≡ 2048) ⌝ }
-    ensures { λ r. ⌜ Routes (now (words .entry)) (now (order .exit)) r (now (catch .exit))
-        × Departures (now (words .entry)) (now (chain .exit)) (now (first .exit)) ⌝ }
+        × (length (now chain) ≡ 20480)
+        × (length (now first) ≡ 132) ⌝ }
+    ensures { λ r. ⌜ Ordered (now (words .entry)) (now (order .exit)) r
+        × Standing (now (words .entry)) (now (chain .exit)) (now (first .exit))
+        × (length (now (first .exit)) ≡ 132) ⌝ }
 {
     let n = store_departures::order_departures(words, work, order);
     store_departures::chain_departures(words, order, n, chain, first);
-    store_departures::find_catches(words, chain, first, catch);
-    store_departures::price_changes(words, first);
     n
 }
 
-// Writes the arrivals by station, and where each station's begin.
+// Writes what changes cost at each station, and how many walks there are.
+fn price_changes(words: &[u16], first: &mut [u32])
+    requires { ⌜ (16384 ≤ length (now words)) × (isTimetable (now words) ≡ true) × (length (now first) ≡ 132) ⌝ }
+    ensures { λ _. ⌜ PricedBehind (now (words .entry)) (now (first .entry)) (now (first .exit)) ⌝ }
+{
+    store_departures::price_changes(words, first);
+    store_departures::count_walks(words, first);
+}
+
+// Writes what each arrival catches, at its station and on foot, and what changes cost.
+fn list_catches(words: &[u16], chain: &mut [u16], first: &mut [u32], catch: &mut [u16])
+    requires { ⌜ (16384 ≤ length (now words))
+        × (isTimetable (now words) ≡ true)
+        × Standing (now words) (now chain) (now first)
+        × (length (now first) ≡ 132)
+        × (length (now catch) ≡ 2048) ⌝ }
+    ensures { λ _. ⌜ Caught (now (words .entry)) (now (catch .exit))
+        × (length (now (catch .exit)) ≡ 2048)
+        × Departures (now (words .entry)) (now (chain .exit)) (now (first .exit)) ⌝ }
+{
+    store_catches::find_catches(words, chain, first, catch);
+    store_catches::keep_catches(words, chain, first);
+    price_changes(words, first);
+}
+
+// Writes the arrivals by station, where each station's begin, and behind these whether a stop is closed to alighting.
 fn list_arrivals(words: &[u16], work: &mut [u32], arrivals: &mut [u16], begins: &mut [u32])
     requires { ⌜ (16384 ≤ length (now words))
         × (isTimetable (now words) ≡ true)
         × (length (now work) ≡ 16384)
         × (length (now arrivals) ≡ 2048)
-        × (length (now begins) ≡ 66) ⌝ }
+        × (length (now begins) ≡ 67) ⌝ }
     ensures { λ _. ⌜ Arrivals (now (words .entry)) (now (arrivals .exit)) (now (begins .exit)) ⌝ }
 {
     store_departures::chain_arrivals(words, work, arrivals, begins);
+    begins[CLOSES] = store_frontier::closes(words);
 }
 
 // Plants and grows the tree, departures and arrivals having been listed. Returns the numbers of nodes and arcs, if they
@@ -162,10 +192,11 @@ pub fn make_tree(words: &[u16], source: usize, work: &mut [u32], targets: &mut [
         (now (targets .exit)) r ⌝ }
 {
     let mut order = [0u16; STOPS_MOST];
-    let mut chain = [0u16; STOPS_MOST];
+    let mut chain = [0u16; CHAIN_WORDS];
     let mut first = [0u32; BY_STATION];
     let mut catch = [0u16; STOPS_MOST];
-    let count = list_departures(words, work, &mut order, &mut chain, &mut first, &mut catch);
+    let count = list_departures(words, work, &mut order, &mut chain, &mut first);
+    list_catches(words, &mut chain, &mut first, &mut catch);
     grow_tree(
         words,
         &order,

@@ -1,7 +1,7 @@
 -- An arrival: what one can rely on there, the departure caught by a way of changing, the offer that is made, and the
 -- flags that are tried.
 use mathlib.Core.Path.{_≡_, sym, ap, subst, _∙_}
-use mathlib.Core.Bool.{Bool, true}
+use mathlib.Core.Bool.{Bool, true, false}
 use mathlib.Core.List.{List}
 use Prim.Native.Nat.{ℕ, suc, _+_, _-_, _^_, _≤_, _<_}
 use native.Mathlib.Omega.{arith}
@@ -12,21 +12,22 @@ use Rattle.lists.specs.Lists.{range}
 use Rattle.timetable.specs.Timetable.{Station, Stop, Walk, lastMinute}
 use Rattle.timetable.specs.Words.{stationCount, walksTo, walkCount, walkAt, stopAt, isTimetable}
 use Rattle.timetable.specs.Access.{stations-few}
-use Rattle.timetable.specs.Walks.{walks-few, walks-rise, good-walk}
+use Rattle.timetable.specs.Walks.{FromStation, walks-rise}
 use Rattle.timetable.specs.WalkTo.{stayAt}
 use Rattle.connections.specs.Connections.{onFoot}
 use Rattle.connections.specs.Sound.{Priced as PricedWay}
-use Rattle.store_stops.specs.Stopwise.{station, arrive, changePoints, stay}
+use Rattle.store_stops.specs.Stopwise.{station, arrive, changePoints, stay, Arrival}
 use Rattle.store_stops.specs.TimelyLaws.{timely}
 use Rattle.store_stops.specs.Ways.{good-way}
+use Rattle.store_stops.specs.OpenWays.{walk-cheap}
 use Rattle.store_slots.specs.Slots.{hereSlot, walkSlot, walksFrom}
 use Rattle.store_departures.specs.Order.{catchBy, catch}
-use Rattle.store_departures.specs.Held.{Priced, goes-few}
+use Rattle.store_departures.specs.Held.{Priced, Departures, some-walks, goes-few}
 use Rattle.store_points.specs.Lowered.{lowered}
 use Rattle.store_marks.specs.Arrays.{raised}
 use Rattle.store_marks.specs.Riding.{visit, offer, staying, raiseTry, raiseAll, endsTry, changeTry}
 use Rattle.store_marks.specs.Riding.{walkTries, changeTries, flagArc, flagKids}
-use Rattle.store_marks.specs.Held.{Changes, Arrival, Way}
+use Rattle.store_marks.specs.Held.{Changes, Way}
 
 -- the stop read is the one arrived at
 pub stop-station : (w : List ℕ) (j : ℕ) (s : Stop) → s ≡ stopAt w j → s .station ≡ station w j
@@ -102,18 +103,10 @@ module _ (w : List ℕ) (ok : isTimetable w ≡ true) where
     pub way-fits : (y cost : ℕ) → y < 4000000 → cost ≡ way .points → y + cost < 2 ^ 32
     way-fits y cost h is = omega (arith, good .points-most)
 
-  -- ---- walk k
-  module _ (k : ℕ) (inside : k < walkCount w) where
-    pub walk-few : k < 256
-    walk-few = omega (arith, walks-few w ok)
-
-    module _ (v : Walk) (is : v ≡ walkAt w k) where
-      pub walk-near : v .to ≤ 64
-      walk-near =
-          omega (arith, ap (λ (z : Walk). z .to) is, good-walk w ok k inside .to-last, stations-few w ok)
-
-      pub walk-fits : (y cost : ℕ) → y < 4000000 → cost ≡ v .points → y + cost < 2 ^ 32
-      walk-fits y cost h costs = omega (arith, ap (λ (z : Walk). z .points) is, good-walk w ok k inside .points-most)
+  -- ---- walk k, from the station of stop j
+  module _ (j : ℕ) (a : Arrival w j) (k : ℕ) (from : FromStation w (station w j) k) where
+    pub walk-fits : (v : Walk) → v ≡ walkAt w k → (y cost : ℕ) → y < 4000000 → cost ≡ v .points → y + cost < 2 ^ 32
+    walk-fits v is y cost h costs = omega (arith, walk-cheap w ok j k a from v is)
 
 -- ---- an offer
 module _ (w : List ℕ) (j b : ℕ) (at : b ≡ station w j) (way : Walk) where
@@ -161,16 +154,16 @@ module _ (w q old new : List ℕ) (j y : ℕ) where
       raised (ltb (y + changePoints w (station w j)) (getD q (catchBy w (stay w (station w j)) j) 0)) (z - 1) old)
       at
 
-  pub walk-tried : (k : ℕ) (v : Walk) → v ≡ walkAt w k → (s cost sum g bound : ℕ) → g ≡ catchBy w (onFoot v) j
-      → cost ≡ v .points → sum ≡ y + cost → s ≡ walkSlot w k → bound ≡ getD q g 0
+  pub walk-tried : (k : ℕ) (v : Walk) → v ≡ walkAt w k → (s cost sum g bound : ℕ)
+      → g ≡ catchBy w (onFoot (walkAt w k)) j → cost ≡ v .points → sum ≡ y + cost → s ≡ walkSlot w k → bound ≡ getD q g 0
       → new ≡ raised (ltb sum bound) s old
       → new ≡ raiseTry (changeTry w q (visit j y) (onFoot (walkAt w k)) (walkSlot w k)) old
   unfolding raiseTry changeTry
   walk-tried k v is s cost sum g bound catches costs adds slot says e =
       e
       ∙ ap (λ z. raised (ltb sum z) s old) (says ∙ ap (λ i. getD q i 0) catches)
-      ∙ ap (λ z. raised (ltb z (getD q (catchBy w (onFoot v) j) 0)) s old) (adds ∙ ap (λ z. y + z) costs)
-      ∙ ap (λ (u : Walk). raised (ltb (y + u .points) (getD q (catchBy w (onFoot u) j) 0)) s old) is
+      ∙ ap (λ z. raised (ltb z (getD q (catchBy w (onFoot (walkAt w k)) j) 0)) s old)
+      (adds ∙ ap (λ z. y + z) (costs ∙ ap (λ (u : Walk). u .points) is))
       ∙ ap
       (λ z.
       raised (ltb (y + (walkAt w k) .points) (getD q (catchBy w (onFoot (walkAt w k)) j) 0)) z old)
@@ -209,13 +202,14 @@ module _ (w q : List ℕ) (j y : ℕ) where
         let n : end - k ≡ 0 = omega arith in
         sym (left ∙ ap (λ z. tries (range k z) l) n)
 
-pub walk-inside : (w : List ℕ) → isTimetable w ≡ true → (b k end : ℕ) → b ≤ stationCount w → end ≡ walksTo w b → k < end
-    → k < walkCount w
-walk-inside w ok b k end listed is h = omega (arith, walks-rise w ok b (stationCount w) listed (omega arith))
+-- each of them is from there
+pub walks-begun : (w : List ℕ) (b k : ℕ) → k ≡ walksTo w (b - 1) → walksTo w (b - 1) ≤ k
+walks-begun w b k is = omega arith
 
-pub walk-arrived : (w : List ℕ) → isTimetable w ≡ true → (j : ℕ) → Arrival w j → (b : ℕ) → b ≡ station w j
-    → (k end : ℕ) → end ≡ walksTo w b → k < end → k < walkCount w
-walk-arrived w ok j a b at k end is h = walk-inside w ok b k end (arrival-listed w ok j a b at) is h
+pub walk-from-there : (w : List ℕ) (j b k end : ℕ) → b ≡ station w j → walksTo w (b - 1) ≤ k → end ≡ walksTo w b → k < end
+    → FromStation w (station w j) k
+walk-from-there w j b k end at begun is h =
+    subst (λ c. FromStation w c k) at (record { begun = begun; inside = omega arith })
 
 module _ (w q old mid new : List ℕ) (j b y : ℕ) (at : b ≡ station w j)
     (own : mid ≡ raiseTry (changeTry w q (visit j y) (stay w (station w j)) (hereSlot (station w j))) old) where
@@ -230,10 +224,11 @@ module _ (w q old mid new : List ℕ) (j b y : ℕ) (at : b ≡ station w j)
   kids-tried does = does ∙ sym kids-are
 
   -- where there are no walks at all
-  pub kids-stay : isTimetable w ≡ true → Arrival w j → (walks : ℕ) → walks ≡ walkCount w → walks ≡ 0
-      → mid ≡ flagKids w q (visit j y) old
+  pub kids-stay : isTimetable w ≡ true → Arrival w j → (chained first : List ℕ) → Departures w chained first → (o : Bool)
+      → o ≡ ltb 0 (getD first 131 0) → o ≡ false → mid ≡ flagKids w q (visit j y) old
   unfolding raiseAll walkTries
-  kids-stay ok a walks is none =
+  kids-stay ok a chained first held o is e =
+      let none = some-walks w chained first held o is e in
       let n : walksTo w b - walksTo w (b - 1) ≡ 0 =
       omega (arith, walks-rise w ok b (stationCount w) (arrival-listed w ok j a b at) (omega arith)) in
       sym (kids-are ∙ ap (λ z. tries w q j y (range (walksTo w (b - 1)) z) mid) n)

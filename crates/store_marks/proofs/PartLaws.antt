@@ -45,7 +45,7 @@ module _
       ordered = omega (arith, part-ordered w ok chain first held c few)
 
       pub end-inside : end ≤ length chain
-      end-inside = omega (arith, part-most w ok chain first held c few, held .chain-long)
+      end-inside = omega (arith, part-most w ok chain first held c few, held .standing .chain-long)
 
       pub part : slice begin end chain ≡ waiting w c
       part =

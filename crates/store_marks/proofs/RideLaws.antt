@@ -12,12 +12,11 @@ use Rattle.lists.specs.Tests.{T-left, and-false}
 use Rattle.timetable.specs.Timetable.{Stop}
 use Rattle.timetable.specs.Words.{stopAt, isTimetable}
 use Rattle.connections.specs.Rides.{mayBoard}
-use Rattle.store_stops.specs.Stopwise.{depart, points, unreached, Goes}
+use Rattle.store_stops.specs.Stopwise.{depart, points, unreached, Goes, Arrival}
 use Rattle.store_stops.specs.TimelyLaws.{timely}
 use Rattle.store_departures.specs.Held.{goes-few}
 use Rattle.store_marks.specs.Riding.{Visit, visit, onwardPoints, goesOn, visits, comesBack, labelAt}
 use Rattle.store_marks.specs.Riding.{boarding, run}
-use Rattle.store_marks.specs.Held.{Arrival}
 
 module _ (w : List ℕ) (c : ℕ) (x : List ℕ) (i : ℕ) (act : Visit → List ℕ → List ℕ) (s : List ℕ) where
   -- who cannot board arrives nowhere

@@ -20,12 +20,6 @@ pub record Changes (w caught : List ℕ) : Type 0 where
 abbrev pub Inside : (l : List ℕ) (begin end : ℕ) (x : List ℕ) → Type 0
 Inside l begin end x = (k : ℕ) → begin ≤ k → k < end → getD l k 0 < length x
 
--- a trip arrives at stop j
-pub record Arrival (w : List ℕ) (j : ℕ) : Type 0 where
-  pub i : ℕ
-  pub goes : Goes w i
-  pub is : suc i ≡ j
-
 -- a way of changing of the timetable, which is told if it is one at a station itself
 pub record Way (w : List ℕ) (own : Bool) (way : Walk) : Type 0 where
   pub listed : onFoot way ∈ waysOf w

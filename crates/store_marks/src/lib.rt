@@ -9,8 +9,9 @@ ghost use lib.Dec.{ltb};
 ghost use lib.ListN.{length, getD};
 ghost use lib.Seq.{slice};
 ghost use Rattle.timetable.specs.Words.{stationCount, walkCount, walkAt, stopAt, isTimetable};
+ghost use Rattle.timetable.specs.Walks.{FromStation};
 ghost use Rattle.connections.specs.Connections.{onFoot};
-ghost use Rattle.store_stops.specs.Stopwise.{station, stay, unreached, Goes};
+ghost use Rattle.store_stops.specs.Stopwise.{station, stay, unreached, Goes, Arrival};
 ghost use Rattle.store_stops.specs.Paid.{Labelled};
 ghost use Rattle.store_slots.specs.Slots.{hereSlot, walkSlot, walksFrom};
 ghost use Rattle.store_departures.specs.Order.{waiting, catchBy};
@@ -38,7 +39,7 @@ ghost use Rattle.store_marks.specs.Riding.{
   flagArc,
   flagKids,
 };
-ghost use Rattle.store_marks.specs.Held.{Changes, Inside, Arrival, Way};
+ghost use Rattle.store_marks.specs.Held.{Changes, Inside, Way};
 ghost use Rattle.store_marks.specs.Ways.{RidesBetween};
 ghost use Rattle.store_marks.specs.Stepping.{pair, Leads, Steps, Stepped};
 ghost use Rattle.store_marks.specs.Marking.{ArcsMarked, KidsMarked};
@@ -146,7 +147,7 @@ fn caught_at(
     if own {
         return words::word(catch, j) as usize;
     }
-    store_departures::catch_on_foot(words, chain, first, way, j) as usize
+    store_catches::catch_on_foot(words, chain, first, way, j) as usize
 }
 
 // One who arrives at stop j, at station b, having paid y, can change there, if that is where the way begins.
@@ -582,7 +583,7 @@ fn mark_own(
     kids: &mut [u8],
 )
     requires { ⌜ (isTimetable (now words) ≡ true)
-        × (length (now first) ≡ 131)
+        × (length (now first) ≡ 132)
         × Priced (now words) (now first)
         × Changes (now words) (now catch)
         × Arrival (now words) j
@@ -611,14 +612,14 @@ fn mark_walk(
 )
     requires { ⌜ (16384 ≤ length (now words)) × (isTimetable (now words) ≡ true) ⌝ }
     requires { ⌜ Departures (now words) (now chain) (now first) × Arrival (now words) j ⌝ }
-    requires { ⌜ (k < walkCount (now words)) × (y .0 < 4000000) × (length (now kids) ≡ 320) ⌝ }
+    requires { ⌜ FromStation (now words) (station (now words) j) k × (y .0 < 4000000) × (length (now kids) ≡ 320) ⌝ }
     ensures { λ _. ⌜ now (kids .exit)
         ≡ raiseTry (changeTry (now (words .entry)) (now (q .entry)) (visit j (y .0))
         (onFoot (walkAt (now (words .entry)) k)) (walkSlot (now (words .entry)) k)) (now (kids .entry)) ⌝ }
     ensures { λ _. ⌜ length (now (kids .exit)) ≡ length (now (kids .entry)) ⌝ }
 {
     let walk = timetable::walk_at(words, k);
-    let g = store_departures::catch_on_foot(words, chain, first, walk, j) as usize;
+    let g = store_catches::caught_on_foot(words, chain, first, k, j);
     let paid = query_minutes::sum(y, store_points::of_walk(walk));
     raise(kids, store_slots::walk_slot(words, k), paid, peek(q, g));
 }
@@ -657,7 +658,6 @@ fn mark_changes(
     chain: &[u16],
     first: &[u32],
     catch: &[u16],
-    walks: usize,
     q: &[u32],
     b: usize,
     j: usize,
@@ -666,14 +666,14 @@ fn mark_changes(
 )
     requires { ⌜ (16384 ≤ length (now words)) × (isTimetable (now words) ≡ true) ⌝ }
     requires { ⌜ Departures (now words) (now chain) (now first) × Changes (now words) (now catch) ⌝ }
-    requires { ⌜ (walks ≡ walkCount (now words)) × Arrival (now words) j × (b ≡ station (now words) j) ⌝ }
+    requires { ⌜ Arrival (now words) j × (b ≡ station (now words) j) ⌝ }
     requires { ⌜ (y .0 < 4000000) × (length (now kids) ≡ 320) ⌝ }
     ensures { λ _. ⌜ now (kids .exit)
         ≡ flagKids (now (words .entry)) (now (q .entry)) (visit j (y .0)) (now (kids .entry)) ⌝ }
     ensures { λ _. ⌜ length (now (kids .exit)) ≡ 320 ⌝ }
 {
     mark_own(words, first, catch, q, b, j, y, kids);
-    if walks != 0 {
+    if store_departures::has_walks(first) {
         mark_walks(words, chain, first, q, b, j, y, kids);
     }
 }
@@ -695,7 +695,6 @@ fn mark_arrival(
     chain: &[u16],
     first: &[u32],
     catch: &[u16],
-    walks: usize,
     allowed: &[u32],
     q: &[u32],
     b: usize,
@@ -706,7 +705,7 @@ fn mark_arrival(
 )
     requires { ⌜ (16384 ≤ length (now words)) × (isTimetable (now words) ≡ true) ⌝ }
     requires { ⌜ Departures (now words) (now chain) (now first) × Changes (now words) (now catch) ⌝ }
-    requires { ⌜ (walks ≡ walkCount (now words)) × (length (now allowed) ≡ 2048) ⌝ }
+    requires { ⌜ (length (now allowed) ≡ 2048) ⌝ }
     requires { ⌜ Arrival (now words) j × (b ≡ station (now words) j) × (y .0 < 4000000) ⌝ }
     requires { ⌜ (length (now arcs) ≡ 64) × (length (now kids) ≡ 320) ⌝ }
     ensures { λ _. ⌜ now (arcs .exit)
@@ -716,7 +715,7 @@ fn mark_arrival(
     ensures { λ _. ⌜ (length (now (arcs .exit)) ≡ 64) × (length (now (kids .exit)) ≡ 320) ⌝ }
 {
     mark_end(words, allowed, b, j, y, arcs);
-    mark_changes(words, chain, first, catch, walks, q, b, j, y, kids);
+    mark_changes(words, chain, first, catch, q, b, j, y, kids);
 }
 
 // One who boarded at station c arrives at stop j, having paid y. Returns the points of the ride onward.
@@ -725,7 +724,6 @@ fn mark_turn(
     chain: &[u16],
     first: &[u32],
     catch: &[u16],
-    walks: usize,
     allowed: &[u32],
     q: &[u32],
     c: usize,
@@ -736,7 +734,7 @@ fn mark_turn(
 ) -> Points
     requires { ⌜ (16384 ≤ length (now words)) × (isTimetable (now words) ≡ true) ⌝ }
     requires { ⌜ Departures (now words) (now chain) (now first) × Changes (now words) (now catch) ⌝ }
-    requires { ⌜ (walks ≡ walkCount (now words)) × (length (now allowed) ≡ 2048) ⌝ }
+    requires { ⌜ (length (now allowed) ≡ 2048) ⌝ }
     requires { ⌜ Arrival (now words) j × (y .0 < 4000000) ⌝ }
     requires { ⌜ (length (now arcs) ≡ 64) × (length (now kids) ≡ 320) ⌝ }
     ensures { λ _. ⌜ now (arcs .exit)
@@ -752,7 +750,6 @@ fn mark_turn(
         chain,
         first,
         catch,
-        walks,
         allowed,
         q,
         s.station as usize,
@@ -770,7 +767,6 @@ fn mark_on(
     chain: &[u16],
     first: &[u32],
     catch: &[u16],
-    walks: usize,
     allowed: &[u32],
     q: &[u32],
     c: usize,
@@ -781,7 +777,7 @@ fn mark_on(
 )
     requires { ⌜ (16384 ≤ length (now words)) × (isTimetable (now words) ≡ true) ⌝ }
     requires { ⌜ Departures (now words) (now chain) (now first) × Changes (now words) (now catch) ⌝ }
-    requires { ⌜ (walks ≡ walkCount (now words)) × (length (now allowed) ≡ 2048) ⌝ }
+    requires { ⌜ (length (now allowed) ≡ 2048) ⌝ }
     requires { ⌜ Goes (now words) i × (i < 2048) × (paid .0 < unreached) ⌝ }
     requires { ⌜ (length (now arcs) ≡ 64) × (length (now kids) ≡ 320) ⌝ }
     ensures { λ _. ⌜ now (arcs .exit)
@@ -798,20 +794,7 @@ fn mark_on(
     loop {
         y = query_minutes::sum(y, ride);
         j += 1;
-        ride = mark_turn(
-            words,
-            chain,
-            first,
-            catch,
-            walks,
-            allowed,
-            q,
-            c,
-            j,
-            y,
-            arcs,
-            kids,
-        );
+        ride = mark_turn(words, chain, first, catch, allowed, q, c, j, y, arcs, kids);
         if query_minutes::same(ride, NO_MORE) {
             return;
         }
@@ -824,7 +807,6 @@ fn mark_ride(
     chain: &[u16],
     first: &[u32],
     catch: &[u16],
-    walks: usize,
     allowed: &[u32],
     q: &[u32],
     x: &[u32],
@@ -835,7 +817,7 @@ fn mark_ride(
 )
     requires { ⌜ (16384 ≤ length (now words)) × (isTimetable (now words) ≡ true) ⌝ }
     requires { ⌜ Departures (now words) (now chain) (now first) × Changes (now words) (now catch) ⌝ }
-    requires { ⌜ (walks ≡ walkCount (now words)) × (length (now allowed) ≡ 2048) ⌝ }
+    requires { ⌜ (length (now allowed) ≡ 2048) ⌝ }
     requires { ⌜ Goes (now words) i × (i < 2048) × (length (now x) ≡ 2048) ⌝ }
     requires { ⌜ (length (now arcs) ≡ 64) × (length (now kids) ≡ 320) ⌝ }
     ensures { λ _. ⌜ now (arcs .exit)
@@ -855,7 +837,6 @@ fn mark_ride(
         chain,
         first,
         catch,
-        walks,
         allowed,
         q,
         c,
@@ -864,14 +845,6 @@ fn mark_ride(
         arcs,
         kids,
     );
-}
-
-// How many walks there are.
-fn walk_count(words: &[u16]) -> usize
-    requires { ⌜ (16384 ≤ length (now words)) × (isTimetable (now words) ≡ true) ⌝ }
-    ensures { λ r. ⌜ r ≡ walkCount (now (words .entry)) ⌝ }
-{
-    timetable::walks_to(words, words::word(words, 0) as usize)
 }
 
 // Raises in arcs the flag of each station where a rider who boards at station c, with labels x, ends well, and in kids
@@ -898,7 +871,6 @@ pub fn mark(
         (now (q .entry)) (now (kids .entry)) (now (kids .exit)) ⌝ }
     ensures { λ _. ⌜ (length (now (arcs .exit)) ≡ 64) × (length (now (kids .exit)) ≡ 320) ⌝ }
 {
-    let walks = walk_count(words);
     let mut k = begin_of(first, c);
     let end = begin_of(first, c + 1);
     while k < end {
@@ -907,7 +879,6 @@ pub fn mark(
             chain,
             first,
             catch,
-            walks,
             allowed,
             q,
             x,

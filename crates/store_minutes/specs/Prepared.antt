@@ -3,14 +3,14 @@
 use mathlib.Core.Path.{_≡_, sym, ap, subst, _∙_}
 use mathlib.Core.Bool.{true}
 use mathlib.Core.List.{List}
-use Prim.Native.Nat.{ℕ, zero, suc, _+_, _-_, _≤_}
+use Prim.Native.Nat.{ℕ, zero, suc, _+_, _-_, _≤_, _<_}
 use native.Mathlib.Nat.{add-zero}
 use native.Mathlib.Omega.{arith}
-use lib.ListN.{length, getD, take, drop, length-take}
-use lib.Seq.{slice, take-take}
+use lib.ListN.{length, getD, take, drop, set, length-set, length-take}
+use lib.Seq.{slice, take-take, getD-set-same, getD-set-other}
 use Rattle.words.specs.Put.{put, take-put}
 use Rattle.lists.specs.Lists.{_∈_, Distinct}
-use Rattle.timetable.specs.Words.{stationCount, isTimetable}
+use Rattle.timetable.specs.Words.{stationCount, walkCount, isTimetable}
 use Rattle.timetable.specs.Access.{stations-few}
 use Rattle.store_stops.specs.Stopwise.{station}
 use Rattle.store_stops.specs.TimelyLaws.{timely}
@@ -18,7 +18,7 @@ use Rattle.store_departures.specs.Order.{beginOf, order, chain, arrivals, stati
 use Rattle.store_departures.specs.Keys.{Begins}
 use Rattle.store_departures.specs.Legs.{byArrival}
 use Rattle.store_departures.specs.Catches.{Caught}
-use Rattle.store_departures.specs.Held.{Priced, Front, Departures}
+use Rattle.store_departures.specs.Held.{Priced, Front, Standing, KeptAll, Departures}
 use Rattle.store_departures.specs.InOrderLaws.{in-order}
 use Rattle.store_departures.specs.Parts.{
   begin-next,
@@ -31,32 +31,45 @@ use Rattle.store_departures.specs.Parts.{
 }
 use Rattle.store_departures.specs.Parts.{arriving-distinct, arriving-behind, leaving-few, order-length}
 use Rattle.store_penalties.specs.Arranged.{Arranged}
-use Rattle.store_frontier.specs.Arrivals.{Arrivals, part}
+use Rattle.store_frontier.specs.Arrivals.{Tells, Arrivals, part}
 use Rattle.store_frontier.specs.Routes.{Routes}
 use Rattle.store_marks.specs.Held.{Changes}
 
 -- ---- the departures by minute
-pub chain-front : (w chained old : List ℕ) → chained ≡ put 0 (chain w) old → take (length (chain w)) chained ≡ chain w
-chain-front w chained old is = ap (take (length (chain w))) is ∙ take-put (chain w) old
+pub record Ordered (w listed : List ℕ) (n : ℕ) : Type 0 where
+  pub departing : take n listed ≡ order w
+  pub counted : n ≡ length (order w)
+  pub long : length listed ≡ 2048
 
-module _ (w : List ℕ) (long : 16384 ≤ length w) (yes : isTimetable w ≡ true) (listed : List ℕ) (n : ℕ)
-    (counted : n ≡ length (order w)) (old : List ℕ) (is : listed ≡ put 0 (order w) old) where
-  pub order-first : take n listed ≡ order w
-  order-first = ap (λ k. take k listed) counted ∙ ap (take (length (order w))) is ∙ take-put (order w) old
+module _ (w listed : List ℕ) (n : ℕ) (counted : n ≡ length (order w)) (old : List ℕ) (is : listed ≡ put 0 (order w) old)
+  where
+    pub order-first : take n listed ≡ order w
+    order-first = ap (λ k. take k listed) counted ∙ ap (take (length (order w))) is ∙ take-put (order w) old
 
-  pub routes : (caught : List ℕ) → length listed ≡ 2048 → Caught w caught → length caught ≡ 2048
-      → Routes w listed n caught
-  routes caught l c lc =
-      record {
-        long = long;
-        accepted = yes;
-        timely = timely w yes;
-        ordered = in-order w yes;
-        departing = order-first;
-        within = omega (arith, order-length w yes, leaving-few w yes, timely w yes .stops);
-        caught = c .is;
-        long-first = lc;
-      }
+    pub ordered : length listed ≡ 2048 → Ordered w listed n
+    ordered long = record { departing = order-first; counted = counted; long = long }
+
+pub routes : (w : List ℕ) → 16384 ≤ length w → isTimetable w ≡ true → (listed : List ℕ) (n : ℕ) → Ordered w listed n
+    → (caught : List ℕ) → Caught w caught → length caught ≡ 2048 → Routes w listed n caught
+routes w long ok listed n o caught c room =
+    record {
+      long = long;
+      accepted = ok;
+      timely = timely w ok;
+      ordered = in-order w ok;
+      departing = o .departing;
+      within =
+          omega (
+            arith,
+            o .counted,
+            o .long,
+            order-length w ok,
+            leaving-few w ok,
+            timely w ok .stops,
+          );
+      caught = c .is;
+      long-first = room;
+    }
 
 module _ (w listed : List ℕ) (n : ℕ) (caught : List ℕ) (r : Routes w listed n caught) where
   pub long-enough : 16384 ≤ length w
@@ -82,16 +95,58 @@ module _ (w listed : List ℕ) (n : ℕ) (caught : List ℕ) (r : Routes w liste
   changes = record { caught-long = r .long-first; caught-is = r .caught }
 
 -- ---- the departures by station
-pub departures-of : (w chained first old : List ℕ) → chained ≡ put 0 (chain w) old → length chained ≡ 2048
-    → (begun : List ℕ) → Begins (station w) 65 (order w) begun → Front 66 begun first → Priced w first
-    → length first ≡ 131 → Departures w chained first
-departures-of w chained first old is long begun begins front priced long-first =
+pub standing-of : (w chained first old : List ℕ) → chained ≡ put 0 (chain w) old → length chained ≡ 20480
+    → Begins (station w) 65 (order w) first → 65 < length first → Standing w chained first
+standing-of w chained first old is long begins listed =
     record {
       chain-long = long;
-      first-long = long-first;
-      chain-is = chain-front w chained old is;
-      first-is = λ m h. front .same m (omega arith) ∙ begins .begin m h;
-      priced = priced;
+      chain-is = ap (take (length (chain w))) is ∙ take-put (chain w) old;
+      first-listed = listed;
+      begins = begins;
+    }
+
+-- what changes cost, and how many walks there are, is written behind where departures begin
+pub record PricedBehind (w begun all : List ℕ) : Type 0 where
+  pub front : Front 66 begun all
+  pub priced : Priced w all
+  pub walks-counted : getD all 131 0 ≡ walkCount w
+  pub long : length all ≡ 132
+
+pub priced-behind : (w : List ℕ) → isTimetable w ≡ true → (begun first all : List ℕ) → Front 66 begun first
+    → Priced w first → length first ≡ 132 → all ≡ set first 131 (walkCount w) → length all ≡ 132
+    → PricedBehind w begun all
+priced-behind w ok begun first all front priced room is long =
+    record {
+      front = record { same = λ m h. as-was m (omega arith) ∙ front .same m h };
+      priced =
+          record {
+            price = λ c h g. as-was (66 + c) (omega (arith, stations-few w ok)) ∙ priced .price c h g;
+          };
+      walks-counted = rw is (getD-set-same first 131 (walkCount w) 0 (omega arith));
+      long = long;
+    }
+  where
+    as-was : (m : ℕ) → m < 131 → getD all m 0 ≡ getD first m 0
+    as-was m h = rw is (getD-set-other first 131 m (walkCount w) 0 (λ e. omega arith))
+
+pub departures-of : (w chained begun all : List ℕ) → Standing w chained begun → KeptAll w chained
+    → PricedBehind w begun all → Departures w chained all
+departures-of w chained begun all stands kept behind =
+    record {
+      standing =
+          record {
+            chain-long = stands .chain-long;
+            chain-is = stands .chain-is;
+            first-listed = omega (arith, behind .long);
+            begins =
+                record {
+                  begin = λ m h. behind .front .same m (omega arith) ∙ stands .begins .begin m h;
+                };
+          };
+      all-kept = kept;
+      first-long = behind .long;
+      priced = behind .priced;
+      walks-counted = behind .walks-counted;
     }
 
 -- ---- where the parts of a list by key begin and end
@@ -153,10 +208,11 @@ module _ (w : List ℕ) (yes : isTimetable w ≡ true) (listed first old : List 
           length-take (length (arrivals w)) listed,
         )
 
-  pub arrivals-of : (k : ℕ) → length first ≡ k → k ≡ 66 → Arrivals w listed first
-  arrivals-of k long e =
+  listed-of : length first ≡ 67 → Tells w (getD first 66 0) → Arrivals w listed first
+  listed-of long tells =
       record {
-        long-first = long ∙ e;
+        long-first = long;
+        tells = tells;
         rises = (λ c s h. part-rises c (few c h));
         inside = (λ c s h. part-inside c (few c h));
         within =
@@ -177,3 +233,16 @@ module _ (w : List ℕ) (yes : isTimetable w ≡ true) (listed first old : List 
     where
       few : (c : ℕ) → c ≤ stationCount w → c ≤ 64
       few c h = omega (arith, stations-few w yes)
+
+-- and whether riders may alight at all stops, behind where the arrivals of stations begin
+pub arrivals-of : (w : List ℕ) → isTimetable w ≡ true → (listed begun all old : List ℕ) (x : ℕ)
+    → listed ≡ put 0 (arrivals w) old → Begins (station w) 65 (byArrival w) begun → length begun ≡ 67 → Tells w x
+    → all ≡ set begun 66 x → Arrivals w listed all
+arrivals-of w ok listed begun all old x is begins long tells e =
+    listed-of w ok listed all old is
+    (record {
+      begin = λ m h.
+          ap (λ l. getD l m 0) e ∙ getD-set-other begun 66 m x 0 (λ q. omega arith) ∙ begins .begin m h;
+    })
+    (ap length e ∙ length-set begun 66 x ∙ long)
+    (subst (Tells w) (sym (ap (λ l. getD l 66 0) e ∙ getD-set-same begun 66 x 0 (omega arith))) tells)

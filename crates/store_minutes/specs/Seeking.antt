@@ -158,7 +158,7 @@ module _ (w order : List ℕ) (n : ℕ) (caught : List ℕ) (routes : Routes w o
     departs = waiting-out w a (getD chained p 0) (part-in w yes chained first held a few p begun inside)
 
     pub place-inside : p < length chained
-    place-inside = omega (arith, part-most w yes chained first held a few, held .chain-long)
+    place-inside = omega (arith, part-most w yes chained first held a few, held .standing .chain-long)
 
     pub stop-few : getD chained p 0 < 2048
     stop-few = omega (arith, goes-few w yes (getD chained p 0) (departs .0))
@@ -233,7 +233,7 @@ module _ (w order : List ℕ) (n : ℕ) (caught : List ℕ) (routes : Routes w o
       let there : g ∈ waiting w a =
       subst (λ c. g ∈ waiting w c) (o .source .here) (waiting-in w yes g (o .source .goes)) in
       let k =
-      placed chained from end g places-ordered (omega (arith, places-few, held .chain-long))
+      placed chained from end g places-ordered (omega (arith, places-few, held .standing .chain-long))
       (subst (λ l. g ∈ l) (sym (part-is w yes chained first held a few)) there) in
       let e : o .minute ≡ depart w (getD chained (k .r) 0) = sym (o .source .leaves) ∙ ap (depart w) (k .is) in
       record { r = k .r; begun = k .from; inside = k .to; at = subst At e (o .at) }

@@ -1,34 +1,36 @@
 -- The ways of changing that are open on arrival at a stop, as the code goes through them: at the station itself, and by
 -- one walk after the other.
-use mathlib.Core.Path.{_≡_, sym, ap, subst, _∙_}
-use mathlib.Core.Bool.{true}
+use mathlib.Core.Path.{_≡_, subst, _∙_}
+use mathlib.Core.Bool.{Bool, true, false}
 use mathlib.Core.List.{List}
 use Prim.Native.Nat.{ℕ, _+_, _-_, _^_, _≤_, _<_}
 use native.Mathlib.Omega.{arith}
+use lib.Dec.{ltb}
 use lib.ListN.{getD}
 use Rattle.timetable.specs.Timetable.{Walk}
-use Rattle.timetable.specs.Words.{stationCount, walksTo, walkCount, walkAt, isTimetable}
+use Rattle.timetable.specs.Words.{stationCount, walksTo, walkAt, isTimetable}
+use Rattle.timetable.specs.Walks.{FromStation}
 use Rattle.connections.specs.Connections.{onFoot}
-use Rattle.store_stops.specs.Stopwise.{station, changePoints, stay, unreached}
-use Rattle.store_stops.specs.OpenWays.{Open, ByWalk, WalkTo, walked-none, walked-more, open-ways, walk-cheap}
+use Rattle.store_stops.specs.Stopwise.{station, changePoints, stay, unreached, Arrival}
+use Rattle.store_stops.specs.OpenWays.{Open, ByWalk, WalkTo, walked-none, walked-more, open-ways, walk-cheap, never-walked}
 use Rattle.store_departures.specs.Order.{catchBy}
-use Rattle.store_departures.specs.Held.{Departures}
+use Rattle.store_departures.specs.Held.{Departures, some-walks}
 use Rattle.store_points.specs.Lowered.{lowered}
 use Rattle.store_penalties.specs.Offering.{Offering, offering-none, offering-one, offering-as, offering-both}
 
 -- one walk
-module _ (w : List ℕ) (yes : isTimetable w ≡ true) (k : ℕ) (there : k < walkCount w) (walk : Walk)
-    (is : walk ≡ walkAt w k) where
-  pub walk-fits : (u x : ℕ) → u ≤ unreached → x ≡ walk .points → u + x < 2 ^ 32
-  walk-fits u x h e = omega (arith, walk-cheap w yes k there walk is)
+module _ (w : List ℕ) (k : ℕ) (walk : Walk) (is : walk ≡ walkAt w k) where
+  pub walk-fits : isTimetable w ≡ true → (j : ℕ) → Arrival w j → FromStation w (station w j) k → (u x : ℕ)
+      → u ≤ unreached → x ≡ walk .points → u + x < 2 ^ 32
+  walk-fits ok j arrives from u x h e = omega (arith, walk-cheap w ok j k arrives from walk is)
 
-  pub walked : (j u f x sum : ℕ) (q q′ : List ℕ) → f ≡ catchBy w (onFoot walk) j → x ≡ walk .points → sum ≡ u + x
-      → q′ ≡ lowered f sum q → Offering w j u (ByWalk w k) q q′
+  pub walked : (j u f x sum : ℕ) (q q′ : List ℕ) → f ≡ catchBy w (onFoot (walkAt w k)) j → x ≡ walk .points
+      → sum ≡ u + x → q′ ≡ lowered f sum q → Offering w j u (ByWalk w k) q q′
   walked j u f x sum q q′ caught costs adds lowers =
-      offering-as w j u (λ way. way ≡ onFoot walk) q q′
-      (offering-one w j u (onFoot walk) q q′ (rw (lowers, adds, costs, caught)))
+      offering-as w j u (λ way. way ≡ onFoot (walkAt w k)) q q′
+      (offering-one w j u (onFoot (walkAt w k)) q q′ (rw (lowers, adds, costs, is, caught)))
       (ByWalk w k)
-      (λ way. (λ e. record { is = e ∙ ap onFoot is }, λ b. b .is ∙ ap onFoot (sym is)))
+      (λ way. (λ e. record { is = e }, λ b. b .is))
 
 -- all walks from a station
 module _ (w : List ℕ) (c j u : ℕ) where
@@ -61,3 +63,12 @@ module _ (w : List ℕ) (c j u : ℕ) where
         walks
         (Open w j)
         (open-ways w c accepted some few j here)
+
+    -- where there are no walks, that is all
+    pub own-open : (b : Bool) → b ≡ ltb 0 (getD first 131 0) → b ≡ false → (caught : List ℕ) (f x sum : ℕ) (q q′ : List ℕ)
+        → isTimetable w ≡ true → station w j ≡ c → getD caught j 0 ≡ catchBy w (stay w c) j → f ≡ getD caught j 0
+        → x ≡ getD first (66 + c) 0 → sum ≡ u + x → q′ ≡ lowered f sum q → Offering w j u (Open w j) q q′
+    own-open b is e caught f x sum q q′ accepted here catches reads price adds lowers =
+        all-open caught f x sum q q′ q′ accepted here catches reads price adds lowers
+        (offering-none w j u (WalkTo w c (walksTo w c)) q′
+        (never-walked w accepted c few (some-walks w chain first held b is e)))

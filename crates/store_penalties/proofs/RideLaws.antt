@@ -1,15 +1,15 @@
 -- A ride as the code takes it: s is the stop where it begins.
-use mathlib.Core.Path.{_≡_}
+use mathlib.Core.Path.{_≡_, sym}
 use mathlib.Core.Bool.{true}
 use mathlib.Core.List.{List}
 use Prim.Native.Nat.{ℕ, suc, _+_, _^_, _≤_, _<_, min}
 use native.Mathlib.Numerals.{add-one}
 use native.Mathlib.Omega.{arith}
 use lib.ListN.{length, getD, set}
-use Rattle.timetable.specs.Timetable.{Stop, lastMinute}
+use Rattle.timetable.specs.Timetable.{Stop}
 use Rattle.timetable.specs.Words.{stationCount, stopAt, isTimetable}
 use Rattle.connections.specs.Rides.{mayBoard}
-use Rattle.store_stops.specs.Stopwise.{station, arrive, depart, changePoints, stay, unreached}
+use Rattle.store_stops.specs.Stopwise.{station, depart, changePoints, stay, unreached, Arrival}
 use Rattle.store_stops.specs.OpenWays.{Open}
 use Rattle.store_departures.specs.Order.{catchBy}
 use Rattle.store_points.specs.Lowered.{lowered}
@@ -35,8 +35,8 @@ module _ (w caught : List ℕ) (i : ℕ) (v q : List ℕ) (r : Departing w caugh
   pub next-most : station w (i + 1) ≤ stationCount w
   next-most = rw (add-one i) (r .timely .next-listed i (r .goes))
 
-  pub next-timely : arrive w (i + 1) ≤ lastMinute
-  next-timely = rw (add-one i) (r .timely .minute i (r .goes))
+  pub next-arrives : Arrival w (i + 1)
+  next-arrives = record { i = i; goes = r .goes; is = sym (add-one i) }
 
   pub next-caught : getD caught (i + 1) 0 ≡ catchBy w (stay w (station w (i + 1))) (i + 1)
   next-caught = rw (add-one i) (r .catches)

@@ -4,10 +4,10 @@ ghost use mathlib.Core.Path.{_≡_};
 ghost use mathlib.Core.Bool.{true};
 ghost use Prim.Native.Nat.{_+_, _≤_, _<_, min};
 ghost use lib.ListN.{length, getD, set, take};
-ghost use Rattle.timetable.specs.Timetable.{lastMinute};
-ghost use Rattle.timetable.specs.Words.{stationCount, stopAt, walkCount, walksTo, isTimetable};
+ghost use Rattle.timetable.specs.Words.{stationCount, stopAt, walksTo, isTimetable};
+ghost use Rattle.timetable.specs.Walks.{FromStation};
 ghost use Rattle.connections.specs.Rides.{mayBoard};
-ghost use Rattle.store_stops.specs.Stopwise.{unreached, station, arrive, changePoints, stay};
+ghost use Rattle.store_stops.specs.Stopwise.{unreached, station, changePoints, stay, Arrival};
 ghost use Rattle.store_stops.specs.OpenWays.{Open, ByWalk, WalkTo};
 ghost use Rattle.store_stops.specs.Settled.{Settled};
 ghost use Rattle.store_departures.specs.Order.{catchBy};
@@ -84,9 +84,8 @@ fn walk(words: &[u16], chain: &[u16], first: &[u32], k: usize, j: usize, u: Poin
     requires { ⌜ (16384 ≤ length (now words))
         × (isTimetable (now words) ≡ true)
         × Departures (now words) (now chain) (now first)
-        × (k < walkCount (now words))
-        × (j < 2048)
-        × (arrive (now words) j ≤ lastMinute)
+        × Arrival (now words) j
+        × FromStation (now words) (station (now words) j) k
         × (u .0 ≤ unreached) ⌝ }
     ensures { λ _. ⌜ Offering
         (now (words .entry))
@@ -98,7 +97,7 @@ fn walk(words: &[u16], chain: &[u16], first: &[u32], k: usize, j: usize, u: Poin
     ensures { λ _. ⌜ length (now (q .exit)) ≡ length (now (q .entry)) ⌝ }
 {
     let walk = timetable::walk_at(words, k);
-    let f = store_departures::catch_on_foot(words, chain, first, walk, j) as usize;
+    let f = store_catches::caught_on_foot(words, chain, first, k, j);
     store_points::lower(q, f, query_minutes::sum(u, store_points::of_walk(walk)));
 }
 
@@ -117,8 +116,8 @@ fn walk_all(
         × Departures (now words) (now chain) (now first)
         × (1 ≤ c)
         × (c ≤ stationCount (now words))
-        × (j < 2048)
-        × (arrive (now words) j ≤ lastMinute)
+        × Arrival (now words) j
+        × (station (now words) j ≡ c)
         × (u .0 ≤ unreached) ⌝ }
     ensures { λ _. ⌜ Offering
         (now (words .entry))
@@ -154,8 +153,8 @@ fn change(
         × (1 ≤ c)
         × (c ≤ stationCount (now words))
         × (j < 2048)
+        × Arrival (now words) j
         × (station (now words) j ≡ c)
-        × (arrive (now words) j ≤ lastMinute)
         × (changePoints (now words) c ≤ 1000)
         × (u .0 ≤ unreached)
         × (2048 ≤ length (now catches))
@@ -175,7 +174,9 @@ fn change(
         f,
         query_minutes::sum(u, store_departures::change_points(first, c)),
     );
-    walk_all(words, chain, first, c, j, u, q);
+    if store_departures::has_walks(first) {
+        walk_all(words, chain, first, c, j, u, q);
+    }
 }
 
 // Who arrives at stop j has paid p, and can change in all ways that are open there.
@@ -193,9 +194,9 @@ fn arrive(
         × (isTimetable (now words) ≡ true)
         × Departures (now words) (now chain) (now first)
         × (j < 2048)
+        × Arrival (now words) j
         × (1 ≤ station (now words) j)
         × (station (now words) j ≤ stationCount (now words))
-        × (arrive (now words) j ≤ lastMinute)
         × (changePoints (now words) (station (now words) j) ≤ 1000)
         × (2048 ≤ length (now catches))
         × (2048 ≤ length (now v))

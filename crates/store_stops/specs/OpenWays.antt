@@ -13,8 +13,9 @@ use Rattle.timetable.specs.Words.{stationCount, walksTo, walkCount, walkAt, isT
 use Rattle.timetable.specs.Access.{stations-few}
 use Rattle.timetable.specs.Walks.{FromStation, walks-few, walks-rise, good-walk, walk-from}
 use Rattle.connections.specs.Connections.{Change, onFoot}
-use Rattle.store_stops.specs.Stopwise.{station, stay, waysOf}
-use Rattle.store_stops.specs.Ways.{stay-way, from-way, each-way}
+use Rattle.store_stops.specs.Stopwise.{station, stay, waysOf, Arrival}
+use Rattle.store_stops.specs.Ways.{from-few, stay-way, from-way, each-way}
+use Rattle.store_stops.specs.TimelyLaws.{timely}
 
 module _ (w : List ℕ) where
   pub record Open (j : ℕ) (way : Change) : Type 0 where
@@ -94,19 +95,26 @@ module _ (w : List ℕ) where
 
   -- ---- as code goes through the walks
   module _ (yes : isTimetable w ≡ true) where
-    module _ (k : ℕ) (there : k < walkCount w) where
-      pub walk-listed : k < 256
-      walk-listed = omega (arith, walks-few w yes)
+    module _ (j k : ℕ) (arrives : Arrival w j) (from : FromStation w (station w j) k) where
+      pub walk-listed : k < walkCount w
+      walk-listed =
+          from-few w yes (station w j) k
+          (subst (λ i. station w i ≤ stationCount w) (arrives .is)
+          (timely w yes .next-listed (arrives .i) (arrives .goes)))
+          from
 
-      module _ (walk : Walk) (is : walk ≡ walkAt w k) where
-        pub walk-near : walk .to ≤ 64
-        walk-near = rw is (omega (arith, good-walk w yes k there .to-last, stations-few w yes))
+      pub walk-within : k < 256
+      walk-within = omega (arith, walk-listed, walks-few w yes)
 
-        pub walk-cheap : walk .points ≤ 1000
-        walk-cheap = rw is (good-walk w yes k there .points-most)
+      pub walk-cheap : (walk : Walk) → walk ≡ walkAt w k → walk .points ≤ 1000
+      walk-cheap walk is = rw is (good-walk w yes k walk-listed .points-most)
 
     -- those of station c
     module _ (c : ℕ) (few : c ≤ stationCount w) where
+      pub never-walked : walkCount w ≡ 0 → (way : Change) → ¬ WalkTo c (walksTo w c) way
+      never-walked none way h =
+          omega (arith, h .inside, walks-rise w yes c (stationCount w) few (omega arith))
+
       pub station-most : c ≤ 64
       station-most = omega (arith, stations-few w yes)
 
@@ -119,5 +127,7 @@ module _ (w : List ℕ) where
       pub walks-ordered : (k end : ℕ) → k ≡ walksTo w (c - 1) → end ≡ walksTo w c → k ≤ end
       walks-ordered k end e f = omega (arith, walks-rise w yes (c - 1) c (omega arith) few)
 
-      pub walk-there : (k end : ℕ) → end ≡ walksTo w c → k < end → k < walkCount w
-      walk-there k end e h = omega (arith, walks-rise w yes c (stationCount w) few (omega arith))
+      pub walk-from-here : (j k end : ℕ) → station w j ≡ c → walksTo w (c - 1) ≤ k → end ≡ walksTo w c → k < end
+          → FromStation w (station w j) k
+      walk-from-here j k end here begun e h =
+          subst (λ b. FromStation w b k) (sym here) (record { begun = begun; inside = omega arith })

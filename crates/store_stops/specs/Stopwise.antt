@@ -58,6 +58,12 @@ module _ (w : List ℕ) where
     pub begun : startAt w trip ≤ i
     pub inside : suc i < startAt w (trip + 1)
 
+  -- a trip arrives at stop j
+  pub record Arrival (j : ℕ) : Type 0 where
+    pub i : ℕ
+    pub goes : Goes i
+    pub is : suc i ≡ j
+
   -- riders may board there, and may alight at a stop: "no ride may use a stop against its mark"
   pub record Boards (i : ℕ) : Type 0 where
     pub goes : Goes i

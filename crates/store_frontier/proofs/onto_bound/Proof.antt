@@ -3,7 +3,7 @@ use borrow.Author.Needs.{needs}
 use Rattle.timetable.specs.Access.{stations-few}
 use Rattle.store_stops.specs.OpenWays.{station-most}
 use Rattle.store_departures.specs.Held.{held-first}
-use Rattle.store_frontier.proofs.OntoLaws.{station-some, station-listed, here-inside, onto-bounds}
+use Rattle.store_frontier.proofs.OntoLaws.{station-some, station-listed, station-here, here-inside, onto-bounds, own-bounds}
 use Rattle.store_frontier.proofs.onto_bound.Statement.{statement}
 use Rattle.store_frontier.proofs.onto_bound.Tie as tie
 
@@ -17,6 +17,7 @@ onto-bound-spec =
     (λ c. search needs)
     (λ c κs. (search held-first, search (station-most, station-listed)))
     (λ c κs. search here-inside)
+    (λ c κs. search held-first)
     (λ c κs. (
       search needs,
       search needs,
@@ -25,7 +26,8 @@ onto-bound-spec =
       search station-some,
       search station-listed,
       search needs,
-      search needs,
+      search station-here,
     ))
     (λ c κs. search needs)
-    (λ c. search onto-bounds))
+    (λ c. search onto-bounds)
+    (λ c. search own-bounds))

@@ -1,5 +1,4 @@
 -- The most that the walks of the station up to place k allow.
-use mathlib.Core.Path.{_≡_}
 use Prim.Native.Nat.{_-_, _≤_}
 use borrow.Author.Needs.{needs}
 use Rattle.timetable.specs.Words.{walksTo}
@@ -10,7 +9,7 @@ use Rattle.store_stops.specs.OpenWays.{
   before-most,
   walks-begin,
   walks-ordered,
-  walk-there,
+  walk-from-here,
 }
 use Rattle.store_frontier.specs.Bounding.{Bounding}
 use Rattle.store_frontier.proofs.OntoLaws.{walks-first, walks-more, walks-last}
@@ -51,9 +50,8 @@ walks-bound-spec =
       search needs,
       search needs,
       search needs,
-      search walk-there,
       search needs,
-      search needs,
+      search walk-from-here,
     ))
     (λ c κs. search needs)
     (λ c. search needs)

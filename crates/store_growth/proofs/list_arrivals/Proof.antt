@@ -1,4 +1,5 @@
--- What the order of arrivals is, part by part.
+-- What the order of arrivals is, part by part, and whether riders may alight everywhere.
+use mathlib.Core.Path.{refl, _∙_}
 use borrow.Author.Needs.{needs}
 use Rattle.store_stops.specs.TimelyLaws.{timely}
 use Rattle.store_minutes.specs.Prepared.{arrivals-of}
@@ -10,11 +11,20 @@ chain-arrivals-requires c κs = (search needs, search needs, search timely, sear
 
 returns : tie.Need-returns
 returns c =
-    let listed = c .before .before .before .before .before .before in
-    let b = listed .before .before .before .before .before .before .before .before in
-    let e = listed .chain-arrivals .ensures in
-    arrivals-of _ (b .pre .1) _ _ _ (e .0) (e .1 .1 .1 .0) _ (e .1 .1 .1 .1 .0) (b .pre .4)
+    let called = c .before .before .before .before .before .before .before in
+    let entry = called .before .before .before .before .before .before .before .before in
+    let listed = called .chain-arrivals .ensures in
+    arrivals-of _ (entry .pre .1) _ _ _ _ _ (listed .0) (listed .1 .1 .1 .0) (listed .1 .1 .1 .1 .0 ∙ entry .pre .4)
+    (c .closes .ensures) refl
 
 pub list-arrivals-spec : {M : Type 1} → statement M
 list-arrivals-spec =
-    tie.close (tie.spec chain-arrivals-requires (λ c. search needs) (λ c. search needs) (λ c. search needs) returns)
+    tie.close
+    (tie.spec
+    chain-arrivals-requires
+    (λ c κs. (search needs, search needs))
+    (λ c. search needs)
+    (λ c. search needs)
+    (λ c. search needs)
+    (λ c. search needs)
+    returns)

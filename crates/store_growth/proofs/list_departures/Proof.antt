@@ -1,18 +1,13 @@
--- The order of departures, by minute and by station, and the departures caught.
+-- The order of departures, by minute and by station.
+use native.Mathlib.Omega.{arith}
 use borrow.Author.Needs.{needs}
 use Rattle.store_stops.specs.TimelyLaws.{timely}
-use Rattle.store_minutes.specs.Prepared.{chain-front, order-first, routes, departures-of}
+use Rattle.store_minutes.specs.Prepared.{order-first, ordered, standing-of}
 use Rattle.store_growth.proofs.list_departures.Statement.{statement}
 use Rattle.store_growth.proofs.list_departures.Tie as tie
 
 order-departures-requires : tie.Need-order-departures-requires
-order-departures-requires c κs = (
-  search needs,
-  search needs,
-  search timely,
-  search needs,
-  search needs,
-)
+order-departures-requires c κs = (search needs, search needs, search timely, search needs, search needs)
 
 chain-departures-requires : tie.Need-chain-departures-requires
 chain-departures-requires c κs = (
@@ -26,23 +21,17 @@ chain-departures-requires c κs = (
   search needs,
 )
 
-find-catches-requires : tie.Need-find-catches-requires
-find-catches-requires c κs = (
-  search needs,
-  search needs,
-  search timely,
-  search needs,
-  chain-front _ _ _ (c .before .before .before .before .before .before .before .chain-departures .ensures .0),
-  search needs,
-  search needs,
-  search needs,
-)
-
-price-changes-requires : tie.Need-price-changes-requires
-price-changes-requires c κs = (search needs, search needs, search needs)
-
 returns : tie.Need-returns
-returns c = (search routes, search departures-of)
+returns c =
+    let called = c .before .before .before .before in
+    let chained = called .chain-departures .ensures in
+    let listed = called .before .before .before .before .before .before .before .before in
+    let entry = listed .before .before .before .before .before .before .before .before in (
+      search ordered,
+      standing-of _ _ _ _ (chained .0) (chained .1 .0) (chained .1 .1 .0)
+          (omega (arith, chained .1 .1 .1, entry .pre .5)),
+      search needs,
+    )
 
 pub list-departures-spec : {M : Type 1} → statement M
 list-departures-spec =
@@ -50,9 +39,6 @@ list-departures-spec =
     (tie.spec
     order-departures-requires
     chain-departures-requires
-    find-catches-requires
-    price-changes-requires
-    (λ c. search needs)
     (λ c. search needs)
     (λ c. search needs)
     (λ c. search needs)

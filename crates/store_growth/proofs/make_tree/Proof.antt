@@ -1,11 +1,12 @@
 -- The arrays are as long as the calls ask for.
 use borrow.Author.Needs.{needs}
+use Rattle.store_minutes.specs.Prepared.{routes}
 use Rattle.store_growth.proofs.make_tree.Statement.{statement}
 use Rattle.store_growth.proofs.make_tree.Tie as tie
 
 grow-tree-requires : tie.Need-grow-tree-requires
 grow-tree-requires c κs = (
-  search needs,
+  search routes,
   search needs,
   search needs,
   search needs,
@@ -21,8 +22,11 @@ make-tree-spec =
     (λ c. search needs)
     (λ c. search needs)
     (λ c. search needs)
+    (λ c κs. search needs)
     (λ c. search needs)
     (λ c. search needs)
+    (λ c. search needs)
+    (λ c κs. search needs)
     (λ c. search needs)
     (λ c. search needs)
     (λ c. search needs)

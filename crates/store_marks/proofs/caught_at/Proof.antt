@@ -1,5 +1,6 @@
 -- The array has the departures caught by changes at the station itself.
 use borrow.Author.Needs.{needs}
+use Rattle.store_departures.specs.Held.{held-standing}
 use Rattle.store_marks.proofs.ArrivalLaws.{arrival-room, arrival-few, arrival-minute, way-near, caught-own}
 use Rattle.store_marks.proofs.caught_at.Statement.{statement}
 use Rattle.store_marks.proofs.caught_at.Tie as tie
@@ -8,7 +9,7 @@ catch-on-foot-requires : tie.Need-catch-on-foot-requires
 catch-on-foot-requires c κs = (
   search needs,
   search needs,
-  search needs,
+  search held-standing,
   search arrival-few,
   search arrival-minute,
   search way-near,

@@ -13,7 +13,7 @@ use Rattle.store_marks.proofs.mark.Statement.{statement}
 use Rattle.store_marks.proofs.mark.Tie as tie
 
 abbrev Inv-loop : tie.InvT-loop
-Inv-loop words chain first catch allowed q x c arcs₀ kids₀ walks k₀ end arcs kids k =
+Inv-loop words chain first catch allowed q x c arcs₀ kids₀ k₀ end arcs kids k =
     (getD first c 0 ≤ k) × (k ≤ end) × (end ≤ length chain) × (length arcs ≡ 64) × (length kids ≡ 320)
     × (run (flagArc words allowed) (boardings words c x (waiting words c)) arcs₀
     ≡ run (flagArc words allowed) (boardings words c x (slice k end chain)) arcs)
@@ -21,7 +21,7 @@ Inv-loop words chain first catch allowed q x c arcs₀ kids₀ walks k₀ end ar
     ≡ run (flagKids words q) (boardings words c x (slice k end chain)) kids)
 
 abbrev μ-loop : tie.MeasureT-loop
-μ-loop words chain first catch allowed q x c arcs₀ kids₀ walks k₀ end arcs kids k = end - k
+μ-loop words chain first catch allowed q x c arcs₀ kids₀ k₀ end arcs kids k = end - k
 
 loop-holds : tie.Need-loop-holds Inv-loop μ-loop
 loop-holds c = (
@@ -58,7 +58,6 @@ mark-spec =
     (tie.spec
     Inv-loop
     μ-loop
-    (λ c κs. search needs)
     (λ c κs. search first-room)
     (λ c. record { fits = search next-fits })
     (λ c κs. search next-room)

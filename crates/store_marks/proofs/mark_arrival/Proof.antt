@@ -8,7 +8,7 @@ mark-end-requires c κs = ((search needs, search needs, search needs), search ne
 
 mark-changes-requires : tie.Need-mark-changes-requires
 mark-changes-requires c κs =
-    (search needs, (search needs, ((search needs, search needs, search needs), search needs)))
+    (search needs, (search needs, ((search needs, search needs), search needs)))
 
 pub mark-arrival-spec : {M : Type 1} → statement M
 mark-arrival-spec =

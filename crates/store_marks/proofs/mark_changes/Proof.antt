@@ -19,6 +19,7 @@ mark-changes-spec =
     tie.close
     (tie.spec
     mark-own-requires
+    (λ c κs. search held-first)
     mark-walks-requires
     (λ c. search needs)
     (λ c. (search kids-tried, search needs))

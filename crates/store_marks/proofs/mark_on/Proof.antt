@@ -15,7 +15,7 @@ use Rattle.store_marks.proofs.mark_on.Statement.{statement}
 use Rattle.store_marks.proofs.mark_on.Tie as tie
 
 abbrev Inv-loop : tie.InvT-loop
-Inv-loop words chain first catch walks allowed q c i arcs₀ kids₀ y₀ ride₀ j₀ arcs kids y ride j =
+Inv-loop words chain first catch allowed q c i arcs₀ kids₀ y₀ ride₀ j₀ arcs kids y ride j =
     (isTimetable words ≡ true) × Goes words j × (ride .0 ≡ pointsOf words j) × (y .0 ≤ 3166900 + 100 * j)
     × (length arcs ≡ 64) × (length kids ≡ 320) × (length arcs₀ ≡ 64) × (length kids₀ ≡ 320)
     × (run (flagArc words allowed) (visits words c (2048 - i) i (y₀ .0)) arcs₀
@@ -24,7 +24,7 @@ Inv-loop words chain first catch walks allowed q c i arcs₀ kids₀ y₀ ride�
     ≡ run (flagKids words q) (visits words c (2048 - j) j (y .0)) kids)
 
 abbrev μ-loop : tie.MeasureT-loop
-μ-loop words chain first catch walks allowed q c i arcs₀ kids₀ y₀ ride₀ j₀ arcs kids y ride j = 2048 - j
+μ-loop words chain first catch allowed q c i arcs₀ kids₀ y₀ ride₀ j₀ arcs kids y ride j = 2048 - j
 
 stop-at-requires : tie.Need-stop-at-requires Inv-loop μ-loop
 stop-at-requires c κs = (search needs, search stations-few, search needs)

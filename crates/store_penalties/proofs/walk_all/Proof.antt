@@ -11,7 +11,7 @@ use Rattle.store_stops.specs.OpenWays.{
   before-most,
   walks-begin,
   walks-ordered,
-  walk-there,
+  walk-from-here,
 }
 use Rattle.store_penalties.specs.Offering.{Offering}
 use Rattle.store_penalties.proofs.ChangeLaws.{none-walked, one-walked, all-walked}
@@ -50,15 +50,7 @@ walk-all-spec =
       search before-most,
     ))
     (λ c. (search walks-begin, search walks-ordered, search needs, search none-walked))
-    (λ c κs. (
-      search needs,
-      search needs,
-      search needs,
-      search walk-there,
-      search needs,
-      search needs,
-      search needs,
-    ))
+    (λ c κs. (search needs, search needs, search needs, search needs, search walk-from-here, search needs))
     (λ c. search needs)
     (λ c. search needs)
     (λ c. (search needs, search needs, search needs, search one-walked))

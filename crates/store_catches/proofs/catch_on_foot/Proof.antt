@@ -1,21 +1,12 @@
 -- As after a change at the station itself, with what the walk says.
 use Rattle.timetable.specs.Access.{stations-few}
-use Rattle.store_departures.proofs.CatchLaws.{here-in-time, caught-on-foot, caught-closed}
-use Rattle.store_departures.proofs.CatchLaws.{held-long, held-chain, held-listed, held-begins}
+use Rattle.store_catches.proofs.CatchLaws.{here-in-time, caught-on-foot, caught-closed}
 use borrow.Author.Needs.{needs}
-use Rattle.store_departures.proofs.catch_on_foot.Statement.{statement}
-use Rattle.store_departures.proofs.catch_on_foot.Tie as tie
+use Rattle.store_catches.proofs.catch_on_foot.Statement.{statement}
+use Rattle.store_catches.proofs.catch_on_foot.Tie as tie
 
 soonest-at-requires : tie.Need-soonest-at-requires
-soonest-at-requires c κs = (
-  search needs,
-  search needs,
-  search held-long,
-  search held-chain,
-  search held-listed,
-  search held-begins,
-  search needs,
-)
+soonest-at-requires c κs = (search needs, search needs, search needs, search needs)
 
 pub catch-on-foot-spec : {M : Type 1} → statement M
 catch-on-foot-spec =

@@ -1,0 +1,2 @@
+pub mod CatchLaws
+pub mod KeepLaws

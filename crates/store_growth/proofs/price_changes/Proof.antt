@@ -1,0 +1,14 @@
+-- Prices first, then the number of walks behind them.
+use borrow.Author.Needs.{needs}
+use Rattle.store_minutes.specs.Prepared.{priced-behind}
+use Rattle.store_growth.proofs.price_changes.Statement.{statement}
+use Rattle.store_growth.proofs.price_changes.Tie as tie
+
+pub price-changes-spec : {M : Type 1} → statement M
+price-changes-spec =
+    tie.close
+    (tie.spec
+    (λ c κs. (search needs, search needs, search needs))
+    (λ c κs. (search needs, search needs, search needs))
+    (λ c. search needs)
+    (λ c. search priced-behind))
