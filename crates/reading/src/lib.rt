@@ -631,7 +631,7 @@ fn write_timetable(
 {
     let mut numbers = [0u16; timetable::NUMBERS_WORDS];
     count_trips(&mut numbers);
-    timetable::write_words(
+    timetable_writing::write_words(
         timetable,
         p.stations,
         p.trips,
