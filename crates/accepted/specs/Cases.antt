@@ -18,8 +18,16 @@ use Rattle.timetable.specs.Worked.{station, stop, variant, M}
 use Rattle.timetable.specs.Timetable.{Walk, Timetable, walkBefore}
 use Rattle.timetable.specs.Words.{stationWords, stopWords, startWords, walkWords, countTo, footWords, words}
 use Rattle.timetable.specs.Changes.{placeOf, cancelled, added}
-use Rattle.reading.specs.Draft.{stationNumber, walkFits, walkNumber, stopInRange, comesAfter, stopFits, stopNumber}
-use Rattle.reading.specs.Draft.{extraStation, extraWalk, extraStop}
+use Rattle.reading_lines.specs.Draft.{
+  stationNumber,
+  walkFits,
+  walkNumber,
+  stopInRange,
+  comesAfter,
+  stopFits,
+  stopNumber,
+}
+use Rattle.reading_lines.specs.Draft.{extraStation, extraWalk, extraStop}
 use Rattle.reading.specs.Reading.{Outcome, Accepted, Refused, ended, readUnder, readLines, reading}
 use Rattle.reading.specs.Reading.{readExtra}
 use Rattle.accepted.specs.Marks.{lined, fielded}

@@ -18,8 +18,8 @@ use Rattle.text.specs.declared.StopLine.{StopLine}
 use Rattle.timetable.specs.Timetable.{Station, Trip, Timetable, stopsOf, numberMost, validWalks, validTrip, validTrips}
 use Rattle.timetable.specs.Timetable.{valid}
 use Rattle.timetable.specs.Changes.{runsAs, added}
-use Rattle.reading.specs.Draft.{Draft, Rules, extraRules, opening, stopOfLine, withStop, withLine}
-use Rattle.reading.specs.Progress.{progress, lineNumberAt}
+use Rattle.reading_lines.specs.Draft.{Draft, Rules, extraRules, opening, stopOfLine, withStop, withLine}
+use Rattle.reading_lines.specs.Progress.{progress, lineNumberAt}
 use Rattle.reading.specs.Reading.{Accepted, readExtra}
 use Rattle.accepted.specs.Valid.{is-valid}
 use Rattle.accepted.specs.Passes.{ExtraPasses, extra-passed, station-refused, walk-refused}

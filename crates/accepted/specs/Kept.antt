@@ -10,8 +10,8 @@ use borrow.Author.Tests.{eqb-true}
 use Rattle.text.specs.Shape.{shapeBy}
 use Rattle.text.specs.declared.Line.{Line}
 use Rattle.timetable.specs.Timetable.{Timetable}
-use Rattle.reading.specs.Draft.{Draft, Rules, withLine}
-use Rattle.reading.specs.Progress.{progress, lineNumberAt}
+use Rattle.reading_lines.specs.Draft.{Draft, Rules, withLine}
+use Rattle.reading_lines.specs.Progress.{progress, lineNumberAt}
 use Rattle.reading.specs.Reading.{Outcome, Accepted, Refused, complete, numbersUnder, ended, readUnder}
 use Rattle.accepted.specs.Passes.{read-more}
 use Rattle.accepted.specs.Shaped.{Shaped, shaped}

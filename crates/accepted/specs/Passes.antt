@@ -15,12 +15,12 @@ use Rattle.text.specs.declared.StationLine.{StationLine}
 use Rattle.text.specs.declared.WalkLine.{WalkLine}
 use Rattle.text.specs.declared.StopLine.{StopLine}
 use Rattle.timetable.specs.Timetable.{lastMinute, stationsMost, walksMost, tripsMost, stopsMost}
-use Rattle.reading.specs.Draft.{Draft, Rules, textRules, withLine, stopsIn, stationNumber, walkOfLine, risesAfter}
-use Rattle.reading.specs.Draft.{walkFits, walkNumber, stopInRange, extraStation, extraWalk}
-use Rattle.reading.specs.Progress.{progress, stopFitsAt, stopNumberAt, extraStopAt, lineNumberAt}
-use Rattle.reading.specs.Progress.{same-number}
+use Rattle.reading_lines.specs.Draft.{Draft, Rules, textRules, withLine, stopsIn, stationNumber, walkOfLine, risesAfter}
+use Rattle.reading_lines.specs.Draft.{walkFits, walkNumber, stopInRange, extraStation, extraWalk}
+use Rattle.reading_lines.specs.Progress.{progress, stopFitsAt, stopNumberAt, extraStopAt, lineNumberAt}
+use Rattle.reading_lines.specs.Progress.{same-number}
 use Rattle.reading.specs.Reading.{Refused, readUnder}
-use Rattle.reading.specs.declared.Progress.{Progress}
+use Rattle.reading_lines.specs.declared.Progress.{Progress}
 use Rattle.accepted.specs.Valid.{ValidWalk}
 
 -- "In range? 3. In place: .. ? 4. Within the three counts? 5"

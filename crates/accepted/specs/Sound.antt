@@ -25,9 +25,19 @@ use Rattle.timetable.specs.Timetable.{Trip, Timetable, validWalks}
 use Rattle.timetable.specs.Timetable.{stopsOf, validStation, listed, leaves, ends, follows, validTrip, validStations}
 use Rattle.timetable.specs.Timetable.{validTrips, climb, valid}
 use Rattle.timetable.specs.WordLaws.{stopsOf-append}
-use Rattle.reading.specs.Draft.{Draft, Rules, textRules, blank, final, stationOfLine, walkOfLine, stopOfLine, withStop}
-use Rattle.reading.specs.Draft.{withLine}
-use Rattle.reading.specs.Progress.{progress, lineNumberAt}
+use Rattle.reading_lines.specs.Draft.{
+  Draft,
+  Rules,
+  textRules,
+  blank,
+  final,
+  stationOfLine,
+  walkOfLine,
+  stopOfLine,
+  withStop,
+}
+use Rattle.reading_lines.specs.Draft.{withLine}
+use Rattle.reading_lines.specs.Progress.{progress, lineNumberAt}
 use Rattle.reading.specs.Reading.{textMost, Accepted, readBy, readFrom, readLines, reading}
 use Rattle.accepted.specs.Lists.{snoc-length}
 use Rattle.accepted.specs.Valid.{walk-valid, valid-is, trip-not-empty}

@@ -27,7 +27,7 @@ ghost use Rattle.changes.specs.Appended.{
   TripRead,
 };
 use reading::Lines;
-use reading::Rules;
+use reading_lines::Rules;
 use replies::Reply;
 
 // How many trips and stops stand in the arrays in which a timetable is put together.

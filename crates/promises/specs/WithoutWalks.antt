@@ -18,7 +18,7 @@ use Rattle.text.specs.declared.Line.{Line}
 use Rattle.text.specs.declared.Line.the-variants.{Station as StationIn, Stop as StopIn, Shapeless}
 use Rattle.text.specs.declared.StopLine.{StopLine}
 use Rattle.timetable.specs.Timetable.{Walk, Timetable}
-use Rattle.reading.specs.Draft.{Draft, Rules, textRules, blank, numberUnder, withStop, withLine, stopOfLine}
+use Rattle.reading_lines.specs.Draft.{Draft, Rules, textRules, blank, numberUnder, withStop, withLine, stopOfLine}
 use Rattle.reading.specs.Reading.{Outcome, Accepted, Refused, textMost, complete, ended, readUnder, readLines, reading}
 use Rattle.connections.specs.Connections.{net, Connection, Feasible, stations}
 use Rattle.connections.specs.Planner.{plannerList}

@@ -22,11 +22,11 @@ use Rattle.timetable.specs.WordLaws.{
   startWords-append,
   walkWords-append,
 }
-use Rattle.reading.specs.Draft.{Draft, Rules, final, stationOfLine, walkOfLine, stopOfLine}
-use Rattle.reading.specs.Draft.{withStop, withLine, stopsIn}
-use Rattle.reading.specs.Progress.{lastWalk, progress, lineNumberAt}
-use Rattle.reading.specs.Model.{Within, endTrip, goOn, advance, lineWords, startsWith, walkingWords}
-use Rattle.reading.specs.declared.Progress.{Progress}
+use Rattle.reading_lines.specs.Draft.{Draft, Rules, final, stationOfLine, walkOfLine, stopOfLine}
+use Rattle.reading_lines.specs.Draft.{withStop, withLine, stopsIn}
+use Rattle.reading_lines.specs.Progress.{Within, lastWalk, progress, lineNumberAt}
+use Rattle.reading.specs.Model.{endTrip, goOn, advance, lineWords, startsWith, walkingWords}
+use Rattle.reading_lines.specs.declared.Progress.{Progress}
 use Rattle.reading.proofs.YesLaws.{station-yes, walk-yes, StopYes, stop-yes}
 
 -- the words of a draft's stations and stops

@@ -22,11 +22,10 @@ use Rattle.text.specs.declared.Line.{Line}
 use Rattle.timetable.specs.Timetable.{Trip, Timetable}
 use Rattle.timetable.specs.Words.{stationWords, stopWords, startWords, walkWords}
 use Rattle.timetable.specs.WordLaws.{length-startWords, length-walkWords, start-first}
-use Rattle.reading.specs.Draft.{Draft, Rules, opening, withLine, numberUnder}
-use Rattle.reading.specs.Progress.{progress, lineNumberAt, isThere, same-number}
+use Rattle.reading_lines.specs.Draft.{Draft, Rules, opening, withLine, numberUnder}
+use Rattle.reading_lines.specs.Progress.{Within, progress, lineNumberAt, same-number}
 use Rattle.reading.specs.Reading.{Outcome, Accepted, Refused, complete, numbersUnder, ended, readUnder}
 use Rattle.reading.specs.Model.{
-  Within,
   stationsIn,
   readAfter,
   advance,
@@ -37,11 +36,12 @@ use Rattle.reading.specs.Model.{
   startsAfter,
   walkingWords,
   walkingAfter,
+  isThere,
   endOf,
   progressOf,
   LinesRead,
 }
-use Rattle.reading.specs.declared.Progress.{Progress}
+use Rattle.reading_lines.specs.declared.Progress.{Progress}
 use Rattle.reading.specs.declared.Next.{Next}
 use Rattle.reading.specs.declared.Next.the-variants.{On, Refused as NextRefused}
 use Rattle.reading.specs.declared.Lines.{Lines}

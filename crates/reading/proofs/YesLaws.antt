@@ -15,9 +15,10 @@ use Rattle.text.specs.declared.StationLine.{StationLine}
 use Rattle.text.specs.declared.WalkLine.{WalkLine}
 use Rattle.text.specs.declared.StopLine.{StopLine}
 use Rattle.timetable.specs.Timetable.{lastMinute}
-use Rattle.reading.specs.Draft.{Rules, stationInRange, walkInRange, stopInRange}
-use Rattle.reading.specs.Draft.{extraStation, extraWalk, extraInRange}
-use Rattle.reading.specs.Progress.{
+use Rattle.reading_lines.specs.Draft.{Rules, stationInRange, walkInRange, stopInRange}
+use Rattle.reading_lines.specs.Draft.{extraStation, extraWalk, extraInRange}
+use Rattle.reading_lines.specs.Progress.{
+  Within,
   stationNumberAt,
   placeOfStation,
   roomForStation,
@@ -35,8 +36,7 @@ use Rattle.reading.specs.Progress.{
   extraStopAt,
   lineNumberAt,
 }
-use Rattle.reading.specs.Model.{Within}
-use Rattle.reading.specs.declared.Progress.{Progress}
+use Rattle.reading_lines.specs.declared.Progress.{Progress}
 
 -- the tests of three and of four questions
 three-yes : (a b c : Bool) → firstNo (ask 3 a ∷ ask 4 b ∷ ask 5 c ∷ []) ≡ 0 → (a ≡ true) × (b ≡ true) × (c ≡ true)
