@@ -12,8 +12,8 @@ use Rattle.text.specs.Number.{digitValue, decimal, fieldValue}
 use Rattle.text.specs.Time.{pairValue, isTime, minuteOf, timeValue}
 use Rattle.text.specs.Piece.{pieces}
 use Rattle.text.specs.Range.{inRange}
-use Rattle.text.specs.Shape.{stationOf, stationShape, walkOf, walkShape, arriveFits, departFits, filled}
-use Rattle.text.specs.Shape.{stopFits as stopFitsShape, stopOf, stopShape, shapeBy}
+use Rattle.text_shapes.specs.Shape.{stationOf, stationShape, walkOf, walkShape, arriveFits, departFits, filled}
+use Rattle.text_shapes.specs.Shape.{stopFits as stopFitsShape, stopOf, stopShape, shapeBy}
 use Rattle.timetable.specs.Worked.{station, stop, variant, M}
 use Rattle.timetable.specs.Timetable.{Walk, Timetable, walkBefore}
 use Rattle.timetable.specs.Words.{stationWords, stopWords, startWords, walkWords, countTo, footWords, words}

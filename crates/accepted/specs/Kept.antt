@@ -7,8 +7,8 @@ use Prim.Native.Nat.{ℕ, _+_, _-_}
 use lib.Dec.{eqb}
 use lib.ListN.{length}
 use borrow.Author.Tests.{eqb-true}
-use Rattle.text.specs.Shape.{shapeBy}
-use Rattle.text.specs.declared.Line.{Line}
+use Rattle.text_shapes.specs.Shape.{shapeBy}
+use Rattle.text_shapes.specs.declared.Line.{Line}
 use Rattle.timetable.specs.Timetable.{Timetable}
 use Rattle.reading_lines.specs.Draft.{Draft, Rules, withLine}
 use Rattle.reading_lines.specs.Progress.{progress, lineNumberAt}

@@ -9,11 +9,11 @@ use native.Mathlib.Omega.{arith}
 use borrow.Author.Tests.{not-true, leb-true, ltb-true, eqb-true, le-leb, lt-ltb, eq-eqb, ne-eqb}
 use Rattle.lists.specs.Tests.{and-left, and-right, or-right, or-other}
 use Rattle.text.specs.Range.{inRange}
-use Rattle.text.specs.Shape.{shapeBy}
-use Rattle.text.specs.declared.Line.the-variants.{Station as StationIn, Walk as WalkIn}
-use Rattle.text.specs.declared.StationLine.{StationLine}
-use Rattle.text.specs.declared.WalkLine.{WalkLine}
-use Rattle.text.specs.declared.StopLine.{StopLine}
+use Rattle.text_shapes.specs.Shape.{shapeBy}
+use Rattle.text_shapes.specs.declared.Line.the-variants.{Station as StationIn, Walk as WalkIn}
+use Rattle.text_shapes.specs.declared.StationLine.{StationLine}
+use Rattle.text_shapes.specs.declared.WalkLine.{WalkLine}
+use Rattle.text_shapes.specs.declared.StopLine.{StopLine}
 use Rattle.timetable.specs.Timetable.{lastMinute, stationsMost, walksMost, tripsMost, stopsMost}
 use Rattle.reading_lines.specs.Draft.{Draft, Rules, textRules, withLine, stopsIn, stationNumber, walkOfLine, risesAfter}
 use Rattle.reading_lines.specs.Draft.{walkFits, walkNumber, stopInRange, extraStation, extraWalk}

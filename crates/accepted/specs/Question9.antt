@@ -18,7 +18,7 @@ use Rattle.words.specs.Below.{Below}
 use Rattle.lists.specs.Tests.{and-both}
 use Rattle.text.specs.Piece.{pieces}
 use Rattle.text.specs.Time.{timeValue}
-use Rattle.text.specs.Shape.{shapeOf}
+use Rattle.text_shapes.specs.Shape.{shapeOf}
 use Rattle.timetable.specs.Timetable.{Timetable, valid}
 use Rattle.timetable.specs.Words.{countTo, words, timetableOf, chained, footed, isTimetable}
 use Rattle.timetable.specs.Access.{spelled-valid}

@@ -14,8 +14,8 @@ use Rattle.words.specs.Below.{Below}
 use Rattle.lists.specs.Tests.{and-left, and-right}
 use Rattle.text.specs.Piece.{pieces}
 use Rattle.text.specs.Time.{timeValue}
-use Rattle.text.specs.Shape.{shapeOf}
-use Rattle.text.specs.declared.Line.{Line}
+use Rattle.text_shapes.specs.Shape.{shapeOf}
+use Rattle.text_shapes.specs.declared.Line.{Line}
 use Rattle.timetable.specs.Timetable.{stationsMost, walksMost, tripsMost, stopsMost, lastMinute, Station, Walk, Stop}
 use Rattle.timetable.specs.Timetable.{Trip, Timetable, stopsOf, validStation, validWalks, leaves, follows, runs}
 use Rattle.timetable.specs.Timetable.{validTrip, validStations}

@@ -7,9 +7,14 @@ use native.Mathlib.Omega.{arith}
 use lib.ListN.{length, set, length-append}
 use Rattle.words.specs.Put.{put, put-next}
 use Rattle.lists.specs.Places.{no-length}
-use Rattle.text.specs.declared.Line.{Line}
-use Rattle.text.specs.declared.Line.the-variants.{Station as StationIn, Walk as WalkIn, Stop as StopIn, Shapeless}
-use Rattle.text.specs.declared.StopLine.{StopLine}
+use Rattle.text_shapes.specs.declared.Line.{Line}
+use Rattle.text_shapes.specs.declared.Line.the-variants.{
+  Station as StationIn,
+  Walk as WalkIn,
+  Stop as StopIn,
+  Shapeless,
+}
+use Rattle.text_shapes.specs.declared.StopLine.{StopLine}
 use Rattle.timetable.specs.Timetable.{Walk, Stop, Trip, stopsOf}
 use Rattle.timetable.specs.Words.{stationWords, stopWords, startWords, walkWords}
 use Rattle.timetable.specs.WordLaws.{

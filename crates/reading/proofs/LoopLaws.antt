@@ -17,8 +17,8 @@ use Rattle.lists.specs.Places.{no-length}
 use Rattle.lists.specs.Tests.{and-right}
 use Rattle.text.specs.Piece.{pieces, pieceLength, last-from, first-from, pieces-some}
 use Rattle.text.specs.Time.{timeValue}
-use Rattle.text.specs.Shape.{shapeOf}
-use Rattle.text.specs.declared.Line.{Line}
+use Rattle.text_shapes.specs.Shape.{shapeOf}
+use Rattle.text_shapes.specs.declared.Line.{Line}
 use Rattle.timetable.specs.Timetable.{Trip, Timetable}
 use Rattle.timetable.specs.Words.{stationWords, stopWords, startWords, walkWords}
 use Rattle.timetable.specs.WordLaws.{length-startWords, length-walkWords, start-first}

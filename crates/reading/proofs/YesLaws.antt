@@ -10,10 +10,10 @@ use lib.Dec.{leb, ltb, eqb}
 use Rattle.questions.specs.Question.{ask, firstNo, yes-here, yes-later}
 use Rattle.lists.specs.Tests.{and-left, and-right}
 use Rattle.text.specs.Range.{inRange, minutes-bound, points-bound, time-bound, ride-bound, mark-bound, walk-bound}
-use Rattle.text.specs.declared.Line.the-variants.{Station as StationIn, Walk as WalkIn, Stop as StopIn}
-use Rattle.text.specs.declared.StationLine.{StationLine}
-use Rattle.text.specs.declared.WalkLine.{WalkLine}
-use Rattle.text.specs.declared.StopLine.{StopLine}
+use Rattle.text_shapes.specs.declared.Line.the-variants.{Station as StationIn, Walk as WalkIn, Stop as StopIn}
+use Rattle.text_shapes.specs.declared.StationLine.{StationLine}
+use Rattle.text_shapes.specs.declared.WalkLine.{WalkLine}
+use Rattle.text_shapes.specs.declared.StopLine.{StopLine}
 use Rattle.timetable.specs.Timetable.{lastMinute}
 use Rattle.reading_lines.specs.Draft.{Rules, stationInRange, walkInRange, stopInRange}
 use Rattle.reading_lines.specs.Draft.{extraStation, extraWalk, extraInRange}

@@ -4,8 +4,8 @@ ghost use mathlib.Core.Path.{_≡_};
 ghost use Prim.Native.Nat.{_+_, _*_, _≤_, _<_};
 ghost use mathlib.Core.Bool.{cond};
 ghost use lib.ListN.{length, set};
-ghost use Rattle.text.specs.Shape.{shapeOf};
-ghost use Rattle.text.specs.declared.Line.the-variants.{Station, Walk, Stop};
+ghost use Rattle.text_shapes.specs.Shape.{shapeOf};
+ghost use Rattle.text_shapes.specs.declared.Line.the-variants.{Station, Walk, Stop};
 ghost use Rattle.lists.specs.Lists.{range};
 ghost use Rattle.words.specs.Put.{put};
 ghost use Rattle.timetable.specs.Words.{joined};
@@ -24,10 +24,10 @@ ghost use Rattle.reading.specs.Model.{
 };
 use reading_lines::Progress;
 use reading_lines::Rules;
-use text::Line;
-use text::StationLine;
-use text::StopLine;
-use text::WalkLine;
+use text_shapes::Line;
+use text_shapes::StationLine;
+use text_shapes::StopLine;
+use text_shapes::WalkLine;
 
 const LINE_END: u8 = 10;
 
@@ -187,7 +187,7 @@ fn take_line(
         × (now (starts .exit) ≡ startsAfter rules p (shapeOf (now (line .entry))) (now (starts .entry)))
         × (now (walking .exit) ≡ walkingAfter rules p (shapeOf (now (line .entry))) (now (walking .entry))) ⌝ }
 {
-    match text::shape(line) {
+    match text_shapes::shape(line) {
         Line::Station(l) => {
             return take_station(rules, p, l, body);
         }

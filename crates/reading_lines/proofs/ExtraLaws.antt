@@ -7,9 +7,9 @@ use borrow.Author.Tests.{lt-ltb, le-ltb, le-leb, lt-leb, eq-eqb, ne-eqb, not-tru
 use lib.Dec.{ltb, eqb}
 use Rattle.questions.specs.Question.{ask, firstNo}
 use Rattle.text.specs.Range.{rangeNumber, range-in, range-out, range-three}
-use Rattle.text.specs.declared.StationLine.{StationLine}
-use Rattle.text.specs.declared.WalkLine.{WalkLine}
-use Rattle.text.specs.declared.StopLine.{StopLine}
+use Rattle.text_shapes.specs.declared.StationLine.{StationLine}
+use Rattle.text_shapes.specs.declared.WalkLine.{WalkLine}
+use Rattle.text_shapes.specs.declared.StopLine.{StopLine}
 use Rattle.reading_lines.specs.Draft.{Rules, walkInRange, stopInRange, extraStation, extraWalk, extraInRange}
 use Rattle.reading_lines.specs.Progress.{stopFitsAt, placeOfExtra, roomForExtra, extraStopAt}
 use Rattle.reading_lines.specs.declared.Progress.{Progress}

@@ -1,7 +1,7 @@
 // Which number a line has, after the lines before it: questions 3 to 6 to a line of a shape, in a text or among the
 // lines of an extra trip.
 ghost use mathlib.Core.Path.{_≡_};
-ghost use Rattle.text.specs.declared.Line.the-variants.{Station, Walk, Stop};
+ghost use Rattle.text_shapes.specs.declared.Line.the-variants.{Station, Walk, Stop};
 ghost use Rattle.reading_lines.specs.Draft.{walkInRange, stopInRange, extraStation, extraWalk, extraInRange};
 ghost use Rattle.reading_lines.specs.Progress.{
   Within,
@@ -17,9 +17,9 @@ ghost use Rattle.reading_lines.specs.Progress.{
   extraStopAt,
   lineNumberAt,
 };
-use text::StationLine;
-use text::StopLine;
-use text::WalkLine;
+use text_shapes::StationLine;
+use text_shapes::StopLine;
+use text_shapes::WalkLine;
 
 const STATIONS_MOST: usize = timetable::STATIONS_MOST as usize;
 

@@ -1,7 +1,7 @@
 -- The walk from one station to another, where it stands among the words, and the change at a station itself: "Some
 -- stations have both an S line and a W line from the station to itself [..] such a W line goes first: the S values do
 -- not apply to changes there."
-use mathlib.Core.Path.{_≡_, refl, sym, ap, _∙_}
+use mathlib.Core.Path.{_≡_, refl, ap}
 use mathlib.Core.Bool.{Bool, true, false, cond}
 use mathlib.Core.Logic.{_⊎_, inl, inr}
 use mathlib.Core.List.{List}

@@ -5,11 +5,18 @@ use Prim.Native.Nat.{_≤_, _<_, _-_}
 use borrow.Author.Needs.{needs}
 use lib.ListN.{length, take, drop}
 use Rattle.words.specs.Put.{put, put-none}
-use Rattle.text.specs.Values.{lineValues}
-use Rattle.text.proofs.ValueLaws.{left-from}
-use Rattle.text.proofs.ValueLaws.{eight-count, eight-stored, last-count, last-stored, more-left, more-stored}
-use Rattle.text.proofs.field_values.Statement.{statement}
-use Rattle.text.proofs.field_values.Tie as tie
+use Rattle.text_shapes.specs.Values.{lineValues}
+use Rattle.text_shapes.proofs.ValueLaws.{left-from}
+use Rattle.text_shapes.proofs.ValueLaws.{
+  eight-count,
+  eight-stored,
+  last-count,
+  last-stored,
+  more-left,
+  more-stored,
+}
+use Rattle.text_shapes.proofs.field_values.Statement.{statement}
+use Rattle.text_shapes.proofs.field_values.Tie as tie
 
 abbrev Inv-loop : tie.InvT-loop
 Inv-loop kind s values₀ n from₀ k₀ values from k =

@@ -9,12 +9,12 @@ use borrow.Author.Tests.{eq-eqb, ne-eqb}
 use lib.ListN.{length, take, drop, getD, length-drop, List·getD-eq-default}
 use lib.Seq.{take-all}
 use Rattle.words.specs.Put.{put, getD-put}
 use Rattle.text.specs.Piece.{pieces}
 use Rattle.text.specs.Number.{fieldValue}
 use Rattle.text.specs.Time.{timeValue}
-use Rattle.text.specs.Values.{valueAt, lineValues, length-values, values-at}
-use Rattle.text.specs.Values.{value-other-kind, value-arrive, value-depart, value-other-field}
-use Rattle.text.specs.Shape.{
+use Rattle.text_shapes.specs.Values.{valueAt, lineValues, length-values, values-at}
+use Rattle.text_shapes.specs.Values.{value-other-kind, value-arrive, value-depart, value-other-field}
+use Rattle.text_shapes.specs.Shape.{
   stationOf,
   walkOf,
   stopOf,
@@ -25,8 +25,8 @@ use Rattle.text.specs.Shape.{
   shapeBy,
   shapeOf,
 }
-use Rattle.text.specs.declared.Line.{Line}
-use Rattle.text.specs.declared.Line.the-variants.{Shapeless}
+use Rattle.text_shapes.specs.declared.Line.{Line}
+use Rattle.text_shapes.specs.declared.Line.the-variants.{Shapeless}
 
 pub too-short : (line : List ℕ) → length line < 2 → Shapeless ≡ shapeOf line
 unfolding shapeBy

@@ -1,8 +1,8 @@
 -- Two ways out.
 use borrow.Author.Tests.{ne-eqb}
-use Rattle.text.specs.Shape.{filled}
-use Rattle.text.proofs.fill.Statement.{statement}
-use Rattle.text.proofs.fill.Tie as tie
+use Rattle.text_shapes.specs.Shape.{filled}
+use Rattle.text_shapes.proofs.fill.Statement.{statement}
+use Rattle.text_shapes.proofs.fill.Tie as tie
 
 empty : tie.Need-returns
 unfolding filled

@@ -9,8 +9,8 @@ use lib.ListN.{length, take, drop, set, length-drop}
 use lib.Seq.{drop-drop, take-all, length-take-le}
 use native.Mathlib.Decide.{ℕ-discrete}
 use Rattle.words.specs.Put.{put, put-next}
 use Rattle.text.specs.Piece.{pieces, pieceLength, last-from, first-from}
-use Rattle.text.specs.Values.{valueAt, valuesFrom, lineValues}
+use Rattle.text_shapes.specs.Values.{valueAt, valuesFrom, lineValues}
 
 -- ---- lists that are taken from the front, one element at a time
 pub drop-next : (l : List ℕ) (k x : ℕ) (r : List ℕ) → drop k l ≡ x ∷ r → drop (k + 1) l ≡ r

@@ -1,8 +1,15 @@
 -- Six ways out, by the tests in their order.
 use borrow.Author.Needs.{needs}
-use Rattle.text.specs.Shape.{trip-unfit, stop-unfit, station-unfit, arrive-unfit, depart-unfit, mark-decides}
-use Rattle.text.proofs.stop_fits.Statement.{statement}
-use Rattle.text.proofs.stop_fits.Tie as tie
+use Rattle.text_shapes.specs.Shape.{
+  trip-unfit,
+  stop-unfit,
+  station-unfit,
+  arrive-unfit,
+  depart-unfit,
+  mark-decides,
+}
+use Rattle.text_shapes.proofs.stop_fits.Statement.{statement}
+use Rattle.text_shapes.proofs.stop_fits.Tie as tie
 
 pub stop-fits-spec : {M : Type 1} → statement M
 stop-fits-spec =

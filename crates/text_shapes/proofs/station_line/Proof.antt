@@ -1,8 +1,8 @@
 -- Four ways out, each by its tests.
 use borrow.Author.Tests.{le-leb, lt-leb}
-use Rattle.text.specs.Shape.{stationOf}
-use Rattle.text.proofs.station_line.Statement.{statement}
-use Rattle.text.proofs.station_line.Tie as tie
+use Rattle.text_shapes.specs.Shape.{stationOf}
+use Rattle.text_shapes.proofs.station_line.Statement.{statement}
+use Rattle.text_shapes.proofs.station_line.Tie as tie
 
 number : tie.Need-returns
 unfolding stationOf

@@ -1,8 +1,8 @@
 -- Four ways out, each by its tests.
 use borrow.Author.Tests.{le-leb, lt-leb, ne-eqb}
-use Rattle.text.specs.Shape.{departFits}
-use Rattle.text.proofs.depart_fits.Statement.{statement}
-use Rattle.text.proofs.depart_fits.Tie as tie
+use Rattle.text_shapes.specs.Shape.{departFits}
+use Rattle.text_shapes.proofs.depart_fits.Statement.{statement}
+use Rattle.text_shapes.proofs.depart_fits.Tie as tie
 
 first-stop : tie.Need-returns
 unfolding departFits

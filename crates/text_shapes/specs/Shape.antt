@@ -6,11 +6,11 @@ use Prim.Native.Nat.{ℕ, _≤_, _<_}
 use lib.Dec.{eqb}
 use borrow.Author.Tests.{le-leb, lt-leb, not-true, not-false}
 use lib.ListN.{length, getD, drop}
 use Rattle.text.specs.Piece.{pieces}
 use Rattle.text.specs.Number.{emptyField, isNumber, fieldValue}
 use Rattle.text.specs.Time.{timeValue}
-use Rattle.text.specs.declared.Line.{Line}
-use Rattle.text.specs.declared.Line.the-variants.{Station, Walk, Stop, Shapeless}
+use Rattle.text_shapes.specs.declared.Line.{Line}
+use Rattle.text_shapes.specs.declared.Line.the-variants.{Station, Walk, Stop, Shapeless}
 
 -- "Station: `S,station,change minutes,change penalty`", from the values behind the S
 unfoldable pub stationOf : (number minutes points : ℕ) → Line

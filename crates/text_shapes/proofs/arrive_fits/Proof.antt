@@ -1,8 +1,8 @@
 -- Two ways out: stop 1, and the others.
 use borrow.Author.Tests.{ne-eqb}
-use Rattle.text.specs.Shape.{arriveFits}
-use Rattle.text.proofs.arrive_fits.Statement.{statement}
-use Rattle.text.proofs.arrive_fits.Tie as tie
+use Rattle.text_shapes.specs.Shape.{arriveFits}
+use Rattle.text_shapes.proofs.arrive_fits.Statement.{statement}
+use Rattle.text_shapes.proofs.arrive_fits.Tie as tie
 
 first : tie.Need-returns
 unfolding arriveFits

@@ -1,6 +1,6 @@
 -- The line's first byte and its count of fields choose the shape, and the array holds the values of its fields.
 use borrow.Author.Needs.{needs}
-use Rattle.text.proofs.ShapeLaws.{
+use Rattle.text_shapes.proofs.ShapeLaws.{
   too-short,
   no-comma,
   station-fields,
@@ -11,8 +11,8 @@ use Rattle.text.proofs.ShapeLaws.{
   stop-shape,
   other-kind,
 }
-use Rattle.text.proofs.shape.Statement.{statement}
-use Rattle.text.proofs.shape.Tie as tie
+use Rattle.text_shapes.proofs.shape.Statement.{statement}
+use Rattle.text_shapes.proofs.shape.Tie as tie
 
 pub shape-spec : {M : Type 1} → statement M
 shape-spec =

@@ -1,7 +1,7 @@
 -- Five ways out, each by its tests.
-use Rattle.text.specs.Shape.{from-unfit, to-unfit, minutes-unfit, points-unfit, walk-shaped}
-use Rattle.text.proofs.walk_line.Statement.{statement}
-use Rattle.text.proofs.walk_line.Tie as tie
+use Rattle.text_shapes.specs.Shape.{from-unfit, to-unfit, minutes-unfit, points-unfit, walk-shaped}
+use Rattle.text_shapes.proofs.walk_line.Statement.{statement}
+use Rattle.text_shapes.proofs.walk_line.Tie as tie
 
 pub walk-line-spec : {M : Type 1} → statement M
 walk-line-spec =
