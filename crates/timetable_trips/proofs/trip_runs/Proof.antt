@@ -5,16 +5,9 @@ use borrow.Author.Needs.{needs}
 use Rattle.timetable.specs.Timetable.{runs}
 use Rattle.timetable.specs.Words.{stopAt}
 use Rattle.timetable.specs.Check.{stopsAt}
-use Rattle.timetable_check.proofs.CheckLaws.{
-  run-starts,
-  run-short,
-  run-ends,
-  run-astray,
-  run-breaks,
-  run-goes-on,
-}
-use Rattle.timetable_check.proofs.trip_runs.Statement.{statement}
-use Rattle.timetable_check.proofs.trip_runs.Tie as tie
+use Rattle.timetable_trips.proofs.TripLaws.{run-starts, run-short, run-ends, run-astray, run-breaks, run-goes-on}
+use Rattle.timetable_trips.proofs.trip_runs.Statement.{statement}
+use Rattle.timetable_trips.proofs.trip_runs.Tie as tie
 
 abbrev Inv-loop : tie.InvT-loop
 Inv-loop words n first end before₀ i₀ before i =

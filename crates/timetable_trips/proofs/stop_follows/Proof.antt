@@ -1,8 +1,8 @@
 -- Four ways out, each a law of `follows`.
 use borrow.Author.Needs.{needs}
-use Rattle.timetable_check.proofs.TestLaws.{unlisted, same-station, too-early, arrive-decides}
-use Rattle.timetable_check.proofs.stop_follows.Statement.{statement}
-use Rattle.timetable_check.proofs.stop_follows.Tie as tie
+use Rattle.timetable_trips.proofs.StopLaws.{unlisted, same-station, too-early, arrive-decides}
+use Rattle.timetable_trips.proofs.stop_follows.Statement.{statement}
+use Rattle.timetable_trips.proofs.stop_follows.Tie as tie
 
 pub stop-follows-spec : {M : Type 1} → statement M
 stop-follows-spec = tie.close (tie.spec

@@ -4,9 +4,9 @@ use Prim.Native.Nat.{_≤_, _-_}
 use borrow.Author.Needs.{needs}
 use Rattle.timetable.specs.Words.{startAt}
 use Rattle.timetable.specs.Check.{tripsTest}
-use Rattle.timetable_check.proofs.CheckLaws.{trip-falls, trip-beyond, trip-bad, trip-good, trips-done}
-use Rattle.timetable_check.proofs.trips_are_valid.Statement.{statement}
-use Rattle.timetable_check.proofs.trips_are_valid.Tie as tie
+use Rattle.timetable_trips.proofs.TripLaws.{trip-falls, trip-beyond, trip-bad, trip-good, trips-done}
+use Rattle.timetable_trips.proofs.trips_are_valid.Statement.{statement}
+use Rattle.timetable_trips.proofs.trips_are_valid.Tie as tie
 
 abbrev Inv-loop : tie.InvT-loop
 Inv-loop words n trips stops first₀ k₀ first k =

@@ -1,8 +1,8 @@
 -- Three ways out, each a law of `passes`.
 use borrow.Author.Needs.{needs}
-use Rattle.timetable_check.proofs.CheckLaws.{passes-astray, passes-early, passes-leaving}
-use Rattle.timetable_check.proofs.stop_passes.Statement.{statement}
-use Rattle.timetable_check.proofs.stop_passes.Tie as tie
+use Rattle.timetable_trips.proofs.StopLaws.{passes-astray, passes-early, passes-leaving}
+use Rattle.timetable_trips.proofs.stop_passes.Statement.{statement}
+use Rattle.timetable_trips.proofs.stop_passes.Tie as tie
 
 pub stop-passes-spec : {M : Type 1} → statement M
 stop-passes-spec =

@@ -1,8 +1,8 @@
 -- Three ways out, each a law of `begins`.
 use borrow.Author.Needs.{needs}
-use Rattle.timetable_check.proofs.CheckLaws.{begins-unlisted, begins-arriving, begins-leaving}
-use Rattle.timetable_check.proofs.stop_begins.Statement.{statement}
-use Rattle.timetable_check.proofs.stop_begins.Tie as tie
+use Rattle.timetable_trips.proofs.StopLaws.{begins-unlisted, begins-arriving, begins-leaving}
+use Rattle.timetable_trips.proofs.stop_begins.Statement.{statement}
+use Rattle.timetable_trips.proofs.stop_begins.Tie as tie
 
 pub stop-begins-spec : {M : Type 1} → statement M
 stop-begins-spec =
