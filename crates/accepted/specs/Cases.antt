@@ -12,14 +12,22 @@ use Rattle.text.specs.Number.{digitValue, decimal, fieldValue}
 use Rattle.text.specs.Time.{pairValue, isTime, minuteOf, timeValue}
 use Rattle.text.specs.Piece.{pieces}
 use Rattle.text.specs.Range.{inRange}
-use Rattle.text.specs.Shape.{stationOf, stationShape, walkOf, walkShape, arriveFits, departFits, filled}
-use Rattle.text.specs.Shape.{stopFits as stopFitsShape, stopOf, stopShape, shapeBy}
+use Rattle.text_shapes.specs.Shape.{stationOf, stationShape, walkOf, walkShape, arriveFits, departFits, filled}
+use Rattle.text_shapes.specs.Shape.{stopFits as stopFitsShape, stopOf, stopShape, shapeBy}
 use Rattle.timetable.specs.Worked.{station, stop, variant, M}
 use Rattle.timetable.specs.Timetable.{Walk, Timetable, walkBefore}
 use Rattle.timetable.specs.Words.{stationWords, stopWords, startWords, walkWords, countTo, footWords, words}
 use Rattle.timetable.specs.Changes.{placeOf, cancelled, added}
-use Rattle.reading.specs.Draft.{stationNumber, walkFits, walkNumber, stopInRange, comesAfter, stopFits, stopNumber}
-use Rattle.reading.specs.Draft.{extraStation, extraWalk, extraStop}
+use Rattle.reading_lines.specs.Draft.{
+  stationNumber,
+  walkFits,
+  walkNumber,
+  stopInRange,
+  comesAfter,
+  stopFits,
+  stopNumber,
+}
+use Rattle.reading_lines.specs.Draft.{extraStation, extraWalk, extraStop}
 use Rattle.reading.specs.Reading.{Outcome, Accepted, Refused, ended, readUnder, readLines, reading}
 use Rattle.reading.specs.Reading.{readExtra}
 use Rattle.accepted.specs.Marks.{lined, fielded}

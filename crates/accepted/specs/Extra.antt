@@ -12,14 +12,19 @@ use Rattle.lists.specs.Places.{no-length}
 use Rattle.lists.specs.Tests.{and-left}
 use Rattle.text.specs.Piece.{pieces}
 use Rattle.text.specs.Time.{timeValue}
-use Rattle.text.specs.declared.Line.{Line}
-use Rattle.text.specs.declared.Line.the-variants.{Station as StationIn, Walk as WalkIn, Stop as StopIn, Shapeless}
-use Rattle.text.specs.declared.StopLine.{StopLine}
+use Rattle.text_shapes.specs.declared.Line.{Line}
+use Rattle.text_shapes.specs.declared.Line.the-variants.{
+  Station as StationIn,
+  Walk as WalkIn,
+  Stop as StopIn,
+  Shapeless,
+}
+use Rattle.text_shapes.specs.declared.StopLine.{StopLine}
 use Rattle.timetable.specs.Timetable.{Station, Trip, Timetable, stopsOf, numberMost, validWalks, validTrip, validTrips}
 use Rattle.timetable.specs.Timetable.{valid}
 use Rattle.timetable.specs.Changes.{runsAs, added}
-use Rattle.reading.specs.Draft.{Draft, Rules, extraRules, opening, stopOfLine, withStop, withLine}
-use Rattle.reading.specs.Progress.{progress, lineNumberAt}
+use Rattle.reading_lines.specs.Draft.{Draft, Rules, extraRules, opening, stopOfLine, withStop, withLine}
+use Rattle.reading_lines.specs.Progress.{progress, lineNumberAt}
 use Rattle.reading.specs.Reading.{Accepted, readExtra}
 use Rattle.accepted.specs.Valid.{is-valid}
 use Rattle.accepted.specs.Passes.{ExtraPasses, extra-passed, station-refused, walk-refused}

@@ -10,10 +10,19 @@ use native.Mathlib.Omega.{arith}
 use borrow.Author.Tests.{le-leb, eqb-true, ne-eqb}
 use Rattle.text.specs.Number.{fieldValue, emptyField}
 use Rattle.text.specs.Time.{timeValue}
-use Rattle.text.specs.Shape.{stationOf, stationShape, walkOf, walkShape, arriveFits, departFits, filled, stopFits}
-use Rattle.text.specs.Shape.{stopOf, stopShape, shapeBy, shapeOf}
-use Rattle.text.specs.declared.Line.{Line}
-use Rattle.text.specs.declared.Line.the-variants.{Station as StationIn, Walk as WalkIn, Stop as StopIn}
+use Rattle.text_shapes.specs.Shape.{
+  stationOf,
+  stationShape,
+  walkOf,
+  walkShape,
+  arriveFits,
+  departFits,
+  filled,
+  stopFits,
+}
+use Rattle.text_shapes.specs.Shape.{stopOf, stopShape, shapeBy, shapeOf}
+use Rattle.text_shapes.specs.declared.Line.{Line}
+use Rattle.text_shapes.specs.declared.Line.the-variants.{Station as StationIn, Walk as WalkIn, Stop as StopIn}
 use Rattle.timetable.specs.Timetable.{stationsMost, stopsMost, numberMost, lastMinute, Station, Walk, Stop}
 use Rattle.timetable.specs.Timetable.{validStation, validWalk}
 use Rattle.accepted.specs.Valid.{ValidStation, ValidWalk, Ends, StopRanges, valid-station, valid-walk}

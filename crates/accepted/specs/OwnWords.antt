@@ -22,7 +22,7 @@ use Rattle.timetable.specs.Words.{tripCount, stopCount, stationAt, stopPlace, s
 use Rattle.timetable.specs.Words.{footPlace, walksTo, walkCount, walkPlace, walkAt, timetableOf, rise, chained, footed}
 use Rattle.timetable.specs.Words.{isTimetable}
 use Rattle.timetable.specs.Check.{rise-most}
-use Rattle.timetable.specs.Parts.{stops-back}
+use Rattle.timetable_writing.specs.Parts.{stops-back}
 use Rattle.timetable.specs.Access.{spelled-valid, is-chained, is-footed}
 use Rattle.accepted.specs.Valid.{is-valid}
 use Rattle.accepted.specs.Fits.{wordsCount, wordsMost}

@@ -9,18 +9,18 @@ use native.Mathlib.Omega.{arith}
 use borrow.Author.Tests.{not-true, leb-true, ltb-true, eqb-true, le-leb, lt-ltb, eq-eqb, ne-eqb}
 use Rattle.lists.specs.Tests.{and-left, and-right, or-right, or-other}
 use Rattle.text.specs.Range.{inRange}
-use Rattle.text.specs.Shape.{shapeBy}
-use Rattle.text.specs.declared.Line.the-variants.{Station as StationIn, Walk as WalkIn}
-use Rattle.text.specs.declared.StationLine.{StationLine}
-use Rattle.text.specs.declared.WalkLine.{WalkLine}
-use Rattle.text.specs.declared.StopLine.{StopLine}
+use Rattle.text_shapes.specs.Shape.{shapeBy}
+use Rattle.text_shapes.specs.declared.Line.the-variants.{Station as StationIn, Walk as WalkIn}
+use Rattle.text_shapes.specs.declared.StationLine.{StationLine}
+use Rattle.text_shapes.specs.declared.WalkLine.{WalkLine}
+use Rattle.text_shapes.specs.declared.StopLine.{StopLine}
 use Rattle.timetable.specs.Timetable.{lastMinute, stationsMost, walksMost, tripsMost, stopsMost}
-use Rattle.reading.specs.Draft.{Draft, Rules, textRules, withLine, stopsIn, stationNumber, walkOfLine, risesAfter}
-use Rattle.reading.specs.Draft.{walkFits, walkNumber, stopInRange, extraStation, extraWalk}
-use Rattle.reading.specs.Progress.{progress, stopFitsAt, stopNumberAt, extraStopAt, lineNumberAt}
-use Rattle.reading.specs.Progress.{same-number}
+use Rattle.reading_lines.specs.Draft.{Draft, Rules, textRules, withLine, stopsIn, stationNumber, walkOfLine, risesAfter}
+use Rattle.reading_lines.specs.Draft.{walkFits, walkNumber, stopInRange, extraStation, extraWalk}
+use Rattle.reading_lines.specs.Progress.{progress, stopFitsAt, stopNumberAt, extraStopAt, lineNumberAt}
+use Rattle.reading_lines.specs.Progress.{same-number}
 use Rattle.reading.specs.Reading.{Refused, readUnder}
-use Rattle.reading.specs.declared.Progress.{Progress}
+use Rattle.reading_lines.specs.declared.Progress.{Progress}
 use Rattle.accepted.specs.Valid.{ValidWalk}
 
 -- "In range? 3. In place: .. ? 4. Within the three counts? 5"

@@ -18,14 +18,14 @@ use Rattle.words.specs.Below.{Below}
 use Rattle.lists.specs.Tests.{and-both}
 use Rattle.text.specs.Piece.{pieces}
 use Rattle.text.specs.Time.{timeValue}
-use Rattle.text.specs.Shape.{shapeOf}
+use Rattle.text_shapes.specs.Shape.{shapeOf}
 use Rattle.timetable.specs.Timetable.{Timetable, valid}
 use Rattle.timetable.specs.Words.{countTo, words, timetableOf, chained, footed, isTimetable}
 use Rattle.timetable.specs.Access.{spelled-valid}
 use Rattle.reading.specs.declared.Reply.{Reply}
 use Rattle.reading.specs.declared.Reply.the-variants.{Refused as ReplyRefused}
-use Rattle.reading.specs.Draft.{Draft, textRules, blank, withLine}
-use Rattle.reading.specs.Progress.{progress, lineNumberAt}
+use Rattle.reading_lines.specs.Draft.{Draft, textRules, blank, withLine}
+use Rattle.reading_lines.specs.Progress.{progress, lineNumberAt}
 use Rattle.reading.specs.Reading.{Outcome, Accepted, Refused, complete, ended, readUnder, readFrom, textMost, readLines}
 use Rattle.reading.specs.Reading.{reading, slicesLeast, replyTo, readReply, readWords, numberOf}
 use Rattle.accepted.specs.Valid.{is-valid}

@@ -8,13 +8,27 @@ use lib.Dec.{eqb}
 use borrow.Author.Tests.{leb-true, eq-eqb, eqb-false, not-true}
 use Rattle.lists.specs.Tests.{and-left, and-right}
 use Rattle.text.specs.Number.{emptyField}
-use Rattle.text.specs.Shape.{stationOf, stationShape, walkOf, walkShape, arriveFits, departFits, filled, stopFits}
-use Rattle.text.specs.Shape.{stopOf, stopShape, shapeBy}
-use Rattle.text.specs.declared.Line.{Line}
-use Rattle.text.specs.declared.Line.the-variants.{Station as StationIn, Walk as WalkIn, Stop as StopIn, Shapeless}
-use Rattle.text.specs.declared.StationLine.{StationLine}
-use Rattle.text.specs.declared.WalkLine.{WalkLine}
-use Rattle.text.specs.declared.StopLine.{StopLine}
+use Rattle.text_shapes.specs.Shape.{
+  stationOf,
+  stationShape,
+  walkOf,
+  walkShape,
+  arriveFits,
+  departFits,
+  filled,
+  stopFits,
+}
+use Rattle.text_shapes.specs.Shape.{stopOf, stopShape, shapeBy}
+use Rattle.text_shapes.specs.declared.Line.{Line}
+use Rattle.text_shapes.specs.declared.Line.the-variants.{
+  Station as StationIn,
+  Walk as WalkIn,
+  Stop as StopIn,
+  Shapeless,
+}
+use Rattle.text_shapes.specs.declared.StationLine.{StationLine}
+use Rattle.text_shapes.specs.declared.WalkLine.{WalkLine}
+use Rattle.text_shapes.specs.declared.StopLine.{StopLine}
 
 -- a stop line
 pub record ShapedStop (l : StopLine) : Type 0 where

@@ -10,7 +10,7 @@ use native.Mathlib.Omega.{arith}
 use Rattle.lists.specs.Tests.{and-left, and-right, and-both}
 use Rattle.timetable.specs.Timetable.{Station, Walk, Stop, Trip, validStation, validWalk, walkBefore, validWalks}
 use Rattle.timetable.specs.Timetable.{listed, leaves, ends, follows, runs, validTrip, validStations, validTrips}
-use Rattle.reading.specs.Draft.{risesAfter, final}
+use Rattle.reading_lines.specs.Draft.{risesAfter, final}
 use Rattle.accepted.specs.Valid.{runs-one, runs-more}
 
 -- the stops after stop b, of a trip that has not ended

@@ -15,19 +15,34 @@ use Rattle.lists.specs.Ranges.{length-range}
 use Rattle.lists.specs.Tests.{and-left, or-other}
 use Rattle.text.specs.Piece.{pieces}
 use Rattle.text.specs.Time.{timeValue}
-use Rattle.text.specs.declared.Line.{Line}
-use Rattle.text.specs.declared.Line.the-variants.{Station as StationIn, Walk as WalkIn, Stop as StopIn, Shapeless}
-use Rattle.text.specs.declared.StationLine.{StationLine}
-use Rattle.text.specs.declared.WalkLine.{WalkLine}
-use Rattle.text.specs.declared.StopLine.{StopLine}
+use Rattle.text_shapes.specs.declared.Line.{Line}
+use Rattle.text_shapes.specs.declared.Line.the-variants.{
+  Station as StationIn,
+  Walk as WalkIn,
+  Stop as StopIn,
+  Shapeless,
+}
+use Rattle.text_shapes.specs.declared.StationLine.{StationLine}
+use Rattle.text_shapes.specs.declared.WalkLine.{WalkLine}
+use Rattle.text_shapes.specs.declared.StopLine.{StopLine}
 use Rattle.timetable.specs.Timetable.{stationsMost, walksMost, tripsMost, stopsMost, numberMost, lastMinute, Walk}
 use Rattle.timetable.specs.Timetable.{Trip, Timetable, validWalks}
 use Rattle.timetable.specs.Timetable.{stopsOf, validStation, listed, leaves, ends, follows, validTrip, validStations}
 use Rattle.timetable.specs.Timetable.{validTrips, climb, valid}
 use Rattle.timetable.specs.WordLaws.{stopsOf-append}
-use Rattle.reading.specs.Draft.{Draft, Rules, textRules, blank, final, stationOfLine, walkOfLine, stopOfLine, withStop}
-use Rattle.reading.specs.Draft.{withLine}
-use Rattle.reading.specs.Progress.{progress, lineNumberAt}
+use Rattle.reading_lines.specs.Draft.{
+  Draft,
+  Rules,
+  textRules,
+  blank,
+  final,
+  stationOfLine,
+  walkOfLine,
+  stopOfLine,
+  withStop,
+}
+use Rattle.reading_lines.specs.Draft.{withLine}
+use Rattle.reading_lines.specs.Progress.{progress, lineNumberAt}
 use Rattle.reading.specs.Reading.{textMost, Accepted, readBy, readFrom, readLines, reading}
 use Rattle.accepted.specs.Lists.{snoc-length}
 use Rattle.accepted.specs.Valid.{walk-valid, valid-is, trip-not-empty}

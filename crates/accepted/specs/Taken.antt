@@ -14,13 +14,13 @@ use Rattle.words.specs.Below.{Below}
 use Rattle.lists.specs.Tests.{and-left, and-right}
 use Rattle.text.specs.Piece.{pieces}
 use Rattle.text.specs.Time.{timeValue}
-use Rattle.text.specs.Shape.{shapeOf}
-use Rattle.text.specs.declared.Line.{Line}
+use Rattle.text_shapes.specs.Shape.{shapeOf}
+use Rattle.text_shapes.specs.declared.Line.{Line}
 use Rattle.timetable.specs.Timetable.{stationsMost, walksMost, tripsMost, stopsMost, lastMinute, Station, Walk, Stop}
 use Rattle.timetable.specs.Timetable.{Trip, Timetable, stopsOf, validStation, validWalks, leaves, follows, runs}
 use Rattle.timetable.specs.Timetable.{validTrip, validStations}
-use Rattle.reading.specs.Draft.{Draft, Rules, textRules, extraRules, opening, blank, final, withLine}
-use Rattle.reading.specs.Progress.{progress, lineNumberAt}
+use Rattle.reading_lines.specs.Draft.{Draft, Rules, textRules, extraRules, opening, blank, final, withLine}
+use Rattle.reading_lines.specs.Progress.{progress, lineNumberAt}
 use Rattle.reading.specs.Reading.{textMost, Accepted, ended, readUnder, readLines, reading, readExtra}
 use Rattle.reading.proofs.DraftLaws.{final-append}
 use Rattle.accepted.specs.Lists.{snoc-length}

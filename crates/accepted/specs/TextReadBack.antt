@@ -7,8 +7,8 @@ use Prim.Native.Nat.{ℕ, _+_, _*_, _≤_, _<_}
 use lib.ListN.{length, length-append}
 use native.Mathlib.Omega.{arith}
 use Rattle.lists.specs.Tests.{and-left, and-right, and-both}
-use Rattle.text.specs.Shape.{shapeOf}
-use Rattle.text.specs.declared.Line.{Line}
+use Rattle.text_shapes.specs.Shape.{shapeOf}
+use Rattle.text_shapes.specs.declared.Line.{Line}
 use Rattle.timetable.specs.Timetable.{stationsMost, walksMost, stopsMost, numberMost, Station, Walk, Stop, Trip}
 use Rattle.timetable.specs.Timetable.{validStation, validWalk, validWalks, leaves, ends, follows, runs, validTrip}
 use Rattle.timetable.specs.Timetable.{validStations}

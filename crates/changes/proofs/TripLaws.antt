@@ -30,10 +30,11 @@ use Rattle.timetable.specs.WordLaws.{joined-words}
 use Rattle.timetable.specs.Check.{stationsAt, tripsAt, length-stations, length-trips}
 use Rattle.timetable.specs.Access.{spelled-valid, stations-few, trips-few, stops-few, start-first, start-last}
 use Rattle.timetable.specs.Changes.{runsAs}
-use Rattle.reading.specs.Draft.{Rules, extraRules, opening}
+use Rattle.reading_lines.specs.Draft.{Rules, extraRules, opening}
 use Rattle.reading.specs.Reading.{Outcome, Accepted, Refused, readUnder, readExtra}
-use Rattle.reading.specs.Model.{Within, Running, stationsIn, readAfter, bodyWords, progressOf, LinesRead}
-use Rattle.reading.specs.declared.Progress.{Progress}
+use Rattle.reading_lines.specs.Progress.{Within, Running}
+use Rattle.reading.specs.Model.{stationsIn, readAfter, bodyWords, progressOf, LinesRead}
+use Rattle.reading_lines.specs.declared.Progress.{Progress}
 use Rattle.reading.specs.declared.Lines.{Lines}
 use Rattle.reading.specs.declared.Lines.the-variants.{Accepted as LinesAccepted, Refused as LinesRefused}
 use Rattle.accepted.specs.Extra.{extra-one}

@@ -13,7 +13,8 @@ use Rattle.timetable.specs.Words.{startAt, timetableOf, isTimetable}
 use Rattle.timetable.specs.Check.{tripsAt, numbersAt}
 use Rattle.timetable.specs.Changes.{without}
 use Rattle.reading.specs.Reading.{Outcome, Accepted, Refused}
-use Rattle.reading.specs.Model.{Within, bodyWords, progressOf}
+use Rattle.reading_lines.specs.Progress.{Within}
+use Rattle.reading.specs.Model.{bodyWords, progressOf}
 use Rattle.reading.specs.declared.Lines.{Lines}
 use Rattle.reading.specs.declared.Lines.the-variants.{Accepted as LinesAccepted, Refused as LinesRefused}
 use Rattle.changes.specs.declared.Counts.{Counts}

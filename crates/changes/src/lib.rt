@@ -27,7 +27,7 @@ ghost use Rattle.changes.specs.Appended.{
   TripRead,
 };
 use reading::Lines;
-use reading::Rules;
+use reading_lines::Rules;
 use replies::Reply;
 
 // How many trips and stops stand in the arrays in which a timetable is put together.
@@ -124,8 +124,8 @@ fn append(
     let first = timetable::start_at(words, from);
     let end = timetable::start_at(words, to);
     let at = 2 * words::word(words, 0) as usize + 5 * p.stops;
-    timetable::copy_stops(words, first, end, body, at);
-    timetable::copy_numbers(words, from, to, numbers, p.trips);
+    timetable_writing::copy_stops(words, first, end, body, at);
+    timetable_writing::copy_numbers(words, from, to, numbers, p.trips);
     shift_starts(words, from, to, starts, p);
     Counts {
         trips: p.trips + (to - from),
@@ -164,7 +164,7 @@ fn fill_front(
         × (r .trips ≡ place)
         × (r .stops ≡ startAt (now (words .entry)) place) ⌝ }
 {
-    timetable::copy_stations(words, body);
+    timetable_writing::copy_stations(words, body);
     open_starts(starts);
     let none = Counts { trips: 0, stops: 0 };
     append(words, 0, place, body, starts, numbers, none)
@@ -212,8 +212,8 @@ fn write_over(timetable: &mut [u16], all: Counts, body: &[u16], starts: &[u16], 
 {
     let stations = words::word(timetable, 0) as usize;
     let mut walking = [0u16; timetable::WALKING_WORDS];
-    let walks = timetable::copy_walks(timetable, &mut walking);
-    timetable::write_words(
+    let walks = timetable_writing::copy_walks(timetable, &mut walking);
+    timetable_writing::write_words(
         timetable,
         stations,
         all.trips,
@@ -352,7 +352,7 @@ fn read_stops(
         trips: words::word(words, 1) as usize,
         stops: words::word(words, 2) as usize,
     };
-    timetable::copy_stations(words, body);
+    timetable_writing::copy_stations(words, body);
     reading::read_lines(
         rules,
         words::word(words, 0) as usize,
@@ -393,7 +393,7 @@ fn read_trip(words: &[u16], number: u32, text: &[u8], extra: &mut [u16]) -> Foun
         }
         Lines::Accepted(p, _) => {
             put_number(&mut numbers, number);
-            timetable::write_words(
+            timetable_writing::write_words(
                 extra,
                 p.stations,
                 p.trips,

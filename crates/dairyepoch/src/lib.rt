@@ -63,7 +63,7 @@ pub extern "C" fn dairyepoch_read(text: &[u8], timetable: &mut [u16]) -> u64
 pub extern "C" fn dairyepoch_check_timetable(timetable: &[u16]) -> u64
     ensures { λ r. ⌜ r ≡ packed (timetableNumber (now (timetable .entry))) 0 ⌝ }
 {
-    pack(timetable::timetable_number(timetable), 0)
+    pack(timetable_check::timetable_number(timetable), 0)
 }
 
 fn pack_count(reply: replies::Reply) -> u64

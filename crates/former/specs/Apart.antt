@@ -9,10 +9,10 @@ use lib.ListN.{length}
 use Rattle.lists.specs.Tests.{and-left, and-right}
 use Rattle.text.specs.Number.{emptyField, isNumber, fieldValue}
 use Rattle.text.specs.Time.{timeValue}
-use Rattle.text.specs.Shape.{arriveFits, departFits, stopFits, stopOf, field, stopShape}
-use Rattle.text.specs.declared.Line.{Line}
-use Rattle.text.specs.declared.Line.the-variants.{Stop, Shapeless}
-use Rattle.text.specs.declared.StopLine.{StopLine}
+use Rattle.text_shapes.specs.Shape.{arriveFits, departFits, stopFits, stopOf, field, stopShape}
+use Rattle.text_shapes.specs.declared.Line.{Line}
+use Rattle.text_shapes.specs.declared.Line.the-variants.{Stop, Shapeless}
+use Rattle.text_shapes.specs.declared.StopLine.{StopLine}
 use Rattle.former.specs.Fields.{one-form}
 
 -- a departure at stop 1 is a number of its reader

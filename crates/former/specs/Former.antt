@@ -12,7 +12,7 @@ use Rattle.text.specs.Number.{emptyField, isNumber, fieldValue}
 use Rattle.text.specs.Time.{timeValue}
 use Rattle.reading.specs.declared.Reply.{Reply}
 use Rattle.reading.specs.declared.Reply.the-variants.{Refused as ReplyRefused}
-use Rattle.reading.specs.Draft.{blank}
+use Rattle.reading_lines.specs.Draft.{blank}
 use Rattle.reading.specs.Reading.{Outcome, Refused, readBy, textMost, slicesLeast, replyTo, written}
 use Rattle.accepted.specs.Marks.{fielded}
 use Rattle.accepted.specs.Digits.{digits}

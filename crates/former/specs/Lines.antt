@@ -12,8 +12,8 @@ use Rattle.lists.specs.Tests.{and-right}
 use Rattle.text.specs.Piece.{pieces, joined, markedLength, pieces-length, pieces-some}
 use Rattle.text.specs.Number.{fieldValue}
 use Rattle.text.specs.Time.{timeValue}
-use Rattle.text.specs.Shape.{field, stopShape, shapeBy}
-use Rattle.reading.specs.Draft.{Draft, lineNumber, withLine}
+use Rattle.text_shapes.specs.Shape.{field, stopShape, shapeBy}
+use Rattle.reading_lines.specs.Draft.{Draft, lineNumber, withLine}
 use Rattle.reading.specs.Reading.{Refused, readUnder, readBy}
 use Rattle.accepted.specs.Marks.{fielded, Free, AllFree, one-piece, piece-before, pieces-fielded}
 use Rattle.former.specs.Former.{formerAt, formerFields, formerLine, formerLines}

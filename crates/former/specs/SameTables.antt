@@ -13,7 +13,7 @@ use lib.ListN.{length}
 use Rattle.text.specs.Piece.{pieces, pieces-length}
 use Rattle.text.specs.Number.{fieldValue}
 use Rattle.timetable.specs.Timetable.{Timetable, valid}
-use Rattle.reading.specs.Draft.{blank}
+use Rattle.reading_lines.specs.Draft.{blank}
 use Rattle.reading.specs.Reading.{Accepted, readBy, readLines, textMost, reading}
 use Rattle.reading.specs.Reading.{readReply, readWords}
 use Rattle.accepted.specs.Kept.{accepted-yes}

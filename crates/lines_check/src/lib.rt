@@ -55,7 +55,7 @@ pub fn tables_number(words: &[u16], lines: &[u16], work: &mut [u32]) -> u32
     if work.len() < lines_tables::WORDS_LEAST {
         return 8;
     }
-    if !timetable::is_timetable(words) {
+    if !timetable_check::is_timetable(words) {
         return 9;
     }
     if are_tables(words, lines, &mut work[0..lines_tables::WORDS_LEAST]) {

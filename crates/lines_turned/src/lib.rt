@@ -315,7 +315,7 @@ fn slices_number(words: &[u16], tables: usize, work: usize, result: usize) -> u3
     if result < WORDS_LEAST {
         return 8;
     }
-    if timetable::is_timetable(words) {
+    if timetable_check::is_timetable(words) {
         return 0;
     }
     9

@@ -19,8 +19,8 @@ use Rattle.timetable.specs.Words.{words, timetableOf, isTimetable}
 use Rattle.timetable.specs.Changes.{runsAs, cancelled, added}
 use Rattle.text.specs.Piece.{pieces}
 use Rattle.text.specs.Time.{timeValue}
-use Rattle.text.specs.Shape.{shapeBy}
-use Rattle.reading.specs.Draft.{Draft, Rules, opening, numberUnder, withLine}
+use Rattle.text_shapes.specs.Shape.{shapeBy}
+use Rattle.reading_lines.specs.Draft.{Draft, Rules, opening, numberUnder, withLine}
 use Rattle.reading.specs.Reading.{Outcome, Accepted, Refused, complete, ended, readUnder, readExtra}
 use Rattle.reading.specs.Reading.{numberOf as lineNumberOf}
 use Rattle.accepted.specs.Fits.{words-most}

@@ -13,12 +13,22 @@ use Rattle.lists.specs.Lists.{_∈_}
 use Rattle.text.specs.Piece.{pieces}
 use Rattle.text.specs.Number.{emptyField, isNumber, fieldValue}
 use Rattle.text.specs.Time.{timeValue}
-use Rattle.text.specs.Shape.{stationOf, field, stationShape, walkShape, filled, stopFits, stopOf, stopShape, shapeBy}
-use Rattle.text.specs.declared.Line.{Line}
-use Rattle.text.specs.declared.Line.the-variants.{Station as StationIn, Stop as StopIn, Shapeless}
-use Rattle.text.specs.declared.StopLine.{StopLine}
+use Rattle.text_shapes.specs.Shape.{
+  stationOf,
+  field,
+  stationShape,
+  walkShape,
+  filled,
+  stopFits,
+  stopOf,
+  stopShape,
+  shapeBy,
+}
+use Rattle.text_shapes.specs.declared.Line.{Line}
+use Rattle.text_shapes.specs.declared.Line.the-variants.{Station as StationIn, Stop as StopIn, Shapeless}
+use Rattle.text_shapes.specs.declared.StopLine.{StopLine}
 use Rattle.timetable.specs.Timetable.{Walk, Timetable}
-use Rattle.reading.specs.Draft.{Draft, Rules, textRules, blank, numberUnder, withStop, withLine, stopOfLine}
+use Rattle.reading_lines.specs.Draft.{Draft, Rules, textRules, blank, numberUnder, withStop, withLine, stopOfLine}
 use Rattle.reading.specs.Reading.{Outcome, Accepted, Refused, textMost, complete, ended, readUnder, readLines, reading}
 use Rattle.connections.specs.Connections.{net, Connection, Feasible, stations}
 use Rattle.connections.specs.Planner.{plannerList}

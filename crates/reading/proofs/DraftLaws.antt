@@ -7,9 +7,14 @@ use native.Mathlib.Omega.{arith}
 use lib.ListN.{length, set, length-append}
 use Rattle.words.specs.Put.{put, put-next}
 use Rattle.lists.specs.Places.{no-length}
-use Rattle.text.specs.declared.Line.{Line}
-use Rattle.text.specs.declared.Line.the-variants.{Station as StationIn, Walk as WalkIn, Stop as StopIn, Shapeless}
-use Rattle.text.specs.declared.StopLine.{StopLine}
+use Rattle.text_shapes.specs.declared.Line.{Line}
+use Rattle.text_shapes.specs.declared.Line.the-variants.{
+  Station as StationIn,
+  Walk as WalkIn,
+  Stop as StopIn,
+  Shapeless,
+}
+use Rattle.text_shapes.specs.declared.StopLine.{StopLine}
 use Rattle.timetable.specs.Timetable.{Walk, Stop, Trip, stopsOf}
 use Rattle.timetable.specs.Words.{stationWords, stopWords, startWords, walkWords}
 use Rattle.timetable.specs.WordLaws.{
@@ -22,11 +27,11 @@ use Rattle.timetable.specs.WordLaws.{
   startWords-append,
   walkWords-append,
 }
-use Rattle.reading.specs.Draft.{Draft, Rules, final, stationOfLine, walkOfLine, stopOfLine}
-use Rattle.reading.specs.Draft.{withStop, withLine, stopsIn}
-use Rattle.reading.specs.Progress.{lastWalk, progress, lineNumberAt}
-use Rattle.reading.specs.Model.{Within, endTrip, goOn, advance, lineWords, startsWith, walkingWords}
-use Rattle.reading.specs.declared.Progress.{Progress}
+use Rattle.reading_lines.specs.Draft.{Draft, Rules, final, stationOfLine, walkOfLine, stopOfLine}
+use Rattle.reading_lines.specs.Draft.{withStop, withLine, stopsIn}
+use Rattle.reading_lines.specs.Progress.{Within, lastWalk, progress, lineNumberAt}
+use Rattle.reading.specs.Model.{endTrip, goOn, advance, lineWords, startsWith, walkingWords}
+use Rattle.reading_lines.specs.declared.Progress.{Progress}
 use Rattle.reading.proofs.YesLaws.{station-yes, walk-yes, StopYes, stop-yes}
 
 -- the words of a draft's stations and stops

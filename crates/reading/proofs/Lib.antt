@@ -1,5 +1,3 @@
-pub mod NumberLaws
-pub mod ExtraLaws
 pub mod YesLaws
 pub mod TakeLaws
 pub mod DraftLaws

@@ -17,16 +17,15 @@ use Rattle.lists.specs.Places.{no-length}
 use Rattle.lists.specs.Tests.{and-right}
 use Rattle.text.specs.Piece.{pieces, pieceLength, last-from, first-from, pieces-some}
 use Rattle.text.specs.Time.{timeValue}
-use Rattle.text.specs.Shape.{shapeOf}
-use Rattle.text.specs.declared.Line.{Line}
+use Rattle.text_shapes.specs.Shape.{shapeOf}
+use Rattle.text_shapes.specs.declared.Line.{Line}
 use Rattle.timetable.specs.Timetable.{Trip, Timetable}
 use Rattle.timetable.specs.Words.{stationWords, stopWords, startWords, walkWords}
 use Rattle.timetable.specs.WordLaws.{length-startWords, length-walkWords, start-first}
-use Rattle.reading.specs.Draft.{Draft, Rules, opening, withLine, numberUnder}
-use Rattle.reading.specs.Progress.{progress, lineNumberAt, isThere, same-number}
+use Rattle.reading_lines.specs.Draft.{Draft, Rules, opening, withLine, numberUnder}
+use Rattle.reading_lines.specs.Progress.{Within, progress, lineNumberAt, same-number}
 use Rattle.reading.specs.Reading.{Outcome, Accepted, Refused, complete, numbersUnder, ended, readUnder}
 use Rattle.reading.specs.Model.{
-  Within,
   stationsIn,
   readAfter,
   advance,
@@ -37,11 +36,12 @@ use Rattle.reading.specs.Model.{
   startsAfter,
   walkingWords,
   walkingAfter,
+  isThere,
   endOf,
   progressOf,
   LinesRead,
 }
-use Rattle.reading.specs.declared.Progress.{Progress}
+use Rattle.reading_lines.specs.declared.Progress.{Progress}
 use Rattle.reading.specs.declared.Next.{Next}
 use Rattle.reading.specs.declared.Next.the-variants.{On, Refused as NextRefused}
 use Rattle.reading.specs.declared.Lines.{Lines}

@@ -26,10 +26,11 @@ use Rattle.reading.specs.Reading.{
   outcomeValues,
   readValues,
 }
-use Rattle.reading.specs.Draft.{textRules}
-use Rattle.reading.specs.Model.{Within, stationsIn, readAfter, bodyWords, progressOf, LinesRead}
+use Rattle.reading_lines.specs.Draft.{textRules}
+use Rattle.reading_lines.specs.Progress.{Within}
+use Rattle.reading.specs.Model.{stationsIn, readAfter, bodyWords, progressOf, LinesRead}
 use Rattle.reading.proofs.CountLaws.{range-front}
-use Rattle.reading.specs.declared.Progress.{Progress}
+use Rattle.reading_lines.specs.declared.Progress.{Progress}
 use Rattle.reading.specs.declared.Lines.{Lines}
 use Rattle.reading.specs.declared.Lines.the-variants.{Accepted as LinesAccepted, Refused as LinesRefused}
 use Rattle.reading.specs.declared.Reply.{Reply}

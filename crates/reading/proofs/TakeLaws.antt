@@ -7,14 +7,14 @@ use borrow.Author.Tests.{eq-eqb, ne-eqb, not-true, not-false}
 use lib.Dec.{leb, eqb}
 use lib.ListN.{length}
 use Rattle.words.specs.Put.{put, put-none, put-append}
-use Rattle.text.specs.Shape.{shapeOf}
-use Rattle.text.specs.declared.Line.{Line}
-use Rattle.text.specs.declared.Line.the-variants.{Station, Walk, Stop, Shapeless}
-use Rattle.text.specs.declared.StationLine.{StationLine}
-use Rattle.text.specs.declared.WalkLine.{WalkLine}
-use Rattle.text.specs.declared.StopLine.{StopLine}
-use Rattle.reading.specs.Draft.{Rules}
-use Rattle.reading.specs.Progress.{lineNumberAt, isThere}
+use Rattle.text_shapes.specs.Shape.{shapeOf}
+use Rattle.text_shapes.specs.declared.Line.{Line}
+use Rattle.text_shapes.specs.declared.Line.the-variants.{Station, Walk, Stop, Shapeless}
+use Rattle.text_shapes.specs.declared.StationLine.{StationLine}
+use Rattle.text_shapes.specs.declared.WalkLine.{WalkLine}
+use Rattle.text_shapes.specs.declared.StopLine.{StopLine}
+use Rattle.reading_lines.specs.Draft.{Rules}
+use Rattle.reading_lines.specs.Progress.{lineNumberAt}
 use Rattle.reading.specs.Model.{
   advance,
   nextOf,
@@ -24,9 +24,10 @@ use Rattle.reading.specs.Model.{
   startsAfter,
   walkingWords,
   walkingAfter,
+  isThere,
   endOf,
 }
-use Rattle.reading.specs.declared.Progress.{Progress}
+use Rattle.reading_lines.specs.declared.Progress.{Progress}
 use Rattle.reading.specs.declared.Lines.the-variants.{Accepted as LinesAccepted, Refused as LinesRefused}
 use Rattle.reading.specs.declared.Next.{Next}
 use Rattle.reading.specs.declared.Next.the-variants.{On, Refused}

@@ -10,14 +10,15 @@ use lib.Dec.{leb, ltb, eqb}
 use Rattle.questions.specs.Question.{ask, firstNo, yes-here, yes-later}
 use Rattle.lists.specs.Tests.{and-left, and-right}
 use Rattle.text.specs.Range.{inRange, minutes-bound, points-bound, time-bound, ride-bound, mark-bound, walk-bound}
-use Rattle.text.specs.declared.Line.the-variants.{Station as StationIn, Walk as WalkIn, Stop as StopIn}
-use Rattle.text.specs.declared.StationLine.{StationLine}
-use Rattle.text.specs.declared.WalkLine.{WalkLine}
-use Rattle.text.specs.declared.StopLine.{StopLine}
+use Rattle.text_shapes.specs.declared.Line.the-variants.{Station as StationIn, Walk as WalkIn, Stop as StopIn}
+use Rattle.text_shapes.specs.declared.StationLine.{StationLine}
+use Rattle.text_shapes.specs.declared.WalkLine.{WalkLine}
+use Rattle.text_shapes.specs.declared.StopLine.{StopLine}
 use Rattle.timetable.specs.Timetable.{lastMinute}
-use Rattle.reading.specs.Draft.{Rules, stationInRange, walkInRange, stopInRange}
-use Rattle.reading.specs.Draft.{extraStation, extraWalk, extraInRange}
-use Rattle.reading.specs.Progress.{
+use Rattle.reading_lines.specs.Draft.{Rules, stationInRange, walkInRange, stopInRange}
+use Rattle.reading_lines.specs.Draft.{extraStation, extraWalk, extraInRange}
+use Rattle.reading_lines.specs.Progress.{
+  Within,
   stationNumberAt,
   placeOfStation,
   roomForStation,
@@ -35,8 +36,7 @@ use Rattle.reading.specs.Progress.{
   extraStopAt,
   lineNumberAt,
 }
-use Rattle.reading.specs.Model.{Within}
-use Rattle.reading.specs.declared.Progress.{Progress}
+use Rattle.reading_lines.specs.declared.Progress.{Progress}
 
 -- the tests of three and of four questions
 three-yes : (a b c : Bool) → firstNo (ask 3 a ∷ ask 4 b ∷ ask 5 c ∷ []) ≡ 0 → (a ≡ true) × (b ≡ true) × (c ≡ true)

@@ -1,4 +1,2 @@
-pub mod Draft
 pub mod Reading
-pub mod Progress
 pub mod Model

@@ -2,41 +2,33 @@
 -- another, and the words of walks in a third. No reader of the promise needs this file; proofs/ shows that it comes to
 -- the same as Reading.
 use mathlib.Core.Path.{_≡_}
-use mathlib.Core.Bool.{cond, _&&_}
+use mathlib.Core.Bool.{Bool, cond, _&&_}
 use mathlib.Core.List.{List, [], _∷_, _++_, map}
-use Prim.Native.Nat.{ℕ, _+_, _-_, _*_, _≤_}
-use lib.Dec.{eqb}
+use Prim.Native.Nat.{ℕ, _+_, _-_, _*_}
+use lib.Dec.{leb, eqb}
 use lib.ListN.{getD, set}
 use Rattle.lists.specs.Lists.{range}
 use Rattle.words.specs.Put.{put}
 use Rattle.text.specs.Piece.{pieces}
 use Rattle.text.specs.Time.{timeValue}
-use Rattle.text.specs.declared.Line.{Line}
-use Rattle.text.specs.declared.Line.the-variants.{Station as StationIn, Walk as WalkIn, Stop as StopIn, Shapeless}
-use Rattle.text.specs.declared.StopLine.{StopLine}
+use Rattle.text_shapes.specs.declared.Line.{Line}
+use Rattle.text_shapes.specs.declared.Line.the-variants.{
+  Station as StationIn,
+  Walk as WalkIn,
+  Stop as StopIn,
+  Shapeless,
+}
+use Rattle.text_shapes.specs.declared.StopLine.{StopLine}
 use Rattle.timetable.specs.Timetable.{Station, Timetable, stopsOf}
 use Rattle.timetable.specs.Words.{stationWords, stopWords, startWords, walkWords}
-use Rattle.reading.specs.Draft.{Rules, opening}
-use Rattle.reading.specs.Progress.{progress, lineNumberAt, isThere}
+use Rattle.reading_lines.specs.Draft.{Rules, opening}
+use Rattle.reading_lines.specs.Progress.{Within, progress, lineNumberAt}
 use Rattle.reading.specs.Reading.{Outcome, Accepted, Refused, numbersUnder, readUnder}
-use Rattle.reading.specs.declared.Progress.{Progress}
+use Rattle.reading_lines.specs.declared.Progress.{Progress}
 use Rattle.reading.specs.declared.Next.{Next}
 use Rattle.reading.specs.declared.Next.the-variants.{On, Refused as NextRefused}
 use Rattle.reading.specs.declared.Lines.{Lines}
 use Rattle.reading.specs.declared.Lines.the-variants.{Accepted as LinesAccepted, Refused as LinesRefused}
-
--- within the limits, so that no sum wraps and every index is in range
-pub record Within (p : Progress) : Type 0 where
-  pub stations : p .stations ≤ 64
-  pub walks : p .walks ≤ 256
-  pub trips : p .trips ≤ 256
-  pub stops : p .stops ≤ 2048
-  pub begun : p .begun ≤ p .stops
-
--- an extra trip comes to a timetable within the limits
-pub record Running (r : Rules) : Type 0 where
-  pub trips : r .trips ≤ 256
-  pub stops : r .stops ≤ 2048
 
 -- stations whose words an array begins with
 unfoldable pub stationsIn : List ℕ → (n : ℕ) → List Station
@@ -147,6 +139,10 @@ bodyWords t = stationWords (t .stations) ++ stopWords (stopsOf (t .trips))
 
 abbrev pub progressOf : Timetable → Progress
 progressOf t = progress (record { stations = t .stations; walks = t .walks; trips = t .trips; begun = [] })
+
+-- what question 7 wants to be there
+unfoldable pub isThere : Rules → Progress → Bool
+isThere r p = cond (r .extra) (eqb (p .trips) 1) (leb 1 (p .stations))
 
 -- question 7
 unfoldable pub endOf : Rules → Progress → ℕ → Lines

@@ -8,10 +8,10 @@ use Rattle.lists.specs.Lists.{range}
 use Rattle.words.specs.Put.{put}
 use Rattle.text.specs.Piece.{pieces}
 use Rattle.text.specs.Time.{timeValue}
-use Rattle.text.specs.Shape.{shapeBy}
+use Rattle.text_shapes.specs.Shape.{shapeBy}
 use Rattle.timetable.specs.Timetable.{Trip, Timetable, stopsOf}
 use Rattle.timetable.specs.Words.{words}
-use Rattle.reading.specs.Draft.{Draft, Rules, textRules, extraRules, opening, blank, numberUnder, withLine}
+use Rattle.reading_lines.specs.Draft.{Draft, Rules, textRules, extraRules, opening, blank, numberUnder, withLine}
 use Rattle.reading.specs.declared.Reply.{Reply}
 use Rattle.reading.specs.declared.Reply.the-variants.{Done as ReplyDone, Refused as ReplyRefused}
 

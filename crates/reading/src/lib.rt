@@ -4,78 +4,36 @@ ghost use mathlib.Core.Path.{_≡_};
 ghost use Prim.Native.Nat.{_+_, _*_, _≤_, _<_};
 ghost use mathlib.Core.Bool.{cond};
 ghost use lib.ListN.{length, set};
-ghost use Rattle.text.specs.Shape.{shapeOf};
-ghost use Rattle.text.specs.declared.Line.the-variants.{Station, Walk, Stop};
+ghost use Rattle.text_shapes.specs.Shape.{shapeOf};
+ghost use Rattle.text_shapes.specs.declared.Line.the-variants.{Station, Walk, Stop};
 ghost use Rattle.lists.specs.Lists.{range};
 ghost use Rattle.words.specs.Put.{put};
 ghost use Rattle.timetable.specs.Words.{joined};
-ghost use Rattle.reading.specs.Draft.{walkInRange, stopInRange, extraStation, extraWalk, extraInRange};
-ghost use Rattle.reading.specs.Progress.{
-  stationNumberAt,
-  risesAt,
-  walkFitsAt,
-  walkNumberAt,
-  stopNumberAt,
-  stopFitsAt,
-  placeOfExtra,
-  roomForExtra,
-  extraStopAt,
-  lineNumberAt,
-  isThere,
-};
+ghost use Rattle.reading_lines.specs.Progress.{Within, Running};
 ghost use Rattle.reading.specs.Reading.{readReply, valuesOf, readValues, readWords};
 ghost use Rattle.reading.specs.Model.{
-  Within,
-  Running,
   readAfter,
   advance,
   nextOf,
   bodyAfter,
   startsAfter,
   walkingAfter,
+  isThere,
   endOf,
   LinesRead,
 };
-use text::Line;
-use text::StationLine;
-use text::StopLine;
-use text::WalkLine;
+use reading_lines::Progress;
+use reading_lines::Rules;
+use text_shapes::Line;
+use text_shapes::StationLine;
+use text_shapes::StopLine;
+use text_shapes::WalkLine;
 
 const LINE_END: u8 = 10;
 
 const TEXT_MOST: usize = 65536;
 
-const STATIONS_MOST: usize = timetable::STATIONS_MOST as usize;
-
-const WALKS_MOST: usize = timetable::WALKS_MOST as usize;
-
 const TRIPS_MOST: usize = timetable::TRIPS_MOST as usize;
-
-const STOPS_MOST: usize = timetable::STOPS_MOST as usize;
-
-// How far the lines of a text have come: stations, walks, and the stations of the walk before, where there is one;
-// ended trips, stops in all, stops of the begun trip, and the station and departure of the stop before, where a trip
-// has begun.
-pub struct Progress {
-    pub stations: usize,
-    pub walks: usize,
-    pub from: u32,
-    pub to: u32,
-    pub trips: usize,
-    pub stops: usize,
-    pub begun: usize,
-    pub station: u32,
-    pub depart: u32,
-}
-
-// What lines are read: those of a text, or those of one extra trip, which has its number and comes to so many trips and
-// stops that run.
-pub struct Rules {
-    pub extra: bool,
-    pub number: u32,
-    pub trips: usize,
-    pub stops: usize,
-}
 
 pub enum Next {
     On(Progress),
@@ -93,285 +51,13 @@ pub enum Reply {
     Refused { number: u32, line: u32 },
 }
 
-// Questions 3 to 5 to a station line: 0, or the number of the first no.
-fn station_number(p: Progress, l: StationLine) -> u32
-    requires { ⌜ Within p ⌝ }
-    ensures { λ r. ⌜ r ≡ stationNumberAt p l ⌝ }
-{
-    let minutes = text::range_number(text::CHANGE_MINUTES, l.minutes);
-    if minutes != 0 {
-        return minutes;
-    }
-    let points = text::range_number(text::CHANGE_PENALTY, l.points);
-    if points != 0 {
-        return points;
-    }
-    if p.walks != 0 {
-        return 4;
-    }
-    if p.stops != 0 {
-        return 4;
-    }
-    if l.number as usize != p.stations + 1 {
-        return 4;
-    }
-    if STATIONS_MOST <= p.stations {
-        return 5;
-    }
-    0
-}
-
-// Question 3 to a walk line.
-fn walk_in_range(l: WalkLine) -> bool
-    ensures { λ r. ⌜ r ≡ walkInRange l ⌝ }
-{
-    if text::range_number(text::WALK_MINUTES, l.minutes) != 0 {
-        return false;
-    }
-    text::range_number(text::CHANGE_PENALTY, l.points) == 0
-}
-
-// The walk comes after the one before: by from, then to.
-fn walk_rises(p: Progress, l: WalkLine) -> bool
-    ensures { λ r. ⌜ r ≡ risesAt p l ⌝ }
-{
-    if p.walks == 0 {
-        return true;
-    }
-    if p.from < l.from {
-        return true;
-    }
-    if p.from != l.from {
-        return false;
-    }
-    p.to < l.to
-}
-
-// Question 6 to a walk line.
-fn walk_fits(p: Progress, l: WalkLine) -> bool
-    requires { ⌜ Within p ⌝ }
-    ensures { λ r. ⌜ r ≡ walkFitsAt p l ⌝ }
-{
-    if l.from < 1 {
-        return false;
-    }
-    if p.stations < l.from as usize {
-        return false;
-    }
-    if l.to < 1 {
-        return false;
-    }
-    l.to as usize <= p.stations
-}
-
-// Questions 3 to 6 to a walk line: 0, or the number of the first no.
-fn walk_number(p: Progress, l: WalkLine) -> u32
-    requires { ⌜ Within p ⌝ }
-    ensures { λ r. ⌜ r ≡ walkNumberAt p l ⌝ }
-{
-    if !walk_in_range(l) {
-        return 3;
-    }
-    if p.stops != 0 {
-        return 4;
-    }
-    if !walk_rises(p, l) {
-        return 4;
-    }
-    if WALKS_MOST <= p.walks {
-        return 5;
-    }
-    if walk_fits(p, l) {
-        return 0;
-    }
-    6
-}
-
-// Question 3 to a stop line.
-fn stop_in_range(l: StopLine) -> bool
-    ensures { λ r. ⌜ r ≡ stopInRange l ⌝ }
-{
-    if text::range_number(text::TIME, l.arrive) != 0 {
-        return false;
-    }
-    if text::range_number(text::TIME, l.depart) != 0 {
-        return false;
-    }
-    if text::range_number(text::RIDE_PENALTY, l.points) != 0 {
-        return false;
-    }
-    text::range_number(text::MARK, l.mark) == 0
-}
-
-// Question 6 to a stop line.
-fn stop_fits(p: Progress, l: StopLine) -> bool
-    requires { ⌜ Within p ⌝ }
-    ensures { λ r. ⌜ r ≡ stopFitsAt p l ⌝ }
-{
-    if l.station < 1 {
-        return false;
-    }
-    if p.stations < l.station as usize {
-        return false;
-    }
-    if p.begun == 0 {
-        return true;
-    }
-    if l.station == p.station {
-        return false;
-    }
-    if l.arrive <= p.depart {
-        return false;
-    }
-    if l.last {
-        return true;
-    }
-    l.arrive <= l.depart
-}
-
-// Questions 3 to 6 to a stop line: 0, or the number of the first no.
-fn stop_number(p: Progress, l: StopLine) -> u32
-    requires { ⌜ Within p ⌝ }
-    ensures { λ r. ⌜ r ≡ stopNumberAt p l ⌝ }
-{
-    if !stop_in_range(l) {
-        return 3;
-    }
-    if l.trip as usize != p.trips + 1 {
-        return 4;
-    }
-    if l.stop as usize != p.begun + 1 {
-        return 4;
-    }
-    if TRIPS_MOST <= p.trips {
-        return 5;
-    }
-    if STOPS_MOST <= p.stops {
-        return 5;
-    }
-    if stop_fits(p, l) {
-        return 0;
-    }
-    6
-}
-
-// Questions 3 and 4 to a station line of an extra trip: none is in place there.
-fn extra_station(l: StationLine) -> u32
-    ensures { λ r. ⌜ r ≡ extraStation l ⌝ }
-{
-    let minutes = text::range_number(text::CHANGE_MINUTES, l.minutes);
-    if minutes != 0 {
-        return minutes;
-    }
-    let points = text::range_number(text::CHANGE_PENALTY, l.points);
-    if points != 0 {
-        return points;
-    }
-    4
-}
-
-// Questions 3 and 4 to a walk line of an extra trip: none is in place there either.
-fn extra_walk(l: WalkLine) -> u32
-    ensures { λ r. ⌜ r ≡ extraWalk l ⌝ }
-{
-    if !walk_in_range(l) {
-        return 3;
-    }
-    4
-}
-
-// Question 3 to a stop line of an extra trip.
-fn extra_in_range(l: StopLine) -> bool
-    ensures { λ r. ⌜ r ≡ extraInRange l ⌝ }
-{
-    if l.trip < 1 {
-        return false;
-    }
-    stop_in_range(l)
-}
-
-// Question 4 to a stop line of an extra trip.
-fn extra_in_place(rules: Rules, p: Progress, l: StopLine) -> bool
-    requires { ⌜ Within p ⌝ }
-    ensures { λ r. ⌜ r ≡ placeOfExtra rules p l ⌝ }
-{
-    if l.trip != rules.number {
-        return false;
-    }
-    if p.trips != 0 {
-        return false;
-    }
-    l.stop as usize == p.begun + 1
-}
-
-// Question 5 to a stop line of an extra trip: the trips and stops that run count.
-fn extra_counted(rules: Rules, p: Progress) -> bool
-    requires { ⌜ Within p × Running rules ⌝ }
-    ensures { λ r. ⌜ r ≡ roomForExtra rules p ⌝ }
-{
-    if TRIPS_MOST <= rules.trips + p.trips {
-        return false;
-    }
-    rules.stops + p.stops < STOPS_MOST
-}
-
-// Questions 3 to 6 to a stop line of an extra trip: 0, or the number of the first no.
-fn extra_stop(rules: Rules, p: Progress, l: StopLine) -> u32
-    requires { ⌜ Within p × Running rules ⌝ }
-    ensures { λ r. ⌜ r ≡ extraStopAt rules p l ⌝ }
-{
-    if !extra_in_range(l) {
-        return 3;
-    }
-    if !extra_in_place(rules, p, l) {
-        return 4;
-    }
-    if !extra_counted(rules, p) {
-        return 5;
-    }
-    if stop_fits(p, l) {
-        return 0;
-    }
-    6
-}
-
-fn station_asked(rules: Rules, p: Progress, l: StationLine) -> u32
-    requires { ⌜ Within p ⌝ }
-    ensures { λ r. ⌜ r ≡ lineNumberAt rules p (Station l) ⌝ }
-{
-    if rules.extra {
-        return extra_station(l);
-    }
-    station_number(p, l)
-}
-
-fn walk_asked(rules: Rules, p: Progress, l: WalkLine) -> u32
-    requires { ⌜ Within p ⌝ }
-    ensures { λ r. ⌜ r ≡ lineNumberAt rules p (Walk l) ⌝ }
-{
-    if rules.extra {
-        return extra_walk(l);
-    }
-    walk_number(p, l)
-}
-
-fn stop_asked(rules: Rules, p: Progress, l: StopLine) -> u32
-    requires { ⌜ Within p × Running rules ⌝ }
-    ensures { λ r. ⌜ r ≡ lineNumberAt rules p (Stop l) ⌝ }
-{
-    if rules.extra {
-        return extra_stop(rules, p, l);
-    }
-    stop_number(p, l)
-}
-
 // Puts the questions to a station line, and where all have a yes takes its words.
 fn take_station(rules: Rules, p: Progress, l: StationLine, body: &mut [u16]) -> Next
     requires { ⌜ Within p × (length (now body) ≡ 10368) ⌝ }
     ensures { λ r. ⌜ (r ≡ nextOf rules p (Station l))
         × (now (body .exit) ≡ bodyAfter rules p (Station l) (now (body .entry))) ⌝ }
 {
-    let number = station_asked(rules, p, l);
+    let number = reading_lines::station_asked(rules, p, l);
     if number != 0 {
         return Next::Refused(number);
     }
@@ -395,7 +81,7 @@ fn take_walk(rules: Rules, p: Progress, l: WalkLine, walking: &mut [u16]) -> Nex
     ensures { λ r. ⌜ (r ≡ nextOf rules p (Walk l))
         × (now (walking .exit) ≡ walkingAfter rules p (Walk l) (now (walking .entry))) ⌝ }
 {
-    let number = walk_asked(rules, p, l);
+    let number = reading_lines::walk_asked(rules, p, l);
     if number != 0 {
         return Next::Refused(number);
     }
@@ -465,7 +151,7 @@ fn take_stop(rules: Rules, p: Progress, l: StopLine, body: &mut [u16], starts: &
         × (now (body .exit) ≡ bodyAfter rules p (Stop l) (now (body .entry)))
         × (now (starts .exit) ≡ startsAfter rules p (Stop l) (now (starts .entry))) ⌝ }
 {
-    let number = stop_asked(rules, p, l);
+    let number = reading_lines::stop_asked(rules, p, l);
     if number != 0 {
         return Next::Refused(number);
     }
@@ -501,7 +187,7 @@ fn take_line(
         × (now (starts .exit) ≡ startsAfter rules p (shapeOf (now (line .entry))) (now (starts .entry)))
         × (now (walking .exit) ≡ walkingAfter rules p (shapeOf (now (line .entry))) (now (walking .entry))) ⌝ }
 {
-    match text::shape(line) {
+    match text_shapes::shape(line) {
         Line::Station(l) => {
             return take_station(rules, p, l, body);
         }
@@ -631,7 +317,7 @@ fn write_timetable(
 {
     let mut numbers = [0u16; timetable::NUMBERS_WORDS];
     count_trips(&mut numbers);
-    timetable::write_words(
+    timetable_writing::write_words(
         timetable,
         p.stations,
         p.trips,

@@ -1,3 +1,1 @@
 pub mod DigitLaws
-pub mod ValueLaws
-pub mod ShapeLaws

@@ -1,7 +1,3 @@
-pub mod TestLaws
 pub mod WordAtLaws
-pub mod CheckLaws
-pub mod DecideLaws
-pub mod WriteLaws
-pub mod CopyLaws
+pub mod CountLaws
 pub mod WalkToLaws

@@ -1,9 +1,9 @@
 -- A timetable after a change. Document 02, Eleven: "Control rooms cancel and add trips during the day. The timetable
 -- words and line tables after each change must equal those built afresh from the trips that now run, taken in rising
 -- number."
-use mathlib.Core.Bool.{Bool, true, false, cond, _||_}
+use mathlib.Core.Bool.{Bool, false, cond, _||_}
 use mathlib.Core.List.{List, [], _∷_, _++_}
-use Prim.Native.Nat.{ℕ, zero, suc}
+use Prim.Native.Nat.{ℕ, suc}
 use lib.Dec.{ltb, eqb}
 use lib.ListN.{take, drop}
 use Rattle.timetable.specs.Timetable.{Trip, Timetable}

@@ -1,7 +1,7 @@
 -- How the code decides question 9, part by part. No reader of the promise needs this file: `decided` shows that the
 -- parts come to `isTimetable`.
 use mathlib.Core.Path.{_≡_, sym, ap, _∙_}
-use mathlib.Core.Bool.{Bool, true, _&&_, _||_}
+use mathlib.Core.Bool.{Bool, true, _&&_}
 use mathlib.Core.List.{List, [], _∷_, map}
 use Prim.Native.Nat.{ℕ, zero, suc, _+_, _-_, _≤_, _<_}
 use native.Mathlib.Nat.{sub-zero}
@@ -19,12 +19,7 @@ use Rattle.timetable.specs.Timetable.{
   Stop,
   Trip,
   stopsOf,
-  listed,
-  leaves,
-  follows,
   validStations,
-  validWalk,
-  walkBefore,
   validWalks,
   validTrips,
   numbered,
@@ -53,14 +48,6 @@ use Rattle.timetable.specs.Words.{
   isTimetable,
 }
 
--- a trip's first stop
-unfoldable pub begins : ℕ → Stop → Bool
-begins n s = listed n s && eqb (s .arrive) 0 && leaves s
-
--- a stop between a trip's first and its last
-unfoldable pub passes : ℕ → Stop → Stop → Bool
-passes n b s = follows n b s && leb (s .arrive) (s .depart) && leaves s
-
 -- what f gives for the numbers from i up to n
 unfoldable pub between : {A : Type 0} → (ℕ → A) → ℕ → ℕ → List A
 between f i n = map f (range i (n - i))
@@ -83,11 +70,6 @@ numbersAt w = between (numberAt w)
 
 abbrev pub walksAt : List ℕ → ℕ → ℕ → List Walk
 walksAt w = between (walkAt w)
-
--- walk k is valid, of n stations, and comes before the next one of so many
-unfoldable pub walkStands : List ℕ → (n k walks : ℕ) → Bool
-walkStands w n k walks =
-    validWalk n (walkAt w k) && (leb walks (k + 1) || walkBefore (walkAt w k) (walkAt w (k + 1)))
 
 -- the counts of walks from station y on, before station n, are those of the walks
 unfoldable pub footedFrom : List ℕ → List Walk → (y n : ℕ) → Bool

@@ -6,6 +6,5 @@ pub mod Check
 pub mod Access
 pub mod Walks
 pub mod WalkTo
-pub mod Parts
 pub mod Changes
 pub mod Worked

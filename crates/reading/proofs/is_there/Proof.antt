@@ -1,5 +1,4 @@
 -- A station, or the extra trip, as the rules say.
-use borrow.Author.Needs.{needs}
 use Rattle.reading.proofs.TakeLaws.{extra-there, station-there}
 use Rattle.reading.proofs.is_there.Statement.{statement}
 use Rattle.reading.proofs.is_there.Tie as tie

@@ -4,7 +4,7 @@ use Prim.Native.Nat.{_+_, _-_, _≤_}
 use borrow.Author.Needs.{needs}
 use Rattle.timetable.specs.Words.{countTo, walkIn}
 use Rattle.timetable.specs.Check.{between}
-use Rattle.timetable.proofs.CheckLaws.{count-more, count-done}
+use Rattle.timetable.proofs.CountLaws.{count-more, count-done}
 use Rattle.timetable.proofs.count_to.Statement.{statement}
 use Rattle.timetable.proofs.count_to.Tie as tie
 

@@ -1,6 +1,6 @@
 -- Two ways out.
 use borrow.Author.Needs.{needs}
-use Rattle.timetable.proofs.TestLaws.{one-up-to, none-up-to}
+use Rattle.timetable.proofs.CountLaws.{one-up-to, none-up-to}
 use Rattle.timetable.proofs.one_to.Statement.{statement}
 use Rattle.timetable.proofs.one_to.Tie as tie
 
