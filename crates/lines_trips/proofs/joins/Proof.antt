@@ -4,9 +4,9 @@ use Prim.Native.Nat.{_≤_, _-_}
 use borrow.Author.Needs.{needs}
 use Rattle.timetable.specs.Words.{tripAt}
 use Rattle.lines.specs.Lines.{behind}
-use Rattle.lines_found.proofs.TripLaws.{restBehind, whole-trips, front-ends, back-ends, parts-here, agrees-here}
-use Rattle.lines_found.proofs.joins.Statement.{statement}
-use Rattle.lines_found.proofs.joins.Tie as tie
+use Rattle.lines_trips.proofs.TripLaws.{restBehind, whole-trips, front-ends, back-ends, parts-here, agrees-here}
+use Rattle.lines_trips.proofs.joins.Statement.{statement}
+use Rattle.lines_trips.proofs.joins.Tie as tie
 
 abbrev Inv-loop : tie.InvT-loop
 Inv-loop words a b front back i₀ j₀ i j =

@@ -1,9 +1,9 @@
 -- Words with a yes have at most 64 stations, 256 trips and 2,048 stops, and no trip without a stop.
 use borrow.Author.Needs.{needs}
-use Rattle.lines_found.proofs.TripLaws.{few-stations, few-stops, few-trips, few-ends, end-fits, some-stops}
-use Rattle.lines_found.proofs.TripLaws.{end-most}
-use Rattle.lines_found.proofs.stops_of.Statement.{statement}
-use Rattle.lines_found.proofs.stops_of.Tie as tie
+use Rattle.lines_trips.proofs.TripLaws.{few-stations, few-stops, few-trips, few-ends, end-fits, some-stops}
+use Rattle.lines_trips.proofs.TripLaws.{end-most}
+use Rattle.lines_trips.proofs.stops_of.Statement.{statement}
+use Rattle.lines_trips.proofs.stops_of.Tie as tie
 
 start-at-requires : tie.Need-start-at-requires
 start-at-requires c κs = (search needs, search few-stations, search few-stops, search few-trips)

@@ -1,8 +1,8 @@
 -- One way out for each of the five tests, in their order.
-use Rattle.lines_found.proofs.TripLaws.{unlike-station, unlike-points, unlike-mark, arrives-earlier}
-use Rattle.lines_found.proofs.TripLaws.{departure-decides}
-use Rattle.lines_found.proofs.stop_joins.Statement.{statement}
-use Rattle.lines_found.proofs.stop_joins.Tie as tie
+use Rattle.lines_trips.proofs.TripLaws.{unlike-station, unlike-points, unlike-mark, arrives-earlier}
+use Rattle.lines_trips.proofs.TripLaws.{departure-decides}
+use Rattle.lines_trips.proofs.stop_joins.Statement.{statement}
+use Rattle.lines_trips.proofs.stop_joins.Tie as tie
 
 returns : tie.Need-returns
 returns c = search unlike-station
