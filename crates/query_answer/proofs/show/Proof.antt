@@ -1,8 +1,8 @@
 -- Without a connection nothing is written; else the rows are shown.
-use Rattle.query_call.proofs.ShownLaws.{none-reply, none-words}
+use Rattle.query_answer.proofs.AnswerLaws.{none-reply, none-words}
 use borrow.Author.Needs.{needs}
-use Rattle.query_call.proofs.show.Statement.{statement}
-use Rattle.query_call.proofs.show.Tie as tie
+use Rattle.query_answer.proofs.show.Statement.{statement}
+use Rattle.query_answer.proofs.show.Tie as tie
 
 returns : tie.Need-returns
 returns c = (search none-reply, search none-words)

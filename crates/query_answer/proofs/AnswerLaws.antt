@@ -6,20 +6,17 @@ use Prim.Native.Nat.{ℕ, _≤_, _<_}
 use native.Mathlib.Omega.{arith}
 use borrow.Author.Tests.{le-leb, lt-leb}
 use lib.Dec.{leb}
-use lib.ListN.{length, take}
-use lib.Seq.{length-take-le}
+use lib.ListN.{length}
 use Rattle.words.specs.Put.{put}
 use Rattle.questions.specs.Question.{ask, firstNo}
 use Rattle.replies.specs.declared.Reply.the-variants.{Done, Refused}
 use Rattle.replies.specs.Replies.{reply-done, reply-refused, words-done, words-kept}
-use Rattle.lines_check.specs.Asked.{queryNumber}
-use Rattle.lines_check.specs.Yes.{yes-all}
 use Rattle.query_minutes.specs.Minutes.{noPoints, leads}
 use Rattle.promises.specs.Query.{kept, rows, rowWords}
 use Rattle.query_rows.specs.Rowed.{LeastKept}
 use Rattle.query_rows.specs.Leading.{leads-count, leads-none, leads-some}
 use Rattle.query_rows.specs.Granted.{Granted, all-bounds}
-use Rattle.query_call.specs.Shown.{shownNumber, shownReply, shownWords}
+use Rattle.query_answer.specs.Answer.{shownNumber, shownReply, shownWords}
 use Rattle.query_rows.proofs.PassLaws.{rows-are}
 
 module _
@@ -97,17 +94,3 @@ module _
             e
             ∙ words-done (shownNumber w s a b u (length old)) (rowWords (rows w s a b u)) old
             (enough (length old) room)
-
--- working space is as long as the questions asked for
-module _ (w v work : List ℕ) (a b u : ℕ) (all : queryNumber w v (length work) a b u ≡ 0) where
-  pub work-room : 16384 ≤ length work
-  work-room = yes-all w v (length work) a b u all .slices .work
-
-  pub words-long : 1 ≤ length w
-  words-long = omega (arith, yes-all w v (length work) a b u all .slices .words)
-
-  pub minutes-room : (after : List ℕ) → length after ≡ length work → 2880 ≤ length after
-  minutes-room after e = omega (arith, work-room)
-
-  pub minutes-part : (after : List ℕ) → length after ≡ length work → length (take 2880 after) ≡ 2880
-  minutes-part after e = length-take-le 2880 after (minutes-room after e)

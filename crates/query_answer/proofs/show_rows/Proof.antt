@@ -1,8 +1,8 @@
 -- Two ways out: too little room, or the rows written.
-use Rattle.query_call.proofs.ShownLaws.{rows-room, short-reply, short-words, done-reply, done-words}
+use Rattle.query_answer.proofs.AnswerLaws.{rows-room, short-reply, short-words, done-reply, done-words}
 use borrow.Author.Needs.{needs}
-use Rattle.query_call.proofs.show_rows.Statement.{statement}
-use Rattle.query_call.proofs.show_rows.Tie as tie
+use Rattle.query_answer.proofs.show_rows.Statement.{statement}
+use Rattle.query_answer.proofs.show_rows.Tie as tie
 
 pub show-rows-spec : {M : Type 1} → statement M
 show-rows-spec =
