@@ -2,6 +2,7 @@
 use mathlib.Core.Path.{_≡_, sym, ap, _∙_}
 use mathlib.Core.List.{List, []}
 use Prim.Native.Nat.{ℕ, _+_}
+use native.Mathlib.Omega.{arith}
 use lib.ListN.{length}
 use Rattle.words.specs.Put.{put, put-none}
 use Rattle.listing_printing.specs.Lines.{refusedTimetable}
@@ -10,7 +11,6 @@ use Rattle.reading.specs.declared.Reply.the-variants.{Done as ReadDone, Refused
 use Rattle.reading.specs.Reading.{readReply}
 use Rattle.lines_tables.specs.Building.{buildWords}
 use Rattle.listing_output.specs.Printed.{readPrinted, textPrinted, readTables, textTables}
-use native.Mathlib.Omega.{arith}
 
 from-zero : (r n : ℕ) → r ≡ 0 + n → r ≡ n
 from-zero r n e = omega arith

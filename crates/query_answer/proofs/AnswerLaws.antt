@@ -16,8 +16,8 @@ use Rattle.promises.specs.Query.{kept, rows, rowWords}
 use Rattle.query_rows.specs.Rowed.{LeastKept}
 use Rattle.query_rows.specs.Leading.{leads-count, leads-none, leads-some}
 use Rattle.query_rows.specs.Granted.{Granted, all-bounds}
-use Rattle.query_answer.specs.Answer.{shownNumber, shownReply, shownWords}
 use Rattle.query_rows.proofs.PassLaws.{rows-are}
+use Rattle.query_answer.specs.Answer.{shownNumber, shownReply, shownWords}
 
 module _
     (w v s best : List ℕ)

@@ -26,9 +26,9 @@ use Rattle.lines_lookup.specs.Calls.{Call}
 use Rattle.lines_lookup.specs.Told.{LineTold, ride-difference}
 use Rattle.lines_lookup.specs.Marked.{line-station}
 use Rattle.lines_lookup.specs.Rising.{Later, Rising}
-use Rattle.query_direct.specs.Candidates.{Reach, opens, reachTo, reachOf, nearest, rideOn}
+use Rattle.query_places.specs.Candidates.{Reach, opens, reachTo, reachOf, nearest, rideOn}
 use Rattle.lists.specs.First.{Foremost, foremost}
-use Rattle.query_direct.specs.Foremost.{first-at-in, first-at-out}
+use Rattle.query_nearest.specs.Foremost.{first-at-in, first-at-out}
 
 -- the nearest place is one of them
 pub nearest-in : (rs : List Reach) (r : Reach) → r ∈ nearest rs → r ∈ rs

@@ -8,8 +8,8 @@ use Prim.Native.Nat.{ℕ, _+_, _-_}
 use lib.Dec.{ltb, eqb}
 use Rattle.lists.specs.Lists.{concatMap, range}
 use Rattle.connections.specs.Rides.{Ride}
-use Rattle.lines_lookup.specs.Lookup.{Line, lineAt, numberAt, stationAt, boardsAt, alightsAt, pointsBetween}
-use Rattle.lines_lookup.specs.Lookup.{arriveAt, departAt}
+use Rattle.lines_lookup.specs.Lookup.{Line, lineAt, numberAt, stationAt, boardsAt, alightsAt, pointsBetween, arriveAt}
+use Rattle.lines_lookup.specs.Lookup.{departAt}
 use Rattle.lines_lookup.specs.First.{firstTrip}
 use Rattle.lines_lookup.specs.Calls.{Call, Boarding, callsOf, callsIn, after}
 

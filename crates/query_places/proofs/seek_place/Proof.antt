@@ -3,10 +3,10 @@
 use mathlib.Core.Path.{_≡_, refl}
 use Prim.Native.Nat.{_≤_, _-_}
 use borrow.Author.Needs.{needs}
-use Rattle.query_direct.specs.Places.{rest}
-use Rattle.query_direct.proofs.ReachLaws.{place-none, place-other, place-closed, place-found}
-use Rattle.query_direct.proofs.costs.seek_place.Statement.{statement}
-use Rattle.query_direct.proofs.costs.seek_place.Tie as tie
+use Rattle.query_places.specs.Places.{rest}
+use Rattle.query_places.proofs.ReachLaws.{place-none, place-other, place-closed, place-found}
+use Rattle.query_places.proofs.seek_place.Statement.{statement}
+use Rattle.query_places.proofs.seek_place.Tie as tie
 
 abbrev Inv-loop : tie.InvT-loop
 Inv-loop v g at end k₀ k = (k ≤ 65536) × (rest v g at ≡ rest v g k)

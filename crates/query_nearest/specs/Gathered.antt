@@ -32,31 +32,15 @@ use Rattle.lines_tables.specs.Spelled.{within}
 use Rattle.lines_lookup.specs.Lookup.{lineAt}
 use Rattle.lines_lookup.specs.First.{firstTrip}
 use Rattle.lines_lookup.specs.Told.{Told}
-use Rattle.query_direct.specs.Bounds.{Bounds}
-use Rattle.query_direct.specs.Candidates.{firstRead, nearRead, allRead}
-use Rattle.query_direct.specs.Nearest.{Nearer, nearer-sooner, nearer-ride}
-use Rattle.query_direct.specs.Foremost.{placed}
-use Rattle.query_direct.specs.Reached.{first-trip-in, first-trip-out}
-use Rattle.query_direct.specs.ByLine.{
-  lineOf,
-  rideBy,
-  By,
-  Read,
-  line-listed,
-  line-good,
-  from-inside,
-  first-listed,
-  all-listed,
-  first-read-in,
-  first-read-out,
-  near-listed,
-  near-read-in,
-  near-read-out,
-  all-read-in,
-  all-read-out,
-  timely-by,
-  by-timely,
-}
+use Rattle.query_nearest.specs.Bounds.{Bounds}
+use Rattle.query_places.specs.Candidates.{firstRead, nearRead, allRead}
+use Rattle.query_nearest.specs.Nearest.{Nearer, nearer-sooner, nearer-ride}
+use Rattle.query_nearest.specs.Foremost.{placed}
+use Rattle.query_nearest.specs.Reached.{first-trip-in, first-trip-out}
+use Rattle.query_nearest.specs.ByLine.{lineOf, rideBy, By, Read, line-listed, line-good, from-inside}
+use Rattle.query_nearest.specs.ByLine.{first-listed, all-listed, first-read-in, first-read-out, near-listed}
+use Rattle.query_nearest.specs.ByLine.{near-read-in, near-read-out, all-read-in, all-read-out, timely-by}
+use Rattle.query_nearest.specs.ByLine.{by-timely}
 
 module _
     (v : List ℕ)

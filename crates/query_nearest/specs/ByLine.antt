@@ -2,8 +2,8 @@
 -- trips there are is told by the first that leaves in time.
 use mathlib.Core.Path.{_≡_, refl, sym, ap, subst, _∙_}
 use mathlib.Core.Bool.{Bool, true, false, cond}
-use mathlib.Core.List.{List, [], _∷_, map, Memᴰ·map, Memᴰ·of-map, Memᴰ·cast}
-use mathlib.Core.List.{List·Memᴰ·head as here, List·Memᴰ·tail as further}
+use mathlib.Core.List.{List, [], _∷_, map, Memᴰ·map, Memᴰ·of-map, Memᴰ·cast, List·Memᴰ·head as here}
+use mathlib.Core.List.{List·Memᴰ·tail as further}
 use Prim.Native.Nat.{ℕ, _+_, _-_, _≤_, _<_}
 use native.Mathlib.Omega.{arith}
 use native.Mathlib.Decide.{decLe}
@@ -27,11 +27,10 @@ use Rattle.lines_lookup.specs.Told.{LineTold, Told, ride-difference}
 use Rattle.lines_lookup.specs.Marked.{station-few, boards-told, alights-told}
 use Rattle.lines_lookup.specs.Rising.{Later, Rising, after-out, after-in, after-rising, after-again}
 use Rattle.lines_lookup.specs.Met.{Met, calls-in, calls-out, calls-rise}
-use Rattle.query_direct.specs.Candidates.{Reach, opens, reachOf, nearest, Leg, legOf, legs, rideOn}
-use Rattle.query_direct.specs.Candidates.{tripsTo, firstLeg, nearLeg, allLeg, firstOn, allOn, firstRead}
-use Rattle.query_direct.specs.Candidates.{nearRead, allRead}
-use Rattle.query_direct.specs.Reached.{Left, nearest-in, reach-in, reach-out, reach-nearest}
-use Rattle.query_direct.specs.Reached.{timely-in, timely-out, ride-same}
+use Rattle.query_places.specs.Candidates.{Reach, opens, reachOf, nearest, Leg, legOf, legs, rideOn, tripsTo, firstLeg}
+use Rattle.query_places.specs.Candidates.{nearLeg, allLeg, firstOn, allOn, firstRead, nearRead, allRead}
+use Rattle.query_nearest.specs.Reached.{Left, nearest-in, reach-in, reach-out, reach-nearest, timely-in}
+use Rattle.query_nearest.specs.Reached.{timely-out, ride-same}
 
 -- what is in a list that stands under a test
 under-out : {A : Type 0} {x : A} (b : Bool) (l : List A) → x ∈ cond b l [] → T b × (x ∈ l)

@@ -1,28 +1,24 @@
 -- The calls in front of a list: those of the line that are open are places to ride to, until one is of another line.
 use mathlib.Core.Path.{_≡_, sym, ap, _∙_}
-use mathlib.Core.Bool.{Bool, true, false, not}
-use mathlib.Core.List.{List, [], _∷_, map}
+use mathlib.Core.Bool.{Bool, true, false}
+use mathlib.Core.List.{List, [], _∷_}
 use Prim.Native.Nat.{ℕ, _+_, _-_, _≤_, _<_}
+use borrow.Author.Tests.{eq-eqb, ne-eqb}
 use lib.ListN.{length}
-use borrow.Author.Tests.{eq-eqb, ne-eqb, not-true, not-false}
 use Rattle.results.specs.declared.Points.{Points}
-use Rattle.lines_lookup.specs.Lookup.{Line, boardsAt, alightsAt, totalAt, pointsBetween, arriveAt}
-use Rattle.lines_lookup.specs.Calls.{Call, Piece, Boarding, callAt, callsIn}
+use Rattle.lines_lookup.specs.Lookup.{Line, boardsAt, alightsAt, totalAt, pointsBetween}
+use Rattle.lines_lookup.specs.Calls.{Call, Boarding, callAt, callsIn}
 use Rattle.lines_lookup.proofs.LookupLaws.{pairs-more, pairs-none}
-use Rattle.query_direct.specs.Candidates.{opens, reachTo, reachOf, reachBy, nearest, rideOn}
-use Rattle.query_direct.specs.Places.{rest, reachAt, restAt}
-use Rattle.query_direct.specs.declared.costs.Place.{Place}
-use Rattle.query_minutes.specs.Minutes.{noteAll, lowered}
+use Rattle.query_places.specs.Candidates.{opens, reachTo, reachOf}
+use Rattle.query_places.specs.Turns.{from}
+use Rattle.query_places.specs.Places.{rest, restAt}
+use Rattle.query_places.specs.declared.Place.{Place}
 
 -- ---- the penalty, by two totals
 module _ (v : List ℕ) (l : Line) (x y here there : ℕ) (is-here : here ≡ totalAt v l x) (is : there ≡ totalAt v l y)
   where
     pub total-left : (r : ℕ) → r ≡ there - here → r ≡ pointsBetween v l x y
     total-left r left = left ∙ (λ i. is i - is-here i)
-
--- a piece from index k on
-abbrev pub from : (k end : ℕ) → Piece
-from k end = record { from = k; end = end }
 
 -- ---- what is left of the places to ride to
 module _ (v : List ℕ) (l : Line) (c : Call) (k end : ℕ) where
@@ -92,32 +88,3 @@ module _ (v : List ℕ) (g : Boarding) (at k : ℕ) (so-far : rest v g at ≡ re
             so-far
             ∙ reach-open v (g .line) (g .call) k (g .rest .end) more inside d is-d same (sym is-r ∙ e)
             ∙ (λ i. record { place = d .place; points = sym is-points i } ∷ rest v g (k + 2))
-
--- ---- the nearest place is the one that is found first
-module _ (v : List ℕ) (g : Boarding) (s : Place) (is : rest v g (g .rest .from) ≡ restAt v g s) where
-  nearest-is : nearest (reachBy v g) ≡ nearest (restAt v g s)
-  unfolding rest
-  nearest-is = ap nearest is
-
-  pub nearest-none : not (s .found) ≡ true → nearest (reachBy v g) ≡ []
-  unfolding restAt nearest
-  nearest-none e = nearest-is ∙ rw (not-true (s .found) e)
-
-  pub nearest-found : not (s .found) ≡ false → nearest (reachBy v g) ≡ reachAt s ∷ []
-  unfolding restAt nearest
-  nearest-found e = nearest-is ∙ rw (not-false (s .found) e)
-
--- ---- noting it
-module _ (v : List ℕ) (g : Boarding) (j : ℕ) (best : List ℕ) (s : Place)
-    (is : rest v g (g .rest .from) ≡ restAt v g s) where
-  pub noted-none : not (s .found) ≡ true
-      → best ≡ noteAll best (map (rideOn v (g .line) (g .call .place) j) (nearest (reachBy v g)))
-  unfolding noteAll
-  noted-none e = rw (nearest-none v g s is e)
-
-  pub noted-nearest : not (s .found) ≡ false → (m : ℕ) → m ≡ arriveAt v (g .line) (s .place) j
-      → (next : List ℕ) → next ≡ lowered best m (s .points .0)
-      → next ≡ noteAll best (map (rideOn v (g .line) (g .call .place) j) (nearest (reachBy v g)))
-  unfolding noteAll
-  noted-nearest e m is-m next f =
-      rw (nearest-found v g s is e) (f ∙ ap (λ m. lowered best m (s .points .0)) is-m)
