@@ -24,7 +24,7 @@ fn rebuild(timetable: &[u16], lines: &mut [u16], work: &mut [u32]) -> u32
         ≡ put 0 (tableWords (timetableOf (now (timetable .entry)))) (now (lines .entry)) ⌝ }
     ensures { λ r. ⌜ r ≡ lineCount (timetableOf (now (timetable .entry))) ⌝ }
 {
-    lines_tables::build_tables(timetable, lines, &mut work[0..lines_tables::WORDS_LEAST])
+    lines_call::build_tables(timetable, lines, &mut work[0..lines_tables::WORDS_LEAST])
 }
 
 // Cancels the trip of this number, where questions 8 to 10 have their yes.

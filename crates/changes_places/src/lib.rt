@@ -1,7 +1,7 @@
 // Trips by their places: where a trip of some number stands among those of a timetable, and whether it runs.
 ghost use mathlib.Core.Path.{_≡_};
-ghost use mathlib.Core.Bool.{true, false};
-ghost use Prim.Native.Nat.{_≤_, _<_};
+ghost use mathlib.Core.Bool.{true};
+ghost use Prim.Native.Nat.{_≤_};
 ghost use lib.ListN.{length};
 ghost use Rattle.timetable.specs.Changes.{runsAs, placeOf};
 ghost use Rattle.timetable.specs.Words.{tripCount, timetableOf, isTimetable};

@@ -118,7 +118,7 @@ pub fn load(
 {
     match reading::read(text, timetable) {
         reading::Reply::Done { .. } => {
-            lines_tables::build(timetable, lines, work);
+            lines_call::build(timetable, lines, work);
             return 0;
         }
         reading::Reply::Refused { number, line } => {
