@@ -196,8 +196,8 @@ pub extern "C" fn dairyepoch_check_lines_alone(lines: &[u16], work: &mut [u32]) 
 pub extern "C" fn dairyepoch_line_trips(lines: &[u16], work: &mut [u32], line: u32) -> u64
     ensures { λ r. ⌜ r ≡ packedPlace (now (lines .entry)) (length (now (work .entry))) line ⌝ }
 {
-    let place = lines_alone::line_place(lines, work, line);
-    let trips = lines_alone::line_trips(lines, work, line);
+    let place = lines_piece::line_place(lines, work, line);
+    let trips = lines_piece::line_trips(lines, work, line);
     let count = trips.len();
     pack(place.number, place.start * PIECE + count as u32)
 }

@@ -3,4 +3,3 @@ pub mod NumberLaws
 pub mod CountLaws
 pub mod DrawLaws
 pub mod SomeLaws
-pub mod PieceLaws

@@ -22,9 +22,9 @@ use Rattle.lines_lookup.specs.Places.{Stands, part-inside, left-stands, right-s
 use Rattle.lines_lookup.specs.Holding.{length-linePlaces, holding, line-stands}
 use Rattle.accepted.specs.Question9.{valid-yes, valid-spells}
 use Rattle.lines_check.specs.Built.{begins-holds, tables-fit}
 use Rattle.lines_alone.specs.Drawn.{drawn, areSome}
 use Rattle.lines_alone.specs.Facts.{Some, they-fit, they-are}
-use Rattle.lines_alone.specs.Piece.{pieceNumber, pieceStart, pieceLength, piece}
+use Rattle.lines_piece.specs.Piece.{pieceNumber, pieceStart, pieceLength, piece}
 
 stands-taken : (part v : List ℕ) (k : ℕ) → Stands part v k → take (length part) (drop k v) ≡ part
 stands-taken part v k s =

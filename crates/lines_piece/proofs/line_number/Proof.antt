@@ -1,8 +1,8 @@
 -- A no to an earlier question, or the line's number below or past those of lines.
 use borrow.Author.Needs.{needs}
-use Rattle.lines_alone.proofs.PieceLaws.{number-before, no-line, line-past, line-named}
-use Rattle.lines_alone.proofs.line_number.Statement.{statement}
-use Rattle.lines_alone.proofs.line_number.Tie as tie
+use Rattle.lines_piece.proofs.PieceLaws.{number-before, no-line, line-past, line-named}
+use Rattle.lines_piece.proofs.line_number.Statement.{statement}
+use Rattle.lines_piece.proofs.line_number.Tie as tie
 
 returns : tie.Need-returns
 returns c = search number-before

@@ -11,9 +11,9 @@ use lib.ListN.{length, getD, take, drop, length-drop}
 use lib.Seq.{length-take-le}
 use Rattle.questions.specs.Question.{ask, firstNo}
 use Rattle.lines_lookup.specs.Lookup.{Line, lineCount, lineAt}
 use Rattle.lines_alone.specs.Drawn.{areSome, aloneNumber}
-use Rattle.lines_alone.specs.Handed.{line-least, line-most, lines-few, piece-within, start-few}
-use Rattle.lines_alone.specs.Piece.{pieceNumber, pieceStart, pieceLength, piece, startTold, lengthTold}
+use Rattle.lines_piece.specs.Handed.{line-least, line-most, lines-few, piece-within, start-few}
+use Rattle.lines_piece.specs.Piece.{pieceNumber, pieceStart, pieceLength, piece, startTold, lengthTold}
 
 -- ---- the number: question 11 comes behind those that are asked without a line
 abbrev withoutLine : (a b : Bool) → ℕ

@@ -1,17 +1,9 @@
 -- The line's words begin with its two counts, behind which its trips stand.
 use borrow.Author.Needs.{needs}
-use Rattle.lines_alone.proofs.PieceLaws.{
-  no-start,
-  no-length,
-  line-counts,
-  place-small,
-  start-told,
-  length-told,
-  piece-inside,
-  start-small,
-}
-use Rattle.lines_alone.proofs.line_place.Statement.{statement}
-use Rattle.lines_alone.proofs.line_place.Tie as tie
+use Rattle.lines_piece.proofs.PieceLaws.{no-start, no-length, line-counts, place-small, start-told, length-told}
+use Rattle.lines_piece.proofs.PieceLaws.{piece-inside, start-small}
+use Rattle.lines_piece.proofs.line_place.Statement.{statement}
+use Rattle.lines_piece.proofs.line_place.Tie as tie
 
 returns : tie.Need-returns
 returns c = ((search needs, search no-start, search no-length), (search needs, (search needs, search needs)))
