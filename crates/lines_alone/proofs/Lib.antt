@@ -1,4 +1,4 @@
-pub mod MarkLaws
+pub mod HomeLaws
 pub mod NumberLaws
 pub mod CountLaws
 pub mod DrawLaws

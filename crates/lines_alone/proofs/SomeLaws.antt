@@ -21,7 +21,7 @@ use Rattle.lines_check.specs.Question10.{begins, areTables}
 use Rattle.lines_alone.specs.Facts.{they-fit}
 use Rattle.lines_alone.specs.Drawn.{drawnNumbers, drawnTrip, drawnTrips, plainStation, drawn, countsFit, areSome}
 use Rattle.lines_alone.specs.Drawn.{aloneNumber}
-use Rattle.lines_alone.specs.Marks.{Marked, markedNumbers}
+use Rattle.lines_marks.specs.Marks.{Marked, markedNumbers}
 use Rattle.lines_alone.proofs.NumberLaws.{trips-drawn, trips-told}
 
 -- ---- drawing within the limits

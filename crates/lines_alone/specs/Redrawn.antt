@@ -32,8 +32,9 @@ use Rattle.lines_lookup.specs.Lookup.{lineCount, lineAt, numberAt}
 use Rattle.lists.specs.First.{firstFrom}
 use Rattle.lines_lookup.specs.Told.{LineTold, Told}
 use Rattle.lines_lookup.specs.Marked.{line-station, line-mark, station-few}
-use Rattle.lines_alone.specs.Drawn.{Home, placeOn, hasTrip, homeLine, stands, homeOf, nextPoints, stopOn, tripOn}
-use Rattle.lines_alone.specs.Drawn.{numbersFrom, drawnNumbers, drawnTrip, plainStation, drawn}
+use Rattle.lines_alone.specs.Drawn.{Home, homeLine, stands, homeOf, nextPoints, stopOn, tripOn, numbersFrom}
+use Rattle.lines_alone.specs.Drawn.{drawnNumbers, drawnTrip, plainStation, drawn}
+use Rattle.lines_marks.specs.Marks.{placeOn, hasTrip}
 
 -- ---- the first number that passes a test: it passes, and is there if any passes
 module _ (test : ℕ → Bool) where
