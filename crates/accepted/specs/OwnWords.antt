@@ -12,7 +12,7 @@ use native.Mathlib.Nat.{zero-add, add-zero, suc-add}
 use native.Mathlib.Numerals.{add-one}
 use native.Mathlib.Omega.{arith}
 use borrow.Author.Tests.{leb-true, eqb-true}
-use Rattle.lists.specs.Lists.{range, same}
+use Rattle.lists.specs.Lists.{range}
 use Rattle.lists.specs.Members.{same-eq}
 use Rattle.lists.specs.Ranges.{length-range}
 use Rattle.lists.specs.Tests.{and-left, and-right}

@@ -10,7 +10,7 @@ use Rattle.lists.specs.Tests.{and-left, and-right, and-both}
 use Rattle.text_shapes.specs.Shape.{shapeOf}
 use Rattle.text_shapes.specs.declared.Line.{Line}
 use Rattle.timetable.specs.Timetable.{stationsMost, walksMost, stopsMost, numberMost, Station, Walk, Stop, Trip}
-use Rattle.timetable.specs.Timetable.{validStation, validWalk, validWalks, leaves, ends, follows, runs, validTrip}
+use Rattle.timetable.specs.Timetable.{validStation, validWalks, leaves, ends, follows, runs, validTrip}
 use Rattle.timetable.specs.Timetable.{validStations}
 use Rattle.accepted.specs.Valid.{Begins, first-ranges, inner-ranges, last-ranges, it-ends, runs-none}
 use Rattle.accepted.specs.Valid.{runs-last, runs-on, begins, trip-not-empty}

@@ -24,13 +24,14 @@ use Rattle.lines_tables.specs.Tables.{tableWords}
 use Rattle.lines_tables.specs.Building.{lineCount}
 use Rattle.lines_check.specs.Question10.{tablesQuestions, tablesNumber}
 use Rattle.lines_check.specs.Yes.{tables-asked}
-use Rattle.promises.specs.Changes.{addNumber, addOutcome, afterAdd, addReply, addTimetable, addLines}
-use Rattle.changes.specs.Appended.{Fitting, TripIs, TripRead, putIn}
-use Rattle.changes.specs.declared.Found.{Found}
-use Rattle.changes.specs.declared.Found.the-variants.{Whole, Refused as FoundRefused}
+use Rattle.promises.specs.Changes.{addNumber, addOutcome, addReply, addTimetable, addLines}
+use Rattle.changes_words.specs.Appended.{Fitting, putIn}
+use Rattle.changes_extra.specs.Extra.{TripIs, TripRead}
+use Rattle.changes_extra.specs.declared.Found.{Found}
+use Rattle.changes_extra.specs.declared.Found.the-variants.{Whole, Refused as FoundRefused}
 use Rattle.changes.proofs.AskedLaws.{tables-yes, granted}
 use Rattle.changes.proofs.AfterLaws.{after-yes, after-spells}
-use Rattle.changes.proofs.TripLaws.{all-stops}
+use Rattle.changes_places.specs.Runs.{all-stops}
 
 module _ (w v : List ℕ) (m n : ℕ) (text : List ℕ) where
   -- ---- a refusal

@@ -15,7 +15,7 @@ use Rattle.lines_tables.specs.Model.{linesAt, tableAt}
 use Rattle.lines_tables.specs.Tables.{tableWords}
 use Rattle.lines_tables.specs.Same.{same-tables}
 use Rattle.lines_tables.specs.Building.{lineCount}
-use Rattle.changes.specs.Appended.{leftOut}
+use Rattle.changes_words.specs.Appended.{leftOut}
 
 -- ---- line tables built from them
 pub rebuilt-lines : (w old out : List ℕ) → isTimetable w ≡ true → out ≡ put 0 (tableAt w) old

@@ -2,11 +2,10 @@
 use mathlib.Core.Path.{_≡_, refl, sym, ap, subst, _∙_}
 use mathlib.Core.Bool.{Bool, true, false, not}
 use mathlib.Core.List.{List, [], _∷_}
-use Prim.Native.Nat.{ℕ, zero, suc, _≤_, _<_}
+use Prim.Native.Nat.{ℕ, zero, suc, _<_}
 use native.Mathlib.Omega.{arith}
 use borrow.Author.Tests.{not-true, not-false}
 use lib.Dec.{T}
-use lib.ListN.{length}
 use Rattle.questions.specs.Question.{ask, firstNo}
 use Rattle.replies.specs.declared.Reply.{Reply}
 use Rattle.replies.specs.declared.Reply.the-variants.{Done, Refused}
@@ -23,8 +22,8 @@ use Rattle.lines_tables.specs.Building.{lineCount}
 use Rattle.lines_check.specs.Question10.{tablesQuestions, tablesNumber}
 use Rattle.lines_check.specs.Yes.{tables-asked}
 use Rattle.promises.specs.Changes.{cancelNumber, afterCancel, cancelReply, cancelTimetable, cancelLines}
-use Rattle.changes.specs.Appended.{leftOut}
-use Rattle.changes.specs.Places.{running-inside}
+use Rattle.changes_words.specs.Appended.{leftOut}
+use Rattle.changes_places.specs.Places.{running-inside}
 use Rattle.changes.proofs.AskedLaws.{tables-yes, granted}
 use Rattle.changes.proofs.AfterLaws.{left-written, left-yes, left-spells}
 

@@ -1,9 +1,4 @@
-pub mod PlaceLaws
-pub mod StartLaws
-pub mod AppendLaws
-pub mod FillLaws
 pub mod AskedLaws
 pub mod AfterLaws
 pub mod CancelLaws
-pub mod TripLaws
 pub mod AddLaws

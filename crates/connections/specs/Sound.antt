@@ -1,6 +1,6 @@
 -- An accepted timetable gives a sound net: rides take time and end within the two days, changes join listed stations
 -- and cost something. These few facts are all that the theory of connections asks of a timetable.
-use mathlib.Core.Path.{_≡_, refl, sym, subst}
+use mathlib.Core.Path.{_≡_, sym, subst}
 use mathlib.Core.Logic.{_⊎_, inl, inr}
 use mathlib.Core.List.{List, [], _∷_}
 use Prim.Native.Nat.{ℕ, zero, suc, _+_, _*_, _≤_, _<_}

@@ -3,7 +3,7 @@ use mathlib.Core.Path.{_≡_, ap, _∙_}
 use mathlib.Core.List.{List}
 use Prim.Native.Nat.{ℕ, _+_, _*_}
 use Rattle.promises.specs.Packed.{packed}
-use Rattle.lines_alone.specs.Piece.{pieceNumber, startTold, lengthTold}
+use Rattle.lines_piece.specs.Piece.{pieceNumber, startTold, lengthTold}
 
 -- where the trips of a line stand: the index of the piece in the upper half of the lower half, its length in the rest
 unfoldable pub packedPlace : (v : List ℕ) (n line : ℕ) → ℕ

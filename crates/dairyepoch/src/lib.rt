@@ -11,14 +11,7 @@ ghost use Rattle.lines_turned.specs.Turning.{byTripReply, byTripWords, byStopRe
 ghost use Rattle.promises.specs.DirectQuery.{directReply, directWords};
 ghost use Rattle.promises.specs.StoreCall.{storeReply, storeAfter};
 ghost use Rattle.promises.specs.Query.{askReply, askWords};
-ghost use Rattle.promises.specs.Changes.{
-  cancelReply,
-  cancelTimetable,
-  cancelLines,
-  addReply,
-  addTimetable,
-  addLines,
-};
+ghost use Rattle.promises.specs.Changes.{cancelReply, cancelTimetable, cancelLines, addReply, addTimetable, addLines};
 ghost use Rattle.promises.specs.Packed.{packed, packedReply, packedCount};
 ghost use Rattle.dairyepoch.specs.Packed.{packedPlace};
 use reading::Reply;
@@ -92,7 +85,7 @@ pub extern "C" fn dairyepoch_build_lines(
     ensures words { λ _. ⌜ now (lines .exit)
         ≡ buildWords (now (timetable .entry)) (now (lines .entry)) (length (now (work .entry))) ⌝ }
 {
-    pack_count(lines_tables::build(timetable, lines, work))
+    pack_count(lines_call::build(timetable, lines, work))
 }
 
 // Questions 8, 9 and 10 to a timetable and line tables lent with it.
@@ -203,8 +196,8 @@ pub extern "C" fn dairyepoch_check_lines_alone(lines: &[u16], work: &mut [u32]) 
 pub extern "C" fn dairyepoch_line_trips(lines: &[u16], work: &mut [u32], line: u32) -> u64
     ensures { λ r. ⌜ r ≡ packedPlace (now (lines .entry)) (length (now (work .entry))) line ⌝ }
 {
-    let place = lines_alone::line_place(lines, work, line);
-    let trips = lines_alone::line_trips(lines, work, line);
+    let place = lines_piece::line_place(lines, work, line);
+    let trips = lines_piece::line_trips(lines, work, line);
     let count = trips.len();
     pack(place.number, place.start * PIECE + count as u32)
 }

@@ -11,17 +11,8 @@ use Rattle.lists.specs.Lists.{range}
 use Rattle.lists.specs.Ranges.{length-range, range-more, range-none}
 use Rattle.timetable.specs.Timetable.{stopsOf}
 use Rattle.lines_lookup.specs.Lookup.{Line, lineAt}
-use Rattle.lines_alone.specs.Drawn.{
-  Home,
-  homeOf,
-  stopOn,
-  tripOn,
-  drawnNumbers,
-  drawnTrip,
-  drawnTrips,
-  tripsFrom,
-  countsFit,
-}
+use Rattle.lines_alone.specs.Drawn.{Home, homeOf, stopOn, tripOn, drawnNumbers, drawnTrip, drawnTrips, tripsFrom}
+use Rattle.lines_alone.specs.Drawn.{countsFit}
 use Rattle.lines_alone.proofs.NumberLaws.{number-told}
 
 pub length-tripOn : (v : List ℕ) (h : Home) → length (tripOn v h) ≡ (h .line) .positions

@@ -6,46 +6,19 @@ use Prim.Native.Nat.{ℕ, _+_, _-_, _*_, _%_, _≤_, _<_}
 use native.Mathlib.Nat.{zero-add, mod-lt}
 use native.Mathlib.Omega.{arith}
 use lib.Dec.{ltb}
-use lib.ListN.{
-  length,
-  getD,
-  set,
-  take,
-  replicate,
-  length-append,
-  length-map,
-  length-replicate,
-  replicate-append-replicate,
-}
+use lib.ListN.{length, getD, set, take, replicate, length-append, length-map, length-replicate}
+use lib.ListN.{replicate-append-replicate}
 use Rattle.words.specs.Put.{put, put-append, put-one, put-next, put-over}
 use Rattle.lists.specs.Lists.{range}
 use Rattle.lists.specs.Ranges.{length-range}
 use Rattle.timetable.specs.Timetable.{Trip, stopsOf}
 use Rattle.timetable.specs.Words.{stationWords, stopWords, startWords}
-use Rattle.timetable.specs.WordLaws.{
-  length-stationWords,
-  length-stopWords,
-  length-startWords,
-  stationWords-append,
-  stopWords-append,
-  stopsOf-append,
-  startWords-append,
-  start-first,
-}
+use Rattle.timetable.specs.WordLaws.{length-stationWords, length-stopWords, length-startWords, stationWords-append}
+use Rattle.timetable.specs.WordLaws.{stopWords-append, stopsOf-append, startWords-append, start-first}
 use Rattle.accepted.specs.OwnWords.{range-append}
 use Rattle.lines_lookup.specs.Lookup.{stationAt, markAt, lowAt, arriveAt, departAt}
-use Rattle.lines_alone.specs.Drawn.{
-  Home,
-  homeOf,
-  nextPoints,
-  stopWith,
-  stopOn,
-  tripOn,
-  drawnNumbers,
-  drawnTrip,
-  drawnTrips,
-  plainStation,
-}
+use Rattle.lines_alone.specs.Drawn.{Home, homeOf, nextPoints, stopWith, stopOn, tripOn, drawnNumbers, drawnTrip}
+use Rattle.lines_alone.specs.Drawn.{drawnTrips, plainStation}
 use Rattle.lines_alone.proofs.NumberLaws.{number-told}
 use Rattle.lines_alone.proofs.CountLaws.{length-tripOn}
 

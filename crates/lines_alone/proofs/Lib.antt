@@ -1,6 +1,5 @@
-pub mod MarkLaws
+pub mod HomeLaws
 pub mod NumberLaws
 pub mod CountLaws
 pub mod DrawLaws
 pub mod SomeLaws
-pub mod PieceLaws

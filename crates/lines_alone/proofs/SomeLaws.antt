@@ -13,23 +13,15 @@ use Rattle.lists.specs.Lists.{range}
 use Rattle.lists.specs.Ranges.{length-range}
 use Rattle.lists.specs.Tests.{and-true, and-false}
 use Rattle.timetable.specs.Timetable.{Timetable, stopsOf, counted, valid}
-use Rattle.timetable.specs.Words.{stationWords, stopWords, startWords, walkWords, countTo, words, joined}
-use Rattle.timetable.specs.Words.{timetableOf, chained, footed, isTimetable}
+use Rattle.timetable.specs.Words.{stationWords, stopWords, startWords, walkWords, countTo, words, joined, timetableOf}
+use Rattle.timetable.specs.Words.{chained, footed, isTimetable}
 use Rattle.timetable.specs.WordLaws.{length-stationWords, joined-words}
 use Rattle.accepted.specs.Spelled.{words-spell, words-footed, words-chained}
 use Rattle.lines_check.specs.Question10.{begins, areTables}
 use Rattle.lines_alone.specs.Facts.{they-fit}
-use Rattle.lines_alone.specs.Drawn.{
-  drawnNumbers,
-  drawnTrip,
-  drawnTrips,
-  plainStation,
-  drawn,
-  countsFit,
-  areSome,
-  aloneNumber,
-}
-use Rattle.lines_alone.specs.Marks.{Marked, markedNumbers}
+use Rattle.lines_alone.specs.Drawn.{drawnNumbers, drawnTrip, drawnTrips, plainStation, drawn, countsFit, areSome}
+use Rattle.lines_alone.specs.Drawn.{aloneNumber}
+use Rattle.lines_marks.specs.Marks.{Marked, markedNumbers}
 use Rattle.lines_alone.proofs.NumberLaws.{trips-drawn, trips-told}
 
 -- ---- drawing within the limits

@@ -4,16 +4,16 @@
 use mathlib.Core.Bool.{Bool, cond, _&&_}
 use mathlib.Core.List.{List, [], _∷_, map}
 use Prim.Native.Nat.{ℕ, zero, suc, _+_, _-_, _%_}
-use lib.Dec.{leb, ltb, eqb}
+use lib.Dec.{leb, ltb}
 use lib.ListN.{length, getD, replicate}
 use Rattle.lists.specs.Lists.{filter, range}
 use Rattle.questions.specs.Question.{ask, firstNo}
 use Rattle.timetable.specs.Timetable.{Station, Stop, Trip, Timetable, numberMost, valid}
 use Rattle.lines_tables.specs.Building.{slicesLeast}
-use Rattle.lines_lookup.specs.Lookup.{Line, lineCount, lineAt, numberAt, stationAt, markAt, lowAt, arriveAt}
-use Rattle.lines_lookup.specs.Lookup.{departAt}
+use Rattle.lines_lookup.specs.Lookup.{Line, lineCount, lineAt, stationAt, markAt, lowAt, arriveAt, departAt}
 use Rattle.lists.specs.First.{firstFrom}
 use Rattle.lines_check.specs.Question10.{begins}
+use Rattle.lines_marks.specs.Marks.{placeOn, hasTrip}
 use Rattle.lines_alone.specs.declared.Home.{Home as HomeStruct}
 
 -- where a trip stands: its line, and its place among the line's trips; the struct of src/
@@ -23,14 +23,6 @@ Home = HomeStruct
 -- nowhere: a line without positions
 abbrev pub noHome : Home
 noHome = record { line = record { at = 0; positions = 0; trips = 0 }; place = 0 }
-
--- the place of the trip of this number on line l, or the number of its trips
-abbrev pub placeOn : List ℕ → Line → (number : ℕ) → ℕ
-placeOn v l number = firstFrom (λ j. eqb (numberAt v l j) number) 0 (l .trips)
-
--- the line at place i has the trip
-abbrev pub hasTrip : List ℕ → (number i : ℕ) → Bool
-hasTrip v number i = ltb (placeOn v (lineAt v i) number) ((lineAt v i) .trips)
 
 -- the first line that has it
 abbrev pub homeLine : List ℕ → (number : ℕ) → ℕ

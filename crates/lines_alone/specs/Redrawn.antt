@@ -17,17 +17,8 @@ use lib.ListN.{length, getD, replicate}
 use Rattle.lists.specs.Lists.{_∈_, keep, filter, range}
 use Rattle.lists.specs.Members.{none, cons-cases}
 use Rattle.lists.specs.Tests.{T-true, reads, writes}
-use Rattle.timetable.specs.Timetable.{
-  Trip,
-  Timetable,
-  numberOf,
-  numberMost,
-  validTrip,
-  validTrips,
-  climb,
-  numbered,
-  valid,
-}
+use Rattle.timetable.specs.Timetable.{Trip, Timetable, numberOf, numberMost, validTrip, validTrips, climb, numbered}
+use Rattle.timetable.specs.Timetable.{valid}
 use Rattle.timetable.specs.Numbers.{numbers-many, number-most, number-unique}
 use Rattle.timetable.specs.Access.{trip-valid, trip-cheap, trip-free}
 use Rattle.connections.specs.Rides.{noStop}
@@ -41,22 +32,9 @@ use Rattle.lines_lookup.specs.Lookup.{lineCount, lineAt, numberAt}
 use Rattle.lists.specs.First.{firstFrom}
 use Rattle.lines_lookup.specs.Told.{LineTold, Told}
 use Rattle.lines_lookup.specs.Marked.{line-station, line-mark, station-few}
-use Rattle.lines_alone.specs.Drawn.{
-  Home,
-  placeOn,
-  hasTrip,
-  homeLine,
-  stands,
-  homeOf,
-  nextPoints,
-  stopOn,
-  tripOn,
-  numbersFrom,
-  drawnNumbers,
-  drawnTrip,
-  plainStation,
-  drawn,
-}
+use Rattle.lines_alone.specs.Drawn.{Home, homeLine, stands, homeOf, nextPoints, stopOn, tripOn, numbersFrom}
+use Rattle.lines_alone.specs.Drawn.{drawnNumbers, drawnTrip, plainStation, drawn}
+use Rattle.lines_marks.specs.Marks.{placeOn, hasTrip}
 
 -- ---- the first number that passes a test: it passes, and is there if any passes
 module _ (test : ℕ → Bool) where

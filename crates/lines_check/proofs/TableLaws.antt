@@ -10,7 +10,7 @@ use Rattle.words.specs.Put.{put}
 use Rattle.timetable.specs.Words.{isTimetable}
 use Rattle.lines_tables.specs.Model.{tableAt}
 use Rattle.lines_tables.specs.Same.{same-tables}
-use Rattle.lines_tables.proofs.BuildLaws.{tables-taken}
+use Rattle.lines_tables.specs.Copied.{tables-taken}
 use Rattle.lines_check.specs.Question10.{begins, areTables, tablesNumber}
 
 pub compared : (w v work out : List ℕ) (count : ℕ) (r : Bool) → isTimetable w ≡ true → length work ≡ 16384

@@ -19,12 +19,12 @@ use Rattle.timetable.specs.Access.{trip-is}
 use Rattle.lines.specs.Lines.{lastOf, addTrip, addTrips, inOrder, lines}
 use Rattle.lines.specs.Once.{onLines}
 use Rattle.lines_found.specs.Grouped.{endsFrom}
-use Rattle.lines_found.specs.Steps.{Below, firstPlace, runsBefore, same-place}
-use Rattle.lines_found.specs.Order.{all-in-order, in-order-out, length-order}
+use Rattle.lines_order.specs.Steps.{Below, firstPlace, same-place, held}
+use Rattle.lines_found.specs.Steps.{runsBefore}
+use Rattle.lines_order.specs.Order.{all-in-order, in-order-out, length-order}
 use Rattle.lines_found.specs.Joined.{joinAt, Holds, Joined, joinable, add-joins, ends-below, length-ends}
 use Rattle.lines_found.specs.Joined.{length-joins, length-founds, lasts-join, lasts-found, lasts-below}
 use Rattle.lines_found.specs.Taken.{TakenTo, OfLasts}
-use Rattle.lines_found.proofs.ArrayLaws.{held}
 
 abbrev pub tripsOf : List ℕ → List Trip
 tripsOf w = (timetableOf w) .trips

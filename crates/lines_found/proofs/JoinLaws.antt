@@ -10,19 +10,10 @@ use lib.Seq.{take-length, drop-length}
 use Rattle.words.specs.Put.{put, put-next, getD-put}
 use Rattle.lines.specs.Once.{onLines}
 use Rattle.lines_found.specs.Grouped.{endsFrom}
-use Rattle.lines_found.specs.Steps.{Below, inserted, raised, length-inserted, length-raised}
-use Rattle.lines_found.specs.Joined.{
-  joinAt,
-  endAt,
-  Joined,
-  numbers-join,
-  length-ends,
-  end-at,
-  end-last,
-  ends-join,
-}
-use Rattle.lines_found.specs.Joined.{ends-found}
-use Rattle.lines_found.proofs.ArrayLaws.{below-at, held, put-over-held}
+use Rattle.lines_order.specs.Steps.{Below, inserted, length-inserted, below-at, held, put-over-held}
+use Rattle.lines_found.specs.Steps.{raised, length-raised}
+use Rattle.lines_found.specs.Joined.{joinAt, endAt, Joined, numbers-join, length-ends, end-at, end-last}
+use Rattle.lines_found.specs.Joined.{ends-join, ends-found}
 
 -- an array that is longer than what was put into it has kept its length
 put-room : (m : ℕ) (ws old : List ℕ) → length (put 0 ws old) ≡ m → length ws < m → m ≡ length old

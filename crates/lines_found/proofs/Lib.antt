@@ -1,6 +1,4 @@
-pub mod ArrayLaws
-pub mod TripLaws
-pub mod OrderLaws
+pub mod RaiseLaws
 pub mod JoinLaws
 pub mod GroupLaws
 pub mod WalkLaws

@@ -10,11 +10,11 @@ use lib.Dec.{ltb, ltb→lt, nltb→le}
 use lib.ListN.{length, getD, take}
 use Rattle.lists.specs.Tests.{either, T-false}
 use Rattle.timetable.specs.Words.{tripAt}
-use Rattle.lines_found.specs.Steps.{Below, firstPlace, runsBefore}
+use Rattle.lines_order.specs.Steps.{Below, firstPlace, below-at, place-none, place-first}
+use Rattle.lines_found.specs.Steps.{runsBefore}
 use Rattle.lines_found.specs.Glance.{courseOf, lastArrival, behind-course, behind-arrives}
 use Rattle.lines_found.specs.Chains.{nextOf, floorOf}
 use Rattle.lines_found.specs.Taken.{OfLasts, courseAt}
-use Rattle.lines_found.proofs.ArrayLaws.{below-at, place-none, place-first}
 
 pub last-fits : (w lasts : List ℕ) (line z y : ℕ) (t : Bool) → t ≡ runsBefore w z y → y ≡ getD lasts line 0
     → t ≡ runsBefore w z (getD lasts line 0)

@@ -9,8 +9,8 @@ use Rattle.timetable.specs.Timetable.{Trip}
 use Rattle.timetable.specs.Words.{timetableOf}
 use Rattle.lines.specs.Lines.{lastOf, addTrip, addTrips, inOrder, lines}
 use Rattle.lines.specs.Once.{onLines}
-use Rattle.lines_found.specs.Steps.{firstPlace, length-inserted}
-use Rattle.lines_found.specs.Order.{length-order}
+use Rattle.lines_order.specs.Steps.{firstPlace, length-inserted}
+use Rattle.lines_order.specs.Order.{length-order}
 use Rattle.lines_found.specs.Joined.{endAt, joinable, add-joins, numbers-join, length-join}
 
 module _ (t : List Trip) where

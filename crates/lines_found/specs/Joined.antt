@@ -13,7 +13,8 @@ use Rattle.timetable.specs.Timetable.{Trip}
 use Rattle.lines.specs.Lines.{behind, lastOf, enter, addTrip}
 use Rattle.lines.specs.Once.{onLines}
 use Rattle.lines_found.specs.Grouped.{endsFrom}
-use Rattle.lines_found.specs.Steps.{Below, inserted, raised, firstPlace}
+use Rattle.lines_order.specs.Steps.{Below, inserted, firstPlace}
+use Rattle.lines_found.specs.Steps.{raised}
 
 -- trip z joins line i, or founds the next where there is no such line
 unfoldable pub joinAt : (i z : ℕ) → List (List ℕ) → List (List ℕ)

@@ -2,7 +2,6 @@ pub mod Grouped
 pub mod Worked
 pub mod Bounds
 pub mod Steps
-pub mod Order
 pub mod Joined
 pub mod Glance
 pub mod Chains

@@ -11,7 +11,8 @@ use lib.ListN.{length, getD, take, set}
 use lib.Seq.{getD-set-same, getD-set-other, getD-take, length-take-le}
 use Rattle.timetable.specs.Words.{tripAt}
 use Rattle.lines.specs.Lines.{behind}
-use Rattle.lines_found.specs.Steps.{firstPlace, runsBefore, place-passes}
+use Rattle.lines_order.specs.Steps.{firstPlace, place-passes}
+use Rattle.lines_found.specs.Steps.{runsBefore}
 use Rattle.lines_found.specs.Glance.{courseOf, lastArrival, course-few, behind-course, behind-arrives}
 use Rattle.lines_found.specs.Chains.{nextOf, endOf, floorOf, Chained, linked, chained-joins, chained-founds}
 

@@ -11,4 +11,3 @@ pub mod StationLaws
 pub mod PairLaws
 pub mod BodyLaws
 pub mod TableLaws
-pub mod BuildLaws

@@ -19,41 +19,12 @@ use Rattle.timetable.specs.Access.{trip-stops, start-first, start-last, station
 use Rattle.lines.specs.Lines.{lines, headOf}
 use Rattle.lines.specs.Once.{onLines, on-lines, lines-distinct}
 use Rattle.lines_tables.specs.Spelled.{all-lines}
-use Rattle.lines_tables.specs.Sums.{
-  sumOf,
-  sum-append,
-  sum-none,
-  sum-least,
-  sum-ones,
-  sum-more,
-  sum-lengths,
-  sum-distinct,
-}
-use Rattle.lines_tables.specs.Model.{
-  callAt,
-  timeOf,
-  callsOf,
-  rowAt,
-  timesAt,
-  courseAt,
-  numbersAt,
-  blockAt,
-  LineOf,
-  AllLines,
-  linesAt,
-  sections,
-  blocksAt,
-  placesFrom,
-  callWords,
-  lineCallsAt,
-  stationCalls,
-  callsAt,
-  pairsAt,
-  pairPlaces,
-  indexAt,
-  tableAt,
-  rest-lines,
-}
+use Rattle.lines_tables.specs.Sums.{sumOf, sum-append, sum-none, sum-least, sum-ones, sum-more, sum-lengths}
+use Rattle.lines_tables.specs.Sums.{sum-distinct}
+use Rattle.lines_tables.specs.Model.{callAt, timeOf, callsOf, rowAt, timesAt, courseAt, numbersAt, blockAt}
+use Rattle.lines_tables.specs.Model.{LineOf, AllLines, linesAt, sections, blocksAt, placesFrom, callWords}
+use Rattle.lines_tables.specs.Model.{lineCallsAt, stationCalls, callsAt, pairsAt, pairPlaces, indexAt, tableAt}
+use Rattle.lines_tables.specs.Model.{rest-lines}
 
 -- ---- the lines of a timetable
 module _ (w : List ℕ) (yes : isTimetable w ≡ true) where

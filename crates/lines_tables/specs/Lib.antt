@@ -8,3 +8,4 @@ pub mod Filling
 pub mod Narrow
 pub mod Building
 pub mod PlaceLaws
+pub mod Copied

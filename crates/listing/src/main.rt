@@ -1,5 +1,5 @@
 // The listing: reads `timetable.txt` and queries from standard input, and writes what they print. It only moves bytes;
-// which ones it writes is said and proved in the crate listing_answers.
+// which ones it writes is said and proved in the crate listing_input.
 mod input;
 
 ghost use mathlib.Core.Path.{_≡_};
@@ -10,10 +10,10 @@ use input::Kept;
 use input::Unread;
 use libc::STDIN_FILENO;
 use libc::STDOUT_FILENO;
-use listing_answers::LINE_BYTES;
-use listing_answers::OUT_BYTES;
-use listing_answers::STORE_WORDS;
-use listing_answers::TABLE_WORDS;
+use listing_input::TABLE_WORDS;
+use listing_lines::LINE_BYTES;
+use listing_stores::OUT_BYTES;
+use listing_stores::STORE_WORDS;
 
 // One byte more than a text may have shows a text that is too long.
 const TEXT_BYTES: usize = 65537;
@@ -58,7 +58,7 @@ fn load(timetable: &mut [u16], lines: &mut [u16], work: &mut [u32], out: &mut [u
         return false;
     }
     let len = kept.len;
-    let count = listing_answers::load(&text[0..len], timetable, lines, work, out);
+    let count = listing_input::load(&text[0..len], timetable, lines, work, out);
     write(out, count);
     count == 0
 }
@@ -71,7 +71,7 @@ fn end_input(bytes: &[u8], failed: bool, out: &mut [u8])
         os::fail(b"standard input");
         return;
     }
-    let count = listing_answers::answer_end(bytes, out);
+    let count = listing_input::answer_end(bytes, out);
     write(out, count);
 }
 
@@ -88,7 +88,7 @@ fn answer_input(timetable: &[u16], lines: &[u16], work: &mut [u32], out: &mut [u
         end: 0,
         failed: false,
     };
-    let mut made = listing_answers::make(timetable, lines, work, NO_SOURCE, &mut store);
+    let mut made = listing_stores::make(timetable, lines, work, NO_SOURCE, &mut store);
     let mut turns = u64::MAX;
     while turns > 0 {
         unread = input::refill(STDIN_FILENO, &mut chunk, unread);
@@ -98,7 +98,7 @@ fn answer_input(timetable: &[u16], lines: &[u16], work: &mut [u32], out: &mut [u
             end_input(&line[0..kept], unread.failed, out);
             break;
         }
-        let taken = listing_answers::answer_bytes(
+        let taken = listing_input::answer_bytes(
             timetable,
             lines,
             &mut store,

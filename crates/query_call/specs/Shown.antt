@@ -1,14 +1,13 @@
--- The query's reply part by part: questions 14 and 15 for a store that is well made, and before them 13 and those of
+-- The query's reply part by part: the answer from a store that is well made, and before it question 13 and those of
 -- every query.
 use mathlib.Core.Path.{_≡_, refl, sym, ap, _∙_}
 use mathlib.Core.Bool.{Bool, true, false, not}
-use mathlib.Core.List.{List, [], _∷_}
+use mathlib.Core.List.{List, _∷_}
 use Prim.Native.Nat.{ℕ, zero, suc}
 use native.Mathlib.Omega.{arith}
 use borrow.Author.Tests.{not-true, not-false}
-use lib.Dec.{leb}
 use lib.ListN.{length}
-use Rattle.questions.specs.Question.{Question, ask, firstNo}
+use Rattle.questions.specs.Question.{ask, firstNo}
 use Rattle.replies.specs.declared.Reply.{Reply}
 use Rattle.replies.specs.declared.Reply.the-variants.{Refused}
 use Rattle.replies.specs.Replies.{replyOf, wordsAfter, reply-refused, words-kept}
@@ -18,22 +17,9 @@ use Rattle.timetable.specs.Check.{length-stations}
 use Rattle.stores.specs.Words.{wellMade}
 use Rattle.lines_check.specs.Asked.{queryQuestions, queryNumber}
 use Rattle.lines_check.specs.Yes.{Yes, query-asked, yes-all}
-use Rattle.promises.specs.Query.{kept, rows, rowWords, lastQuestions, askNumber, askReply, askWords}
+use Rattle.promises.specs.Query.{rows, rowWords, lastQuestions, askNumber, askReply, askWords}
 use Rattle.query_rows.specs.Granted.{Granted}
-
--- ---- questions 14 and 15
-abbrev pub twoQuestions : (w s : List ℕ) (a b u m : ℕ) → List Question
-twoQuestions w s a b u m =
-    ask 14 (leb 1 (length (kept w s a b u))) ∷ ask 15 (leb (length (rowWords (rows w s a b u))) m) ∷ []
-
-unfoldable pub shownNumber : (w s : List ℕ) (a b u m : ℕ) → ℕ
-shownNumber w s a b u m = firstNo (twoQuestions w s a b u m)
-
-unfoldable pub shownReply : (w s : List ℕ) (a b u m : ℕ) → Reply
-shownReply w s a b u m = replyOf (shownNumber w s a b u m) (length (rows w s a b u))
-
-unfoldable pub shownWords : (w s : List ℕ) (a b u : ℕ) (old : List ℕ) → List ℕ
-shownWords w s a b u old = wordsAfter (shownNumber w s a b u (length old)) (rowWords (rows w s a b u)) old
+use Rattle.query_answer.specs.Answer.{twoQuestions, shownNumber, shownReply, shownWords}
 
 -- a refusal, whatever its number
 module _ (w v s : List ℕ) (n a b u m : ℕ) where

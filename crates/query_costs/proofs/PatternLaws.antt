@@ -8,7 +8,7 @@ use lib.ListN.{length, getD}
 use Rattle.timetable.specs.Words.{timetableOf, isTimetable}
 use Rattle.connections.specs.Connections.{Net, net}
 use Rattle.lines_check.specs.Question10.{areTables}
-use Rattle.query_direct.specs.Candidates.{allRead}
+use Rattle.query_places.specs.Candidates.{allRead}
 use Rattle.query_costs.specs.Lowered.{Lowered}
 use Rattle.query_costs.specs.Layering.{takenAll, startOf, firstValue}
 use Rattle.query_costs.specs.Readies.{Ready, start-ready}

@@ -7,7 +7,7 @@ use native.Mathlib.Omega.{arith}
 use lib.ListN.{length, getD}
 use Rattle.lists.specs.Lists.{_∈_}
 use Rattle.connections.specs.Rides.{Ride}
-use Rattle.query_direct.specs.Candidates.{allRead}
+use Rattle.query_places.specs.Candidates.{allRead}
 use Rattle.query_minutes.specs.Minutes.{noteAll, lowered}
 use Rattle.query_rides.specs.declared.Ride.{Ride as RideStruct}
 use Rattle.query_rides.specs.declared.Cursor.{Cursor}

@@ -20,7 +20,7 @@ use Rattle.connections.specs.Rides.{Ride}
 use Rattle.connections.specs.Connections.{net, Boards, Transfer, noStation}
 use Rattle.connections.specs.Sound.{sound, ride-cheap, station-priced}
 use Rattle.lines_check.specs.Question10.{areTables}
-use Rattle.query_direct.specs.Candidates.{allRead}
+use Rattle.query_places.specs.Candidates.{allRead}
 use Rattle.query_minutes.specs.Minutes.{noPoints}
 use Rattle.query_minutes.specs.Noted.{getD-any}
 use Rattle.query_rides.specs.Ridden.{read-rides}

@@ -7,7 +7,7 @@ ghost use lib.ListN.{length, getD};
 ghost use Rattle.timetable.specs.Words.{timetableOf, isTimetable};
 ghost use Rattle.connections.specs.Connections.{net};
 ghost use Rattle.lines_check.specs.Question10.{areTables};
-ghost use Rattle.query_direct.specs.Candidates.{allRead};
+ghost use Rattle.query_places.specs.Candidates.{allRead};
 ghost use Rattle.query_minutes.specs.Minutes.{noPoints, blank, lowered};
 ghost use Rattle.query_costs.specs.Lowest.{lowest};
 ghost use Rattle.query_costs.specs.Spans.{Within, widened};

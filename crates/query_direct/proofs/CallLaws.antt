@@ -1,6 +1,7 @@
 -- At each call of a station the rides on the first trip are noted.
 use mathlib.Core.Path.{_≡_, sym, ap, _∙_}
-use mathlib.Core.List.{List, [], _∷_, map}
+use mathlib.Core.List.{List, map}
+use mathlib.Core.Bool.{true, false, not}
 use Prim.Native.Nat.{ℕ, _+_, _-_, _≤_, _<_}
 use native.Mathlib.Nat.{sub-zero}
 use native.Mathlib.Omega.{arith}
@@ -8,17 +9,17 @@ use borrow.Author.Tests.{lt-ltb, le-ltb}
 use lib.Dec.{leb}
 use lib.ListN.{length}
 use Rattle.lists.specs.Lists.{concatMap}
-use Rattle.lines_lookup.specs.Lookup.{Line, departAt}
+use Rattle.lines_lookup.specs.Lookup.{Line, departAt, arriveAt}
 use Rattle.lists.specs.First.{firstFrom}
 use Rattle.lines_lookup.specs.First.{firstTrip}
 use Rattle.lines_lookup.specs.Calls.{Piece, Boarding, callsOf, callsIn, BoardsAt}
 use Rattle.lines_lookup.proofs.FirstLaws.{none-left, found, goes-on}
-use Rattle.lines_lookup.proofs.LookupLaws.{pairs-more, pairs-none}
-use Rattle.query_direct.specs.Candidates.{reachBy, nearest, legOf, legs, rideOn, firstOn, firstLeg, firstRead}
-use Rattle.query_minutes.specs.Minutes.{noteAll}
-use Rattle.query_direct.specs.Turns.{firstCalls}
-use Rattle.query_direct.proofs.ReachLaws.{from}
+use Rattle.query_places.specs.Candidates.{reachBy, nearest, legs, rideOn, firstOn, firstLeg, firstRead}
+use Rattle.query_minutes.specs.Minutes.{noteAll, lowered}
+use Rattle.query_places.specs.Turns.{firstCalls, from, legs-none, legs-more}
 use Rattle.query_minutes.proofs.NoteLaws.{noteAll-append}
+use Rattle.query_places.specs.Places.{rest, restAt, nearest-none, nearest-found}
+use Rattle.query_places.specs.declared.Place.{Place}
 
 -- ---- the first trip: none before place j leaves in time
 pub record Sought (v : List ℕ) (l : Line) (x u j : ℕ) : Type 0 where
@@ -38,21 +39,6 @@ module _ (v : List ℕ) (l : Line) (x u j : ℕ) (k : Sought v l x u j) where
 
     pub sought-next : r < u → Sought v l x u (j + 1)
     sought-next h = record { few = omega arith; so-far = goes-on v l x u j (k .so-far) r is more h }
-
--- ---- from call to call, with what is left to alight at
-module _ (v : List ℕ) (u k end : ℕ) (rest : Piece) where
-  pub legs-none : end ≤ k + 1 → legs v (callsIn v (from k end)) (callsIn v rest) ≡ []
-  unfolding legs
-  legs-none h = ap (λ cs. legs v cs (callsIn v rest)) (pairs-none v k end h)
-
-  pub legs-more : k + 1 < end → end ≤ length v → (g : Boarding) → BoardsAt v k rest g
-      → legs v (callsIn v (from k end)) (callsIn v rest)
-      ≡ legOf v (g .call) (callsIn v (g .rest)) ∷ legs v (callsIn v (from (k + 2) end)) (callsIn v (g .rest))
-  unfolding legs
-  legs-more more inside g is =
-      ap (λ cs. legs v cs (callsIn v rest))
-      (pairs-more v k end more inside ∙ ap (λ d. d ∷ callsIn v (from (k + 2) end)) (sym (is .call)))
-      ∙ rw (← is .left)
 
 -- ---- noting
 module _ (v : List ℕ) (a u b : ℕ) (old : List ℕ) where
@@ -101,3 +87,18 @@ module _ (v : List ℕ) (a u b : ℕ) (old : List ℕ) where
             → noteAll old (firstRead v a u b)
             ≡ noteAll end′ (firstCalls v u (callsIn v (from (k + 2) end)) (callsIn v (g .rest)))
         some-trip h end′ e = rw (e, is-first) (rw (lt-ltb f (g .line .trips) (omega (arith, is-first))) at next)
+
+-- ---- the ride to the nearest place
+module _ (v : List ℕ) (g : Boarding) (j : ℕ) (best : List ℕ) (s : Place)
+    (is : rest v g (g .rest .from) ≡ restAt v g s) where
+  pub noted-none : not (s .found) ≡ true
+      → best ≡ noteAll best (map (rideOn v (g .line) (g .call .place) j) (nearest (reachBy v g)))
+  unfolding noteAll
+  noted-none e = rw (nearest-none v g s is e)
+
+  pub noted-nearest : not (s .found) ≡ false → (m : ℕ) → m ≡ arriveAt v (g .line) (s .place) j
+      → (next : List ℕ) → next ≡ lowered best m (s .points .0)
+      → next ≡ noteAll best (map (rideOn v (g .line) (g .call .place) j) (nearest (reachBy v g)))
+  unfolding noteAll
+  noted-nearest e m is-m next f =
+      rw (nearest-found v g s is e) (f ∙ ap (λ m. lowered best m (s .points .0)) is-m)

@@ -16,23 +16,13 @@ use Rattle.connections.specs.Rides.{Ride}
 use Rattle.lines_lookup.specs.Lookup.{Line, numberAt, arriveAt, departAt}
 use Rattle.lines_lookup.specs.Calls.{Piece, Boarding, callsOf, callsIn, BoardsAt}
 use Rattle.lines_lookup.specs.First.{firstTrip}
-use Rattle.query_direct.specs.Candidates.{Reach, reachBy, nearest, legs, rideOn, nearLeg, nearRead}
-use Rattle.query_direct.specs.Places.{rest, restAt}
-use Rattle.query_direct.specs.declared.costs.Place.{Place}
+use Rattle.query_places.specs.Candidates.{Reach, reachBy, nearest, legs, rideOn, nearLeg, nearRead}
+use Rattle.query_places.specs.Places.{rest, restAt, nearest-none, nearest-found}
+use Rattle.query_places.specs.declared.Place.{Place}
 use Rattle.query_direct.specs.Choosing.{Found, noFound, goesBefore}
-use Rattle.query_direct.specs.Keeping.{
-  keptAt,
-  rideWords,
-  keptWith,
-  keptOn,
-  keepAll,
-  Unkept,
-  put-here,
-  put-elsewhere,
-}
-use Rattle.query_direct.specs.Turns.{tripsFrom, nearCalls}
-use Rattle.query_direct.proofs.ReachLaws.{from, nearest-none, nearest-found}
-use Rattle.query_direct.proofs.CallLaws.{legs-none, legs-more}
+use Rattle.query_direct.specs.Keeping.{keptAt, rideWords, keptWith, keptOn, keepAll, Unkept, put-here}
+use Rattle.query_direct.specs.Keeping.{put-elsewhere}
+use Rattle.query_places.specs.Turns.{tripsFrom, nearCalls, from, legs-none, legs-more}
 
 -- ---- four words, two at a time
 pub ride-put : (m : ℕ) (f : Found) (old one two : List ℕ) → m < 2880 → length old ≡ 11520

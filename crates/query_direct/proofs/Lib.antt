@@ -1,5 +1,4 @@
 pub mod FoundLaws
-pub mod ReachLaws
 pub mod CallLaws
 pub mod KeepLaws
 pub mod RowLaws

@@ -15,8 +15,7 @@ use Rattle.results.specs.Results.{Cost}
 use Rattle.results.specs.declared.Cost.{Cost as CostStruct}
 use Rattle.query_minutes.specs.Minutes.{noPoints, leads}
 use Rattle.query_direct.specs.Choosing.{Found, rowFor}
-use Rattle.query_direct.specs.Keeping.{keptAt, rowsKept}
-use Rattle.query_direct.specs.Turns.{leadWords}
+use Rattle.query_direct.specs.Keeping.{keptAt, rowsKept, leadWords}
 use Rattle.query_minutes.proofs.LeadLaws.{leads-here, leads-not}
 
 -- ---- one row, two words at a time

@@ -12,7 +12,7 @@ use Rattle.replies.specs.declared.Reply.the-variants.{Done, Refused}
 use Rattle.replies.specs.Replies.{reply-done, reply-refused, words-done, words-kept}
 use Rattle.lines_check.specs.Asked.{queryNumber}
 use Rattle.lines_check.specs.Yes.{yes-all}
-use Rattle.query_direct.specs.Candidates.{firstRead, nearRead}
+use Rattle.query_places.specs.Candidates.{firstRead, nearRead}
 use Rattle.query_minutes.specs.Minutes.{noPoints, noteAll, blank, leads}
 use Rattle.query_direct.specs.Choosing.{rowsFrom}
 use Rattle.query_direct.specs.Keeping.{Keeps, rowsKept, rows-kept}

@@ -15,7 +15,7 @@ use Rattle.results.specs.Answered.{result-is, result-none}
 use Rattle.connections.specs.Rides.{Ride}
 use Rattle.connections.specs.Connections.{Connection, direct, duration, penalty, cost}
 use Rattle.connections.specs.Planner.{tieKey, measure, rowsOf}
-use Rattle.query_direct.specs.Bounds.{Bounds}
+use Rattle.query_nearest.specs.Bounds.{Bounds}
 use Rattle.query_minutes.specs.Minutes.{noPoints, noteAll, blank, leads}
 use Rattle.query_direct.specs.Choosing.{pickFor, rowFor, rowsFrom}
 use Rattle.query_minutes.specs.Noted.{LeastNoted, least-noted, Led, led-exactly, Rises, leads-rise}

@@ -17,9 +17,9 @@ use Rattle.lists.specs.Lists.{_∈_, keep, filter}
 use Rattle.results.specs.Results.{Cost}
 use Rattle.connections.specs.Rides.{Ride}
 use Rattle.query_minutes.specs.Minutes.{noPoints, leads}
-use Rattle.query_direct.specs.Choosing.{Found, foundOf, noFound, goesBefore, better}
-use Rattle.query_direct.specs.Choosing.{pickFrom, ofCost, pickFor, rowFor, rowsFrom}
 use Rattle.query_minutes.specs.Noted.{getD-any, Led, led-exactly}
+use Rattle.query_direct.specs.Choosing.{Found, foundOf, noFound, goesBefore, better, pickFrom, ofCost, pickFor}
+use Rattle.query_direct.specs.Choosing.{rowFor, rowsFrom}
 
 -- the ride that the words of minute m tell
 unfoldable pub keptAt : List ℕ → (m : ℕ) → Found
@@ -66,6 +66,10 @@ pub record Keeps (best kept : List ℕ) (l : List Ride) : Type 0 where
 -- the rows of the kept rides, for a query at minute u
 unfoldable pub rowsKept : (u : ℕ) → List ℕ → List Cost → List (List ℕ)
 rowsKept u kept cs = map (λ c. rowFor u c (keptAt kept (c .minutes))) cs
+
+-- the row for minute and penalty c, if that is below the least penalty so far
+unfoldable pub leadWords : (u : ℕ) → List ℕ → Cost → (least : ℕ) → List ℕ
+leadWords u kept c least = cond (ltb (c .points) least) (rowFor u c (keptAt kept (c .minutes))) []
 
 -- ---- what is put down for one minute
 

@@ -1,14 +1,5 @@
-pub mod Candidates
-pub mod Places
 pub mod Choosing
-pub mod Turns
 pub mod Keeping
-pub mod Bounds
 pub mod Picking
 pub mod Chosen
-pub mod Foremost
-pub mod Nearest
-pub mod Reached
-pub mod ByLine
-pub mod Gathered
 pub mod Shown

@@ -15,7 +15,7 @@ use Rattle.results.specs.Results.{Cost}
 use Rattle.connections.specs.Rides.{Ride}
 use Rattle.connections.specs.Connections.{direct}
 use Rattle.connections.specs.Planner.{tieKey}
-use Rattle.query_direct.specs.Bounds.{Bounds}
+use Rattle.query_nearest.specs.Bounds.{Bounds}
 use Rattle.query_direct.specs.Choosing.{foundOf, goesBefore, pickFrom, ofCost, pickFor}
 
 -- ---- one ride against another

@@ -31,11 +31,11 @@ use Rattle.lines_check.specs.Yes.{Yes, query-asked, yes-all}
 use Rattle.lines_check.specs.Built.{begins-holds}
 use Rattle.promises.specs.Query.{rowWords}
 use Rattle.promises.specs.DirectQuery.{rides, rows, lastQuestions, directNumber, directReply, directWords}
-use Rattle.query_direct.specs.Candidates.{firstRead, nearRead}
+use Rattle.query_places.specs.Candidates.{firstRead, nearRead}
 use Rattle.query_minutes.specs.Minutes.{noPoints, noteAll, blank, leads}
 use Rattle.query_direct.specs.Choosing.{rowsFrom}
 use Rattle.query_direct.specs.Chosen.{rows-chosen, rows-count, none-chosen, rows-long}
-use Rattle.query_direct.specs.Gathered.{read-costs, first-bounds, near-bounds, near-rows, near-none}
+use Rattle.query_nearest.specs.Gathered.{read-costs, first-bounds, near-bounds, near-rows, near-none}
 
 -- the least penalties that are noted, from the first trips of the lines
 abbrev pub bestOf : (v : List ℕ) (a b u : ℕ) → List ℕ

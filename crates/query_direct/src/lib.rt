@@ -14,11 +14,6 @@ use replies::Reply;
 use rides::KEPT_WORDS;
 use rows::ROW_WORDS;
 
-// Places to ride to are sought in the same way where rides of connections are gone through.
-pub use costs::Place;
-pub use costs::nowhere;
-pub use costs::seek_place;
-
 // Answers a query from line tables that belong to the timetable. The answer is measured before a word is written.
 fn show(
     v: &[u16],

@@ -5,11 +5,10 @@ ghost use lib.ListN.{length};
 ghost use Rattle.words.specs.Put.{put};
 ghost use Rattle.lists.specs.Lists.{concatMap};
 ghost use Rattle.lines_lookup.specs.Calls.{Within};
-ghost use Rattle.query_direct.specs.Candidates.{rideOn, reachBy, nearest, nearRead};
+ghost use Rattle.query_places.specs.Candidates.{rideOn, reachBy, nearest, nearRead};
 ghost use Rattle.query_direct.specs.Choosing.{goesBefore};
 ghost use Rattle.query_direct.specs.Keeping.{keptAt, rideWords, Unkept, keptWith, keptOn, keepAll, Keeps};
-ghost use Rattle.query_direct.specs.Turns.{tripsFrom};
-use crate::costs;
+ghost use Rattle.query_places.specs.Turns.{tripsFrom};
 use lines_lookup::Boarding;
 use lines_lookup::Line;
 use query_minutes::MINUTES;
@@ -200,7 +199,7 @@ fn keep_nearest(v: &[u16], g: Boarding, first: usize, best: &[u32], kept: &mut [
         (nearest (reachBy (now (v .entry)) g))) ⌝ }
     ensures { λ _. ⌜ length (now (kept .exit)) ≡ length (now (kept .entry)) ⌝ }
 {
-    let to = costs::seek_place(v, g, g.rest.from);
+    let to = query_places::seek_place(v, g, g.rest.from);
     if !to.found {
         return;
     }

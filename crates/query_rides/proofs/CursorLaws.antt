@@ -14,24 +14,13 @@ use Rattle.connections.specs.Rides.{Ride}
 use Rattle.lines_lookup.specs.Lookup.{Line, numberAt, arriveAt, departAt}
 use Rattle.lines_lookup.specs.First.{firstTrip}
 use Rattle.lines_lookup.specs.Calls.{Piece, Boarding, callsOf, callsIn, BoardsAt}
-use Rattle.query_direct.specs.Candidates.{Reach, nearest, legs, rideOn, nearLeg, nearRead, allLeg, allRead}
-use Rattle.query_direct.specs.Turns.{nearCalls, allCalls}
-use Rattle.query_direct.proofs.CallLaws.{legs-none, legs-more}
-use Rattle.query_direct.specs.Places.{rest, reachAt, restAt}
-use Rattle.query_direct.specs.declared.costs.Place.{Place}
+use Rattle.query_places.specs.Candidates.{Reach, nearest, legs, rideOn, nearLeg, nearRead, allLeg, allRead}
+use Rattle.query_places.specs.Turns.{nearCalls, allCalls, legs-none, legs-more}
+use Rattle.query_places.specs.Places.{rest, reachAt, restAt}
+use Rattle.query_places.specs.declared.Place.{Place}
 use Rattle.query_rides.specs.declared.Cursor.{Cursor}
-use Rattle.query_rides.specs.Riding.{
-  callsFrom,
-  tripsOf,
-  rideOf,
-  left,
-  nearFrom,
-  nearLeft,
-  Good,
-  Tells,
-  left-none,
-  near-none,
-}
+use Rattle.query_rides.specs.Riding.{callsFrom, tripsOf, rideOf, left, nearFrom, nearLeft, Good, Tells, left-none}
+use Rattle.query_rides.specs.Riding.{near-none}
 
 -- ---- the rides to the places left of a line, and those after them
 module _ (v : List ℕ) (g : Boarding) (first : ℕ) (s : Place) (further : List Ride) where

@@ -19,11 +19,11 @@ use Rattle.lines_lookup.specs.Told.{Told}
 use Rattle.lines_lookup.specs.Holding.{holding}
 use Rattle.lines_check.specs.Question10.{areTables}
 use Rattle.lines_check.specs.Built.{begins-holds}
-use Rattle.query_direct.specs.Candidates.{rideOn, nearRead, allRead}
-use Rattle.query_direct.specs.Places.{reachAt}
-use Rattle.query_direct.specs.Bounds.{Bounds}
-use Rattle.query_direct.specs.Nearest.{Nearer}
-use Rattle.query_direct.specs.Gathered.{all-read, near-all, all-near, near-bounds}
+use Rattle.query_places.specs.Candidates.{rideOn, nearRead, allRead}
+use Rattle.query_places.specs.Places.{reachAt}
+use Rattle.query_nearest.specs.Bounds.{Bounds}
+use Rattle.query_nearest.specs.Nearest.{Nearer}
+use Rattle.query_nearest.specs.Gathered.{all-read, near-all, all-near, near-bounds}
 use Rattle.query_rides.specs.declared.Cursor.{Cursor}
 use Rattle.query_rides.specs.Riding.{rideOf, left, Good}
 

@@ -9,9 +9,9 @@ use lib.ListN.{length}
 use Rattle.lists.specs.Lists.{concatMap}
 use Rattle.connections.specs.Rides.{Ride}
 use Rattle.lines_lookup.specs.Calls.{Piece, Boarding, callsIn, Inside, Within}
-use Rattle.query_direct.specs.Candidates.{Reach, rideOn}
-use Rattle.query_direct.specs.Places.{rest, reachAt}
-use Rattle.query_direct.specs.Turns.{tripsFrom, nearCalls, allCalls}
+use Rattle.query_places.specs.Candidates.{Reach, rideOn}
+use Rattle.query_places.specs.Places.{rest, reachAt}
+use Rattle.query_places.specs.Turns.{tripsFrom, nearCalls, allCalls}
 use Rattle.query_rides.specs.declared.Ride.{Ride as RideStruct}
 use Rattle.query_rides.specs.declared.Cursor.{Cursor}
 

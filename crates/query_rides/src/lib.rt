@@ -7,15 +7,14 @@ ghost use Prim.Native.Nat.{_-_, _≤_, _<_};
 ghost use lib.ListN.{length};
 ghost use Rattle.timetable.specs.Words.{stationCount, stationAt, isTimetable};
 ghost use Rattle.lines_lookup.specs.Calls.{Inside};
-ghost use Rattle.query_direct.specs.Candidates.{nearRead, allRead};
-ghost use Rattle.query_rides.specs.Riding.{Good, Tells, left, nearLeft, rideOf, callsFrom};
-ghost use Rattle.query_rides.specs.Riding.{nearFrom};
+ghost use Rattle.query_places.specs.Candidates.{nearRead, allRead};
+ghost use Rattle.query_rides.specs.Riding.{Good, Tells, left, nearLeft, rideOf, callsFrom, nearFrom};
 ghost use Rattle.query_rides.specs.Ways.{costOf, wayBetween};
 use lines_lookup::Boarding;
 use lines_lookup::Call;
 use lines_lookup::Line;
 use lines_lookup::Piece;
-use query_direct::Place;
+use query_places::Place;
 use results::Cost;
 use results::Minutes;
 use results::Points;
@@ -57,7 +56,7 @@ fn seek_call(v: &[u16], minute: usize, calls: Piece, others: Piece) -> Cursor
         let g = lines_lookup::boarding_at(v, k, rest);
         rest = g.rest;
         k += 2;
-        let to = query_direct::seek_place(v, g, g.rest.from);
+        let to = query_places::seek_place(v, g, g.rest.from);
         if !to.found {
             continue;
         }
@@ -88,7 +87,7 @@ fn seek_call(v: &[u16], minute: usize, calls: Piece, others: Piece) -> Cursor
             rest,
         },
         first: 0,
-        to: query_direct::nowhere(),
+        to: query_places::nowhere(),
         j: 0,
     }
 }
@@ -127,7 +126,7 @@ pub fn next(v: &[u16], minute: usize, c: Cursor) -> Cursor
             j: c.j + 1,
         };
     }
-    let to = query_direct::seek_place(v, g, here.next);
+    let to = query_places::seek_place(v, g, here.next);
     if to.found {
         return Cursor {
             more: true,

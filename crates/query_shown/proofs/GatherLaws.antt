@@ -7,7 +7,7 @@ use borrow.Author.Tests.{not-true, not-false}
 use lib.ListN.{getD}
 use Rattle.results.specs.declared.Cost.{Cost}
 use Rattle.connections.specs.Rides.{Ride}
-use Rattle.query_direct.specs.Candidates.{nearRead}
+use Rattle.query_places.specs.Candidates.{nearRead}
 use Rattle.query_minutes.specs.Minutes.{noPoints, noteAll, blank}
 use Rattle.query_rides.specs.declared.Ride.{Ride as RideStruct}
 use Rattle.query_rides.specs.declared.Cursor.{Cursor}

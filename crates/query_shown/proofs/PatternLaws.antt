@@ -14,7 +14,7 @@ use Rattle.timetable.specs.Access.{spelled-valid}
 use Rattle.lists.specs.Lists.{_∈_}
 use Rattle.connections.specs.Rides.{Ride}
 use Rattle.connections.specs.Connections.{Net, net, Boards}
-use Rattle.query_direct.specs.Nearest.{Nearer}
+use Rattle.query_nearest.specs.Nearest.{Nearer}
 use Rattle.query_minutes.specs.Minutes.{blank}
 use Rattle.query_rides.specs.Ridden.{near-rides, rides-near, read-bounds}
 use Rattle.query_rides.specs.declared.Way.{Way}

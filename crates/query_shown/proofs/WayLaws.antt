@@ -16,8 +16,8 @@ use Rattle.connections.specs.Rides.{Ride}
 use Rattle.connections.specs.Connections.{Net, net, Connection, Boards}
 use Rattle.connections.specs.Sound.{sound}
 use Rattle.connections.specs.Feasibility.{takes-time}
-use Rattle.query_direct.specs.Candidates.{nearRead}
-use Rattle.query_direct.specs.Nearest.{Nearer}
+use Rattle.query_places.specs.Candidates.{nearRead}
+use Rattle.query_nearest.specs.Nearest.{Nearer}
 use Rattle.optimality.specs.Greedy.{rideNumbers, Changing, Continues, Fits, fits-starts}
 use Rattle.query_rides.specs.declared.Ride.{Ride as RideStruct}
 use Rattle.query_rides.specs.declared.Way.{Way}

@@ -19,8 +19,8 @@ use Rattle.connections.specs.Connections.{Net, net, Boards}
 use Rattle.connections.specs.Sound.{Sound, sound}
 use Rattle.connections.specs.Feasibility.{penalty-most}
 use Rattle.optimality.specs.Ways.{firstRide}
-use Rattle.query_direct.specs.Candidates.{nearRead}
-use Rattle.query_direct.specs.Nearest.{Nearer, nearer-sooner}
+use Rattle.query_places.specs.Candidates.{nearRead}
+use Rattle.query_nearest.specs.Nearest.{Nearer, nearer-sooner}
 use Rattle.query_rides.specs.declared.Way.{Way}
 use Rattle.query_rides.specs.Ways.{costIn, Changes, Open}
 use Rattle.query_minutes.specs.Minutes.{noPoints, noteAll, blank}

@@ -6,7 +6,7 @@ ghost use mathlib.Core.Bool.{cond};
 ghost use Prim.Native.Nat.{_+_, _*_, _≤_, _<_};
 ghost use lib.ListN.{length};
 ghost use Rattle.words.specs.Put.{put};
-ghost use Rattle.query_direct.specs.Candidates.{nearRead};
+ghost use Rattle.query_places.specs.Candidates.{nearRead};
 ghost use Rattle.query_rides.specs.Ways.{costOf, wayBetween};
 ghost use Rattle.query_shown.specs.Prices.{stepPrice, frontPrice};
 ghost use Rattle.query_shown.specs.Showing.{Given};

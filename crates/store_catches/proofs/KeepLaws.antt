@@ -99,67 +99,68 @@ module _ (w : List ℕ) (good : isTimetable w ≡ true) (j : ℕ) (a : Arrival w
     before-most = omega (arith, here-most)
 
     -- the walks from there
-    module _ (begin end : ℕ) (is-begin : begin ≡ walksTo w (s .station - 1)) (is-end : end ≡ walksTo w (s .station)) where
-      pub walks-ordered : begin ≤ end
-      walks-ordered =
-          omega (
-            arith,
-            walks-rise w good (s .station - 1) (s .station) (omega arith)
-                (omega (arith, here-is, arrival-listed)),
-          )
+    module _ (begin end : ℕ) (is-begin : begin ≡ walksTo w (s .station - 1)) (is-end : end ≡ walksTo w (s .station))
+      where
+        pub walks-ordered : begin ≤ end
+        walks-ordered =
+            omega (
+              arith,
+              walks-rise w good (s .station - 1) (s .station) (omega arith)
+                  (omega (arith, here-is, arrival-listed)),
+            )
 
-      pub walks-most : end ≤ walkCount w
-      walks-most =
-          omega (
-            arith,
-            walks-rise w good (s .station) (stationCount w) (omega (arith, here-is, arrival-listed)) (omega arith),
-          )
+        pub walks-most : end ≤ walkCount w
+        walks-most =
+            omega (
+              arith,
+              walks-rise w good (s .station) (stationCount w) (omega (arith, here-is, arrival-listed)) (omega arith),
+            )
 
-      end-few : end ≤ 256
-      end-few = omega (arith, walks-most, walks-few w good)
+        end-few : end ≤ 256
+        end-few = omega (arith, walks-most, walks-few w good)
 
-      pub begin-low : (at : ℕ) → 4096 ≤ at → begin ≤ at
-      begin-low at h = omega (arith, end-few, walks-ordered)
+        pub begin-low : (at : ℕ) → 4096 ≤ at → begin ≤ at
+        begin-low at h = omega (arith, end-few, walks-ordered)
 
-      from-begun : (k : ℕ) → FromStation w (station w j) k → begin ≤ k
-      from-begun k f = omega (arith, f .begun, is-begin, ap (λ c. walksTo w (c - 1)) here-is)
+        from-begun : (k : ℕ) → FromStation w (station w j) k → begin ≤ k
+        from-begun k f = omega (arith, f .begun, is-begin, ap (λ c. walksTo w (c - 1)) here-is)
 
-      from-inside : (k : ℕ) → FromStation w (station w j) k → k < end
-      from-inside k f = omega (arith, f .inside, is-end, ap (walksTo w) here-is)
+        from-inside : (k : ℕ) → FromStation w (station w j) k → k < end
+        from-inside k f = omega (arith, f .inside, is-end, ap (walksTo w) here-is)
 
-      module _ (at base : ℕ) (low : 4096 ≤ at) (is-base : base ≡ at - begin) where
-        pub base-begins : 4096 ≤ base + begin
-        base-begins = omega (arith, begin-low at low)
+        module _ (at base : ℕ) (low : 4096 ≤ at) (is-base : base ≡ at - begin) where
+          pub base-begins : 4096 ≤ base + begin
+          base-begins = omega (arith, begin-low at low)
 
-        pub base-ends : at + (end - begin) ≤ 20480 → base + end ≤ 20480
-        base-ends h = omega (arith, begin-low at low, walks-ordered)
+          pub base-ends : at + (end - begin) ≤ 20480 → base + end ≤ 20480
+          base-ends h = omega (arith, begin-low at low, walks-ordered)
 
-        -- they are all kept
-        pub keeps-all : (old new first : List ℕ) → Standing w old first → at + (end - begin) ≤ 20480
-            → KeptWalks w j base begin end new → Front (base + begin) (set old (2048 + j) base) new
-            → length new ≡ 20480 → Keeping w j at (base + end) old new
-        keeps-all old new first stands fits walks front long =
-            record {
-              long = long;
-              others = λ m h e. front .same m (omega (arith, back)) ∙ getD-set-other old (2048 + j) m base 0 e;
-              rises = omega (arith, back, walks-ordered);
-              ends = base-ends fits;
-              kept =
-                  record {
-                    begun = λ k f h. omega (arith, here, back, from-begun k f);
-                    inside = λ k f h. omega (arith, here, from-inside k f);
-                    is = λ k f h.
-                        ap (λ b. getD new (b + k) 0) here ∙ walks .is k (from-begun k f) (from-inside k f);
-                  };
-            }
-          where
-            back : base + begin ≡ at
-            back = omega (arith, begin-low at low)
+          -- they are all kept
+          pub keeps-all : (old new first : List ℕ) → Standing w old first → at + (end - begin) ≤ 20480
+              → KeptWalks w j base begin end new → Front (base + begin) (set old (2048 + j) base) new
+              → length new ≡ 20480 → Keeping w j at (base + end) old new
+          keeps-all old new first stands fits walks front long =
+              record {
+                long = long;
+                others = λ m h e. front .same m (omega (arith, back)) ∙ getD-set-other old (2048 + j) m base 0 e;
+                rises = omega (arith, back, walks-ordered);
+                ends = base-ends fits;
+                kept =
+                    record {
+                      begun = λ k f h. omega (arith, here, back, from-begun k f);
+                      inside = λ k f h. omega (arith, here, from-inside k f);
+                      is = λ k f h.
+                          ap (λ b. getD new (b + k) 0) here ∙ walks .is k (from-begun k f) (from-inside k f);
+                    };
+              }
+            where
+              back : base + begin ≡ at
+              back = omega (arith, begin-low at low)
 
-            here : keptAt new j ≡ base
-            here =
-                front .same (2048 + j) (omega (arith, back, arrival-few))
-                ∙ getD-set-same old (2048 + j) base 0 (word-held old first stands)
+              here : keptAt new j ≡ base
+              here =
+                  front .same (2048 + j) (omega (arith, back, arrival-few))
+                  ∙ getD-set-same old (2048 + j) base 0 (word-held old first stands)
 
   -- there is no room for them
   pub keeps-none : (at : ℕ) (old first : List ℕ) → Standing w old first → at ≤ 20480
@@ -239,7 +240,8 @@ module _ (w : List ℕ) (good : isTimetable w ≡ true) (chained first : List �
   pub still-long : length chained ≡ 20480
   still-long = stands .chain-long
 
-  pub still-standing : (base begin k x : ℕ) → 4096 ≤ base + begin → begin ≤ k → Standing w (set chained (base + k) x) first
+  pub still-standing : (base begin k x : ℕ) → 4096 ≤ base + begin → begin ≤ k
+      → Standing w (set chained (base + k) x) first
   still-standing base begin k x h g = standing-set w good chained first stands (base + k) x (omega arith)
 
   pub word-standing : (j x : ℕ) → Standing w (set chained (2048 + j) x) first
@@ -256,8 +258,8 @@ pub record KeptIn (w l : List ℕ) (end : ℕ) (chained : List ℕ) : Type 0 whe
 pub kept-start : (w chained : List ℕ) (end : ℕ) → KeptIn w (take 0 (chain w)) end chained
 kept-start w chained end = record { kept = λ x m. none m }
 
-module _ (w : List ℕ) (good : isTimetable w ≡ true) (j at end : ℕ) (old new : List ℕ) (keeps : Keeping w j at end old new)
-    (low : 4096 ≤ at) where
+module _ (w : List ℕ) (good : isTimetable w ≡ true) (j at end : ℕ) (old new : List ℕ)
+    (keeps : Keeping w j at end old new) (low : 4096 ≤ at) where
   pub end-low : 4096 ≤ end
   end-low = omega (arith, keeps .rises)
 

@@ -138,4 +138,5 @@ module _ (w : List ℕ) (yes : isTimetable w ≡ true) where
         let e : b + (k - b) ≡ k = omega arith in
         subst (λ r. getD chained k 0 ∈ r) part-is
         (subst (λ i. getD chained i 0 ∈ slice b (getD first (c + 1) 0) chained) e
-        (slice-in chained (k - b) b (getD first (c + 1) 0) (omega arith) (omega (arith, part-most, held .standing .chain-long))))
+        (slice-in chained (k - b) b (getD first (c + 1) 0) (omega arith)
+        (omega (arith, part-most, held .standing .chain-long))))

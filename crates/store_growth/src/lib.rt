@@ -23,7 +23,7 @@ const CHAIN_WORDS: usize = store_departures::CHAIN_WORDS;
 // There are at most so many slots.
 const SLOTS: usize = 320;
 
-// Stations count from 1, 64 at most, and the arrivals of each end where those of the next one begin. Behind these stands
+// Stations count from 1, 64 at most, and the arrivals of each end where those of the next one begin; behind that stands
 // whether a stop is closed to alighting.
 const CLOSES: usize = 66;
 

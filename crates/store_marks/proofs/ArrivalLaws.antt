@@ -10,7 +10,7 @@ use lib.Dec.{ltb}
 use lib.ListN.{length, getD}
 use Rattle.lists.specs.Lists.{range}
 use Rattle.timetable.specs.Timetable.{Station, Stop, Walk, lastMinute}
-use Rattle.timetable.specs.Words.{stationCount, walksTo, walkCount, walkAt, stopAt, isTimetable}
+use Rattle.timetable.specs.Words.{stationCount, walksTo, walkAt, stopAt, isTimetable}
 use Rattle.timetable.specs.Access.{stations-few}
 use Rattle.timetable.specs.Walks.{FromStation, walks-rise}
 use Rattle.timetable.specs.WalkTo.{stayAt}
@@ -155,7 +155,8 @@ module _ (w q old new : List ℕ) (j y : ℕ) where
       at
 
   pub walk-tried : (k : ℕ) (v : Walk) → v ≡ walkAt w k → (s cost sum g bound : ℕ)
-      → g ≡ catchBy w (onFoot (walkAt w k)) j → cost ≡ v .points → sum ≡ y + cost → s ≡ walkSlot w k → bound ≡ getD q g 0
+      → g ≡ catchBy w (onFoot (walkAt w k)) j → cost ≡ v .points → sum ≡ y + cost → s ≡ walkSlot w k
+      → bound ≡ getD q g 0
       → new ≡ raised (ltb sum bound) s old
       → new ≡ raiseTry (changeTry w q (visit j y) (onFoot (walkAt w k)) (walkSlot w k)) old
   unfolding raiseTry changeTry
@@ -206,8 +207,8 @@ module _ (w q : List ℕ) (j y : ℕ) where
 pub walks-begun : (w : List ℕ) (b k : ℕ) → k ≡ walksTo w (b - 1) → walksTo w (b - 1) ≤ k
 walks-begun w b k is = omega arith
 
-pub walk-from-there : (w : List ℕ) (j b k end : ℕ) → b ≡ station w j → walksTo w (b - 1) ≤ k → end ≡ walksTo w b → k < end
-    → FromStation w (station w j) k
+pub walk-from-there : (w : List ℕ) (j b k end : ℕ) → b ≡ station w j → walksTo w (b - 1) ≤ k → end ≡ walksTo w b
+    → k < end → FromStation w (station w j) k
 walk-from-there w j b k end at begun is h =
     subst (λ c. FromStation w c k) at (record { begun = begun; inside = omega arith })
 
@@ -224,8 +225,8 @@ module _ (w q old mid new : List ℕ) (j b y : ℕ) (at : b ≡ station w j)
   kids-tried does = does ∙ sym kids-are
 
   -- where there are no walks at all
-  pub kids-stay : isTimetable w ≡ true → Arrival w j → (chained first : List ℕ) → Departures w chained first → (o : Bool)
-      → o ≡ ltb 0 (getD first 131 0) → o ≡ false → mid ≡ flagKids w q (visit j y) old
+  pub kids-stay : isTimetable w ≡ true → Arrival w j → (chained first : List ℕ) → Departures w chained first
+      → (o : Bool) → o ≡ ltb 0 (getD first 131 0) → o ≡ false → mid ≡ flagKids w q (visit j y) old
   unfolding raiseAll walkTries
   kids-stay ok a chained first held o is e =
       let none = some-walks w chained first held o is e in

@@ -8,7 +8,7 @@ ghost use Prim.Native.Nat.{_+_, _-_, _≤_, _<_};
 ghost use lib.Dec.{ltb};
 ghost use lib.ListN.{length, getD};
 ghost use lib.Seq.{slice};
-ghost use Rattle.timetable.specs.Words.{stationCount, walkCount, walkAt, stopAt, isTimetable};
+ghost use Rattle.timetable.specs.Words.{stationCount, walkAt, stopAt, isTimetable};
 ghost use Rattle.timetable.specs.Walks.{FromStation};
 ghost use Rattle.connections.specs.Connections.{onFoot};
 ghost use Rattle.store_stops.specs.Stopwise.{station, stay, unreached, Goes, Arrival};

@@ -12,7 +12,16 @@ use Rattle.timetable.specs.Words.{stationCount, walksTo, walkAt, isTimetable}
 use Rattle.timetable.specs.Walks.{FromStation}
 use Rattle.connections.specs.Connections.{onFoot}
 use Rattle.store_stops.specs.Stopwise.{station, changePoints, stay, unreached, Arrival}
-use Rattle.store_stops.specs.OpenWays.{Open, ByWalk, WalkTo, walked-none, walked-more, open-ways, walk-cheap, never-walked}
+use Rattle.store_stops.specs.OpenWays.{
+  Open,
+  ByWalk,
+  WalkTo,
+  walked-none,
+  walked-more,
+  open-ways,
+  walk-cheap,
+  never-walked,
+}
 use Rattle.store_departures.specs.Order.{catchBy}
 use Rattle.store_departures.specs.Held.{Departures, some-walks}
 use Rattle.store_points.specs.Lowered.{lowered}
@@ -65,9 +74,10 @@ module _ (w : List ℕ) (c j u : ℕ) where
         (open-ways w c accepted some few j here)
 
     -- where there are no walks, that is all
-    pub own-open : (b : Bool) → b ≡ ltb 0 (getD first 131 0) → b ≡ false → (caught : List ℕ) (f x sum : ℕ) (q q′ : List ℕ)
-        → isTimetable w ≡ true → station w j ≡ c → getD caught j 0 ≡ catchBy w (stay w c) j → f ≡ getD caught j 0
-        → x ≡ getD first (66 + c) 0 → sum ≡ u + x → q′ ≡ lowered f sum q → Offering w j u (Open w j) q q′
+    pub own-open : (b : Bool) → b ≡ ltb 0 (getD first 131 0) → b ≡ false → (caught : List ℕ) (f x sum : ℕ)
+        (q q′ : List ℕ) → isTimetable w ≡ true → station w j ≡ c → getD caught j 0 ≡ catchBy w (stay w c) j
+        → f ≡ getD caught j 0 → x ≡ getD first (66 + c) 0 → sum ≡ u + x → q′ ≡ lowered f sum q
+        → Offering w j u (Open w j) q q′
     own-open b is e caught f x sum q q′ accepted here catches reads price adds lowers =
         all-open caught f x sum q q′ q′ accepted here catches reads price adds lowers
         (offering-none w j u (WalkTo w c (walksTo w c)) q′

@@ -1,6 +1,6 @@
 -- The stored sequences in words: exactly the patterns of optimal connections at some minute. By theorem 2 the departure
 -- minutes of the source are enough to find them all, and by theorem 3 the words of a store are well made.
-use mathlib.Core.Path.{_≡_, sym, ap, subst, _∙_}
+use mathlib.Core.Path.{_≡_, sym, ap, subst}
 use mathlib.Core.Bool.{not}
 use mathlib.Core.Logic.{_≢_, _↔_}
 use mathlib.Core.List.{List, [], _∷_, _++_, map, Memᴰ·map, Memᴰ·of-map, Memᴰ·cast}

@@ -15,7 +15,7 @@ use Rattle.lists.specs.Lists.{_∈_, filter, concatMap, before, same, settle, i
 use Rattle.lists.specs.Tests.{same-tests}
 use Rattle.lists.specs.Members.{filter-out}
 use Rattle.results.specs.Results.{undominated}
-use Rattle.connections.specs.Connections.{Net, net, Connection, Feasible, stations}
+use Rattle.connections.specs.Connections.{Net, net, Connection, stations}
 use Rattle.connections.specs.Planner.{plannerList, mostRides, measure}
 use Rattle.connections.specs.Listed.{listed-feasible}
 use Rattle.connections.specs.WithoutWalks.{formerNet, changedStations, doubled, same-net, stations-doubled}

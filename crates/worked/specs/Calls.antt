@@ -7,7 +7,7 @@ use Prim.Native.Nat.{ℕ, _+_, _*_, _≤_, _<_}
 use lib.ListN.{length, drop}
 use Rattle.reading.specs.Reading.{readReply, readWords}
 use Rattle.lines_tables.specs.Building.{buildReply, buildWords}
-use Rattle.lines_alone.specs.Piece.{piece}
+use Rattle.lines_piece.specs.Piece.{piece}
 use Rattle.promises.specs.Packed.{packedReply, packedCount}
 use Rattle.promises.specs.StoreCall.{storeReply, storeAfter}
 use Rattle.promises.specs.Query.{askReply, askWords}

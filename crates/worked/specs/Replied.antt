@@ -32,39 +32,17 @@ use Rattle.lines.specs.Lines.{lineNumbers}
 use Rattle.lines.specs.DirectRides.{directs, directRows}
 use Rattle.lines_lookup.specs.Lookup.{lineCount as countedLines}
 use Rattle.lines_lookup.specs.Holding.{holding}
-use Rattle.lines_alone.specs.Piece.{pieceNumber}
+use Rattle.lines_piece.specs.Piece.{pieceNumber}
 use Rattle.lines_alone.specs.Alone.{building-has-yes-alone}
-use Rattle.lines_alone.specs.Handed.{trips-handed as handed}
+use Rattle.lines_piece.specs.Handed.{trips-handed as handed}
 use Rattle.demands.specs.Demands.{Query}
 use Rattle.promises.specs.Packed.{packedReply, packedCount}
 use Rattle.promises.specs.Query.{rowWords}
-use Rattle.promises.specs.Promises.{Loaded, Made, StoreFits, wordCount, shownWords}
-use Rattle.promises.specs.Promises.{Shows as Shown, Stores as Stored}
+use Rattle.promises.specs.Promises.{Loaded, Made, StoreFits, wordCount, shownWords, Shows as Shown, Stores as Stored}
 use Rattle.promises.specs.Proved.{promises}
-use Rattle.worked.specs.Calls.{
-  Slices,
-  returned,
-  Written,
-  inTurn,
-  Refuses,
-  read,
-  timetableAfter,
-  built,
-  tablesAfter,
-  tripsOf,
-  made,
-  storeSlice,
-  askedFrom,
-  answerFrom,
-  directAsked,
-  directAnswer,
-  Stores,
-  Shows,
-  ShowsNone,
-  IllMade,
-  Rides,
-  RidesNone,
-}
+use Rattle.worked.specs.Calls.{Slices, returned, Written, inTurn, Refuses, read, timetableAfter, built}
+use Rattle.worked.specs.Calls.{tablesAfter, tripsOf, made, storeSlice, askedFrom, answerFrom, directAsked}
+use Rattle.worked.specs.Calls.{directAnswer, Stores, Shows, ShowsNone, IllMade, Rides, RidesNone}
 
 -- what is known of a text: the timetable that it is read to, its lines and the lines of the timetable
 pub record Known (text : List ℕ) (t : Timetable) (lines count : ℕ) : Type 0 where

@@ -1,14 +1,8 @@
 -- A refusal writes nothing.
 use borrow.Author.Needs.{needs}
 use Rattle.changes.proofs.AskedLaws.{none-left}
-use Rattle.changes.proofs.AddLaws.{
-  denied-reply,
-  denied-timetable,
-  denied-lines,
-  kept-reply,
-  kept-timetable,
-  kept-lines,
-}
+use Rattle.changes.proofs.AddLaws.{denied-reply, denied-timetable, denied-lines, kept-reply, kept-timetable}
+use Rattle.changes.proofs.AddLaws.{kept-lines}
 use Rattle.changes.proofs.add.Statement.{statement}
 use Rattle.changes.proofs.add.Tie as tie
 

@@ -1,16 +1,8 @@
 -- Lines that are refused change nothing; a trip that was read is put in, and the tables are built again.
 use borrow.Author.Needs.{needs}
 use Rattle.changes.proofs.AskedLaws.{granted, words-room, lines-room, work-room, after-room}
-use Rattle.changes.proofs.AddLaws.{
-  refused-reply,
-  refused-timetable,
-  refused-lines,
-  fitting,
-  added-yes,
-  added-reply,
-  added-timetable,
-  added-lines,
-}
+use Rattle.changes.proofs.AddLaws.{refused-reply, refused-timetable, refused-lines, fitting, added-yes}
+use Rattle.changes.proofs.AddLaws.{added-reply, added-timetable, added-lines}
 use Rattle.changes.proofs.add_free.Statement.{statement}
 use Rattle.changes.proofs.add_free.Tie as tie
 

@@ -1,13 +1,7 @@
 -- A refusal writes nothing.
 use borrow.Author.Needs.{needs}
-use Rattle.changes.proofs.CancelLaws.{
-  denied-reply,
-  denied-timetable,
-  denied-lines,
-  kept-reply,
-  kept-timetable,
-  kept-lines,
-}
+use Rattle.changes.proofs.CancelLaws.{denied-reply, denied-timetable, denied-lines, kept-reply, kept-timetable}
+use Rattle.changes.proofs.CancelLaws.{kept-lines}
 use Rattle.changes.proofs.AskedLaws.{none-left}
 use Rattle.changes.proofs.cancel.Statement.{statement}
 use Rattle.changes.proofs.cancel.Tie as tie

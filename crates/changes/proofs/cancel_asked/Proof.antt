@@ -1,16 +1,8 @@
 -- A trip that does not run is refused, and nothing written; one that runs is left out, and the tables are built again.
 use borrow.Author.Needs.{needs}
 use Rattle.changes.proofs.AskedLaws.{granted, words-room, lines-room, work-room, after-room}
-use Rattle.changes.proofs.CancelLaws.{
-  idle-reply,
-  idle-timetable,
-  idle-lines,
-  place-inside,
-  done-yes,
-  done-reply,
-  done-timetable,
-  done-lines,
-}
+use Rattle.changes.proofs.CancelLaws.{idle-reply, idle-timetable, idle-lines, place-inside, done-yes, done-reply}
+use Rattle.changes.proofs.CancelLaws.{done-timetable, done-lines}
 use Rattle.changes.proofs.cancel_asked.Statement.{statement}
 use Rattle.changes.proofs.cancel_asked.Tie as tie
 

@@ -5,7 +5,7 @@ use Rattle.dairyepoch.proofs.dairyepoch_build_lines.Tie as tie
 use Rattle.dairyepoch.proofs.dairyepoch_build_lines.Reads as reads
 use Rattle.dairyepoch.proofs.dairyepoch_build_lines.Lts as lts
 use Rattle.dairyepoch.proofs.pack_count.Reads as pack-count-reads
-use Rattle.lines_tables.proofs.build.Reads as build-reads
+use Rattle.lines_call.proofs.build.Reads as build-reads
 
 build-requires : tie.Need-build-requires
 build-requires c κs = search needs

@@ -1,18 +1,10 @@
 -- Four tests come before the tables are compared: the counts, the trips and the stops in all, and the timetable drawn.
 use mathlib.Core.Path.{_∙_}
 use borrow.Author.Needs.{needs}
-use Rattle.lines_tables.proofs.BuildLaws.{asked-yes}
+use Rattle.lines_tables.specs.Copied.{asked-yes}
 use Rattle.lines_alone.proofs.NumberLaws.{numbers-drawn}
-use Rattle.lines_alone.proofs.SomeLaws.{
-  counts-no,
-  counts-yes,
-  lines-few,
-  trips-no,
-  stops-few,
-  stops-no,
-  drawn-no,
-  some-asked,
-}
+use Rattle.lines_alone.proofs.SomeLaws.{counts-no, counts-yes, lines-few, trips-no, stops-few, stops-no}
+use Rattle.lines_alone.proofs.SomeLaws.{drawn-no, some-asked}
 use Rattle.lines_alone.proofs.are_some.Statement.{statement}
 use Rattle.lines_alone.proofs.are_some.Tie as tie
 

@@ -9,18 +9,8 @@ use Rattle.timetable.specs.Timetable.{stopsOf}
 use Rattle.timetable.specs.Words.{stopWords, startWords}
 use Rattle.lines_alone.specs.Drawn.{drawnTrips}
 use Rattle.lines_alone.proofs.NumberLaws.{number-small}
-use Rattle.lines_alone.proofs.DrawLaws.{
-  start-held,
-  next-counted,
-  next-few,
-  next-small,
-  next-room,
-  trip-more,
-  start-more,
-  trips-drawn,
-  starts-drawn,
-  all-counted,
-}
+use Rattle.lines_alone.proofs.DrawLaws.{start-held, next-counted, next-few, next-small, next-room, trip-more}
+use Rattle.lines_alone.proofs.DrawLaws.{start-more, trips-drawn, starts-drawn, all-counted}
 use Rattle.lines_alone.proofs.draw_trips.Statement.{statement}
 use Rattle.lines_alone.proofs.draw_trips.Tie as tie
 

@@ -1,7 +1,7 @@
 -- A mark is 0, or tells line and place.
 use native.Mathlib.Omega.{arith}
 use borrow.Author.Needs.{needs}
-use Rattle.lines_alone.proofs.MarkLaws.{nowhere, line-small, place-small, home-told}
+use Rattle.lines_alone.proofs.HomeLaws.{nowhere, line-small, place-small, home-told}
 use Rattle.lines_alone.proofs.home_of.Statement.{statement}
 use Rattle.lines_alone.proofs.home_of.Tie as tie
 

@@ -1,6 +1,6 @@
 -- The tables of the timetable are written to working space, and compared with those lent.
 use borrow.Author.Needs.{needs}
-use Rattle.lines_tables.proofs.BuildLaws.{lines-room, work-room}
+use Rattle.lines_tables.specs.Copied.{lines-room, work-room}
 use Rattle.lines_check.proofs.TableLaws.{compared}
 use Rattle.lines_check.proofs.are_tables.Statement.{statement}
 use Rattle.lines_check.proofs.are_tables.Tie as tie

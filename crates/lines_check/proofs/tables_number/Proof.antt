@@ -1,14 +1,8 @@
 -- Three slices may be too short, and then the words may be no timetable. Otherwise the tables decide.
 use borrow.Author.Needs.{needs}
-use Rattle.lines_tables.proofs.BuildLaws.{asked-yes, part-long}
-use Rattle.lines_check.proofs.TableLaws.{
-  words-short,
-  lines-short,
-  work-short,
-  no-timetable,
-  own-tables,
-  other-tables,
-}
+use Rattle.lines_tables.specs.Copied.{asked-yes, part-long}
+use Rattle.lines_check.proofs.TableLaws.{words-short, lines-short, work-short, no-timetable, own-tables}
+use Rattle.lines_check.proofs.TableLaws.{other-tables}
 use Rattle.lines_check.proofs.tables_number.Statement.{statement}
 use Rattle.lines_check.proofs.tables_number.Tie as tie
 

@@ -4,9 +4,9 @@ use Prim.Native.Nat.{_≤_, _-_}
 use borrow.Author.Needs.{needs}
 use lib.ListN.{length}
 use Rattle.lines_found.specs.Taken.{OfLasts, opened-chains}
-use Rattle.lines_found.proofs.OrderLaws.{trips-most}
-use Rattle.lines_found.proofs.GroupLaws.{Kept, kept-starts, next-listed, kept-next, lasts-listed}
-use Rattle.lines_found.proofs.GroupLaws.{chains-next, ends-inside, is-count, are-numbers, are-ends}
+use Rattle.lines_order.specs.Steps.{trips-most}
+use Rattle.lines_found.proofs.GroupLaws.{Kept, kept-starts, next-listed, kept-next, lasts-listed, chains-next}
+use Rattle.lines_found.proofs.GroupLaws.{ends-inside, is-count, are-numbers, are-ends}
 use Rattle.lines_found.proofs.group.Statement.{statement}
 use Rattle.lines_found.proofs.group.Tie as tie
 

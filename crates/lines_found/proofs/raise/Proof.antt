@@ -5,9 +5,10 @@ use borrow.Author.Needs.{needs}
 use lib.Seq.{slice}
 use lib.ListN.{length, take}
 use Rattle.words.specs.Put.{put}
-use Rattle.lines_found.specs.Steps.{Below, raised}
-use Rattle.lines_found.proofs.ArrayLaws.{raisedFrom, raising-starts, raised-on, raised-all, raise-fits}
-use Rattle.lines_found.proofs.ArrayLaws.{below-rest, below-next}
+use Rattle.lines_order.specs.Steps.{Below}
+use Rattle.lines_found.specs.Steps.{raised}
+use Rattle.lines_found.proofs.RaiseLaws.{raisedFrom, raising-starts, raised-on, raised-all, raise-fits}
+use Rattle.lines_found.proofs.RaiseLaws.{below-rest, below-next}
 use Rattle.lines_found.proofs.raise.Statement.{statement}
 use Rattle.lines_found.proofs.raise.Tie as tie
 

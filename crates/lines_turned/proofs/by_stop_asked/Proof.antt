@@ -1,16 +1,7 @@
 -- Two questions come first, and where both have their yes the third.
-use Rattle.lines_tables.proofs.BuildLaws.{part-long}
-use Rattle.lines_turned.proofs.AskedLaws.{
-  words-long,
-  tables-long,
-  work-long,
-  result-long,
-  accepted,
-  stop-refused-reply,
-  stop-refused-words,
-  stop-reply,
-  stop-words,
-}
+use Rattle.lines_tables.specs.Copied.{part-long}
+use Rattle.lines_turned.proofs.AskedLaws.{words-long, tables-long, work-long, result-long, accepted}
+use Rattle.lines_turned.proofs.AskedLaws.{stop-refused-reply, stop-refused-words, stop-reply, stop-words}
 use borrow.Author.Needs.{needs}
 use Rattle.lines_turned.proofs.by_stop_asked.Statement.{statement}
 use Rattle.lines_turned.proofs.by_stop_asked.Tie as tie

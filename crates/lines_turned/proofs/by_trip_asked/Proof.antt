@@ -1,16 +1,7 @@
 -- Two questions come first, and where both have their yes the third.
-use Rattle.lines_tables.proofs.BuildLaws.{part-long}
-use Rattle.lines_turned.proofs.AskedLaws.{
-  words-long,
-  tables-long,
-  work-long,
-  result-long,
-  accepted,
-  trip-refused-reply,
-  trip-refused-words,
-  trip-reply,
-  trip-words,
-}
+use Rattle.lines_tables.specs.Copied.{part-long}
+use Rattle.lines_turned.proofs.AskedLaws.{words-long, tables-long, work-long, result-long, accepted}
+use Rattle.lines_turned.proofs.AskedLaws.{trip-refused-reply, trip-refused-words, trip-reply, trip-words}
 use borrow.Author.Needs.{needs}
 use Rattle.lines_turned.proofs.by_trip_asked.Statement.{statement}
 use Rattle.lines_turned.proofs.by_trip_asked.Tie as tie

@@ -2,7 +2,7 @@
 use Prim.Native.Nat.{ℕ, _<_}
 use native.Mathlib.Omega.{arith}
 use lib.ListN.{getD}
-use Rattle.lines_tables.proofs.BuildLaws.{lines-room, work-room, taken-narrow, tables-copied}
+use Rattle.lines_tables.specs.Copied.{lines-room, work-room, taken-narrow, tables-copied}
 use Rattle.lines_turned.specs.Held.{held-written}
 use Rattle.lines_turned.proofs.AskedLaws.{written-long, refused-reply, refused-words, built-reply, built-words}
 use borrow.Author.Needs.{needs}

@@ -3,8 +3,8 @@
 use mathlib.Core.Path.{_≡_}
 use Prim.Native.Nat.{_≤_}
 use lib.ListN.{length}
-use Rattle.listing_answers.specs.Printed.{madeNumber, storeSlice}
-use Rattle.listing_answers.proofs.MakeLaws.{held-number, held-store}
+use Rattle.listing_output.specs.Printed.{madeNumber, storeSlice}
+use Rattle.listing_stores.proofs.MakeLaws.{held-number, held-store}
 use borrow.Author.Needs.{needs}
 use Rattle.listing.proofs.answer_input.Statement.{statement}
 use Rattle.listing.proofs.answer_input.Tie as tie

@@ -1,5 +1,5 @@
 -- The store of the source, and what is printed from it.
-use Rattle.listing_answers.proofs.MakeLaws.{held-number, held-store}
+use Rattle.listing_stores.proofs.MakeLaws.{held-number, held-store}
 use borrow.Author.Needs.{needs}
 use Rattle.listing_answers.proofs.answer_stored.Statement.{statement}
 use Rattle.listing_answers.proofs.answer_stored.Tie as tie

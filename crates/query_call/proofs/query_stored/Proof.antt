@@ -1,6 +1,6 @@
 -- Question 13 with its way out, and what is granted then.
 use Rattle.query_call.specs.Shown.{badly-reply, badly-words, granted, shown-reply, shown-words}
-use Rattle.query_call.proofs.ShownLaws.{words-long, work-room, minutes-room, minutes-part}
+use Rattle.query_call.proofs.RoomLaws.{words-long, work-room, minutes-room, minutes-part}
 use borrow.Author.Needs.{needs}
 use Rattle.query_call.proofs.query_stored.Statement.{statement}
 use Rattle.query_call.proofs.query_stored.Tie as tie

@@ -4,14 +4,13 @@ use mathlib.Core.Path.{_≡_}
 use Prim.Native.Nat.{_≤_}
 use lib.ListN.{length}
 use borrow.Author.Needs.{needs}
-use Rattle.query_direct.specs.Candidates.{allRead}
+use Rattle.query_places.specs.Candidates.{allRead}
 use Rattle.query_rides.specs.Riding.{Good, left, left-falls}
 use Rattle.query_costs.specs.Spans.{Within}
 use Rattle.query_costs.specs.Layering.{takenAll}
 use Rattle.query_costs.specs.Fitting.{Fitting}
-use Rattle.query_costs.proofs.RideLaws.{fitting-first, fitting-next, fits-here}
-use Rattle.query_costs.proofs.RideLaws.{noting-first, noting-more, noting-done}
-use Rattle.query_costs.proofs.RideLaws.{span-first, span-more, span-low}
+use Rattle.query_costs.proofs.RideLaws.{fitting-first, fitting-next, fits-here, noting-first, noting-more}
+use Rattle.query_costs.proofs.RideLaws.{noting-done, span-first, span-more, span-low}
 use Rattle.query_costs.proofs.note_rides.Statement.{statement}
 use Rattle.query_costs.proofs.note_rides.Tie as tie
 

@@ -3,7 +3,14 @@ use borrow.Author.Needs.{needs}
 use Rattle.timetable.specs.Access.{stations-few}
 use Rattle.store_stops.specs.OpenWays.{station-most}
 use Rattle.store_departures.specs.Held.{held-first}
-use Rattle.store_frontier.proofs.OntoLaws.{station-some, station-listed, station-here, here-inside, onto-bounds, own-bounds}
+use Rattle.store_frontier.proofs.OntoLaws.{
+  station-some,
+  station-listed,
+  station-here,
+  here-inside,
+  onto-bounds,
+  own-bounds,
+}
 use Rattle.store_frontier.proofs.onto_bound.Statement.{statement}
 use Rattle.store_frontier.proofs.onto_bound.Tie as tie
 

@@ -6,9 +6,9 @@ use lib.ListN.{length}
 use borrow.Author.Needs.{needs}
 use Rattle.lines_lookup.specs.Calls.{callsIn, Inside}
 use Rattle.query_minutes.specs.Minutes.{noteAll}
-use Rattle.query_direct.specs.Candidates.{firstRead}
-use Rattle.query_direct.specs.Turns.{firstCalls}
-use Rattle.query_direct.proofs.ReachLaws as piece
+use Rattle.query_places.specs.Candidates.{firstRead}
+use Rattle.query_places.specs.Turns.{firstCalls}
+use Rattle.query_places.specs.Turns as piece
 use Rattle.query_direct.proofs.CallLaws.{Sought, sought-first, sought-none, sought-here, sought-next}
 use Rattle.query_direct.proofs.CallLaws.{first-begins, first-done, no-trip, some-trip}
 use Rattle.query_direct.proofs.costs.note_first.Statement.{statement}

@@ -1,6 +1,6 @@
 -- Where there is a place to ride to, the ride to it is noted; else there is none.
 use borrow.Author.Needs.{needs}
-use Rattle.query_direct.proofs.ReachLaws.{noted-none, noted-nearest}
+use Rattle.query_direct.proofs.CallLaws.{noted-none, noted-nearest}
 use Rattle.query_direct.proofs.costs.note_nearest.Statement.{statement}
 use Rattle.query_direct.proofs.costs.note_nearest.Tie as tie
 

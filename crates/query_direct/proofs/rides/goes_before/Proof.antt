@@ -1,13 +1,6 @@
 -- The departures and the numbers are compared one after the other; the first that differs decides.
-use Rattle.query_direct.proofs.FoundLaws.{
-  departs-later,
-  departs-earlier,
-  trip-first,
-  trip-later,
-  board-first,
-  board-later,
-  alight-decides,
-}
+use Rattle.query_direct.proofs.FoundLaws.{departs-later, departs-earlier, trip-first, trip-later, board-first}
+use Rattle.query_direct.proofs.FoundLaws.{board-later, alight-decides}
 use Rattle.query_direct.proofs.rides.goes_before.Statement.{statement}
 use Rattle.query_direct.proofs.rides.goes_before.Tie as tie
 

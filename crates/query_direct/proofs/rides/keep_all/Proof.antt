@@ -4,10 +4,10 @@ use Prim.Native.Nat.{_≤_, _<_, _-_}
 use lib.ListN.{length}
 use borrow.Author.Needs.{needs}
 use Rattle.lines_lookup.specs.Calls.{callsIn, Inside}
-use Rattle.query_direct.specs.Candidates.{nearRead}
+use Rattle.query_places.specs.Candidates.{nearRead}
 use Rattle.query_direct.specs.Keeping.{keepAll}
-use Rattle.query_direct.specs.Turns.{nearCalls}
-use Rattle.query_direct.proofs.ReachLaws as piece
+use Rattle.query_places.specs.Turns.{nearCalls}
+use Rattle.query_places.specs.Turns as piece
 use Rattle.query_direct.proofs.KeepLaws.{all-begins, all-more, all-done}
 use Rattle.query_direct.proofs.rides.keep_all.Statement.{statement}
 use Rattle.query_direct.proofs.rides.keep_all.Tie as tie

@@ -3,7 +3,7 @@ use mathlib.Core.Path.{_≡_, refl}
 use Prim.Native.Nat.{_≤_, _-_}
 use lib.ListN.{length}
 use Rattle.query_direct.specs.Keeping.{keepAll}
-use Rattle.query_direct.specs.Turns.{tripsFrom}
+use Rattle.query_places.specs.Turns.{tripsFrom}
 use Rattle.query_direct.proofs.KeepLaws.{trips-more, trips-done}
 use borrow.Author.Needs.{needs}
 use Rattle.query_direct.proofs.rides.keep_trips.Statement.{statement}

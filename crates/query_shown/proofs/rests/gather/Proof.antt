@@ -2,7 +2,7 @@
 use mathlib.Core.Path.{_≡_}
 use lib.ListN.{length}
 use borrow.Author.Needs.{needs}
-use Rattle.query_direct.specs.Candidates.{nearRead}
+use Rattle.query_places.specs.Candidates.{nearRead}
 use Rattle.query_minutes.specs.Minutes.{noteAll}
 use Rattle.query_rides.specs.Riding.{Good, nearLeft, near-falls}
 use Rattle.query_shown.specs.Stepping.{catches}

@@ -1,3 +1,0 @@
-pub mod Appended
-pub mod Places
-pub mod Runs

@@ -1,0 +1,3 @@
+pub mod StartLaws
+pub mod AppendLaws
+pub mod FillLaws

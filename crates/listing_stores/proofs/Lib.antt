@@ -1,0 +1,3 @@
+pub mod MakeLaws
+pub mod PrintLaws
+pub mod ShownLaws

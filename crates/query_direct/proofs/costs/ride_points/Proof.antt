@@ -1,8 +1,0 @@
--- Where totals rise, their difference; a line whose totals fall would have none.
-use borrow.Author.Needs.{needs}
-use Rattle.query_direct.proofs.ReachLaws.{total-left}
-use Rattle.query_direct.proofs.costs.ride_points.Statement.{statement}
-use Rattle.query_direct.proofs.costs.ride_points.Tie as tie
-
-pub ride-points-spec : {M : Type 1} → statement M
-ride-points-spec = tie.close (tie.spec (λ c κs. search needs) (λ c κs. search needs) (λ c. search total-left))
