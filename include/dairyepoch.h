@@ -99,7 +99,7 @@ extern "C" {
  *   dairyepoch_times_by_trip       up to 1.2 times dairyepoch_check_lines; dairyepoch_times_by_stop likewise
  *   dairyepoch_direct              0.02 for one line, 0.04 for 256 and for an answer of 507 rows
  *   dairyepoch_make_store          2 on a rural timetable, 9 on random trips, 37 at worst; on a rural timetable with 64
- *                                  walks 6, with 256 walks 23 and 78 at worst
+ *                                  walks 3.5, with 256 walks 5.5 and 21 at worst
  *   dairyepoch_query               0.05 on a rural timetable; up to 90 for a hundred rows or more
  *   dairyepoch_cancel_trip         0.03 for one line, 0.04 on a rural timetable and for 256 lines
  *   dairyepoch_add_trip            likewise, and 0.05 for each thousand lines of its text

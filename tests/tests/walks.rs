@@ -695,6 +695,25 @@ fn platforms_at_the_limits() {
     }
 }
 
+/// A store call keeps what is caught on foot for some of the arrivals only: a shuttle calls 600 times at station 1, and
+/// from there walks lead to all stations, which is more than there is room for.
+#[test]
+fn more_is_caught_on_foot_than_is_kept() {
+    let mut random = Random::new(29);
+    let mut lengths = vec![8; 100];
+    lengths.extend([1_200]);
+    let mut timetable = with_trips(&mut random, 64, &lengths);
+    let shuttle = timetable.trips.last_entry().expect("a trip").into_mut();
+    for (place, stop) in shuttle.iter_mut().enumerate() {
+        stop.station = if place % 2 == 0 { 1 } else { 2 + (place / 2 % 3) as u16 };
+    }
+    let walk = |(from, to)| Walk { from, to, minutes: 1 + to % 7, penalty: 1 + to % 5 };
+    let around = (1..=64).map(|to| (1, to)).chain((2..=4).flat_map(|from| (5..=60).map(move |to| (from, to))));
+    timetable.walks = around.map(walk).collect();
+    let [rows, on_foot, _] = searched(&timetable, (1..=64).step_by(9), &mut random);
+    assert!(rows > 50 && on_foot > 20, "{rows}, {on_foot}");
+}
+
 #[test]
 fn middling_villages() {
     let mut random = Random::new(28);
