@@ -13,7 +13,6 @@ use Rattle.lists.specs.Lists.{_∈_, keep, filter, range}
 use Rattle.connections.specs.Rides.{ridesOf}
 use Rattle.connections.specs.Connections.{Change, changeAt, onFoot, applies, changesOf, Net, net}
 use Rattle.connections.specs.RideLaws.{applies-in}
-use Rattle.connections.specs.Planner.{plannerList, rowsOf}
 
 -- the ways of changing of request One: at each station, and by each walk
 unfoldable pub bothOpen : Timetable → List Change
@@ -47,7 +46,3 @@ module _ (t : Timetable) (none : NoneAlong t) where
 
   pub same-net : net t ≡ netOfOne t
   same-net = λ i. record { stations = length (t .stations); rides = ridesOf t; changes = same-changes i }
-
-  -- the planner shows what it showed
-  pub same-rows : (a m b : ℕ) → rowsOf m (plannerList (net t) a m b) ≡ rowsOf m (plannerList (netOfOne t) a m b)
-  same-rows a m b = ap (λ n. rowsOf m (plannerList n a m b)) same-net

@@ -11,7 +11,6 @@ use Rattle.lists.specs.Members.{none as no-member}
 use Rattle.connections.specs.Rides.{ridesOf}
 use Rattle.connections.specs.Connections.{Change, changeAt, onFoot, changesOf, Net, net, Connection, direct}
 use Rattle.connections.specs.Connections.{onward, Feasible, ready, stations}
-use Rattle.connections.specs.Planner.{plannerList, rowsOf}
 use Rattle.connections.specs.Platforms.{bothOpen, NoneAlong, same-changes as both-changes}
 
 -- the ways of changing of document 01: one for each station
@@ -48,10 +47,6 @@ module _ (t : Timetable) (none : t .walks ≡ []) where
 
   pub same-net : net t ≡ formerNet t
   same-net = λ i. record { stations = length (t .stations); rides = ridesOf t; changes = same-changes i }
-
-  -- the planner shows what it showed
-  pub same-rows : (a m b : ℕ) → rowsOf m (plannerList (net t) a m b) ≡ rowsOf m (plannerList (formerNet t) a m b)
-  same-rows a m b = ap (λ n. rowsOf m (plannerList n a m b)) same-net
 
 -- "alights and boards at one station"
 pub stays : (l : List Station) (w : Change) → w ∈ ownChanges l → w .to ≡ w .from

@@ -94,9 +94,9 @@ module _ (plan : Timetable) (timetable lines : List ℕ) (now : Afresh plan time
 
   pub store-stores : (work source : ℕ) → slicesLeast ≤ work → 1 ≤ source → source ≤ length (plan .stations)
       → (before after : List ℕ) (reply : ℕ) → StoreCall timetable lines work source before after reply
-      → Stores plan source before after reply
+      → Stores (net plan) source before after reply
   store-stores work source enough first last before after reply call =
-      subst (λ p. Stores p source before after reply) (now .spells)
+      subst (λ p. Stores (net p) source before after reply) (now .spells)
       (store-stored timetable lines (now .timetable-long) (now .lines-long) (now .yes-9) (now .yes-10)
       source work enough first (subst (λ p. source ≤ length (p .stations)) (sym (now .spells)) last)
       before after reply call)

@@ -199,7 +199,7 @@ module _ (timetable lines : List ℕ) (long-timetable : slicesLeast ≤ length t
     abbrev stored-words : List ℕ
     stored-words = storeWords (net plan) source
 
-    stored-length : length stored-words ≡ wordCount plan source
+    stored-length : length stored-words ≡ wordCount (net plan) source
     unfolding storeWords
     stored-length = encode-length (stored (net plan) source)
 
@@ -209,7 +209,7 @@ module _ (timetable lines : List ℕ) (long-timetable : slicesLeast ≤ length t
     abbrev few-arcs : Bool
     few-arcs = leb (length (arcs (stored (net plan) source))) entriesMost
 
-    fits-true : (room : ℕ) → fits timetable source room ≡ true → StoreFits plan source room
+    fits-true : (room : ℕ) → fits timetable source room ≡ true → StoreFits (net plan) source room
     fits-true room e =
         let both = and-left (few-nodes && few-arcs) (leb (length stored-words) room) e in
         let enough : length stored-words ≤ room =
@@ -220,12 +220,12 @@ module _ (timetable lines : List ℕ) (long-timetable : slicesLeast ≤ length t
           room-enough = omega (arith, stored-length, enough);
         }
 
-    true-fits : (room : ℕ) → StoreFits plan source room → fits timetable source room ≡ true
+    true-fits : (room : ℕ) → StoreFits (net plan) source room → fits timetable source room ≡ true
     true-fits room f =
         let enough : length stored-words ≤ room = omega (arith, stored-length, f .room-enough) in
         rw (le-leb _ _ (f .few-nodes), le-leb _ _ (f .few-arcs), le-leb (length stored-words) room enough)
 
-    false-fits : (room : ℕ) → ¬ StoreFits plan source room → fits timetable source room ≡ false
+    false-fits : (room : ℕ) → ¬ StoreFits (net plan) source room → fits timetable source room ≡ false
     false-fits room h = no-true (fits timetable source room) (λ e. h (fits-true room e))
       where
         no-true : (b : Bool) → (b ≡ true → ⊥) → b ≡ false
@@ -247,31 +247,33 @@ module _ (timetable lines : List ℕ) (long-timetable : slicesLeast ≤ length t
             ∙ rw (le-leb 1 source first, le-leb source (length (plan .stations)) last)
 
         module _ (before : List ℕ) where
-          made-reply : StoreFits plan source (length before)
-              → packedCount (storeReply timetable lines work source (length before)) ≡ wordCount plan source
+          made-reply : StoreFits (net plan) source (length before)
+              → packedCount (storeReply timetable lines work source (length before)) ≡ wordCount (net plan) source
           unfolding storeReply packedCount replyOf
           made-reply f =
               rw (store-number (length before), true-fits (length before) f)
               (zero-add (length stored-words) ∙ stored-length)
 
-          made-words : StoreFits plan source (length before)
-              → storeAfter timetable lines work source before ≡ stored-words ++ drop (wordCount plan source) before
+          made-words : StoreFits (net plan) source (length before)
+              → storeAfter timetable lines work source before
+              ≡ stored-words ++ drop (wordCount (net plan) source) before
           unfolding storeAfter wordsAfter
           made-words f =
               rw (store-number (length before), true-fits (length before) f)
               (put-front stored-words before ∙ ap (λ k. stored-words ++ drop k before) stored-length)
 
-          short-reply : ¬ StoreFits plan source (length before)
+          short-reply : ¬ StoreFits (net plan) source (length before)
               → packedCount (storeReply timetable lines work source (length before)) ≡ refusal 15
           unfolding storeReply packedCount replyOf
           short-reply f = rw (store-number (length before), false-fits (length before) f)
 
-          short-words : ¬ StoreFits plan source (length before) → storeAfter timetable lines work source before ≡ before
+          short-words : ¬ StoreFits (net plan) source (length before)
+              → storeAfter timetable lines work source before ≡ before
           unfolding storeAfter wordsAfter
           short-words f = rw (store-number (length before), false-fits (length before) f)
 
           pub store-stored : (after : List ℕ) (reply : ℕ) → StoreCall timetable lines work source before after reply
-              → Stores plan source before after reply
+              → Stores (net plan) source before after reply
           store-stored after reply call =
               record {
                 short = (
@@ -310,7 +312,7 @@ module _ (timetable lines : List ℕ) (long-timetable : slicesLeast ≤ length t
       made-listed =
           yes-here 10 (listed plan source) (ask 15 (fits timetable source (length before)) ∷ []) made-last
 
-      made-fits : StoreFits plan source (length before)
+      made-fits : StoreFits (net plan) source (length before)
       made-fits =
           fits-true (length before)
           (yes-here 14 (fits timetable source (length before)) []
@@ -327,7 +329,7 @@ module _ (timetable lines : List ℕ) (long-timetable : slicesLeast ≤ length t
           (and-right (leb 1 source) (leb source (length (plan .stations))) made-listed)
 
       abbrev past : List ℕ
-      past = drop (wordCount plan source) before
+      past = drop (wordCount (net plan) source) before
 
       made-is : store ≡ stored-words ++ past
       made-is = is ∙ made-words making made-work made-first made-within before made-fits

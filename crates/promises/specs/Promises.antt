@@ -15,7 +15,7 @@ use Rattle.timetable.specs.Words.{words, timetableOf, isTimetable}
 use Rattle.timetable.specs.Changes.{runsAs, cancelled, added}
 use Rattle.reading.specs.Reading.{Accepted, reading, readExtra, readReply, readWords}
 use Rattle.results.specs.Results.{row, costs, Answers}
-use Rattle.connections.specs.Connections.{net, Connection, Feasible, duration, penalty, stations}
+use Rattle.connections.specs.Connections.{Net, net, Connection, Feasible, duration, penalty, stations}
 use Rattle.connections.specs.Planner.{plannerList, measure, rideCount, numbers, rowsOf}
 use Rattle.stores.specs.Stored.{stored, Sequence}
 use Rattle.stores.specs.Words.{nodes, arcs, entriesMost, storeWords, readable, wellMade, keptList}
@@ -174,30 +174,30 @@ pub record Shows (minute : ℕ) (list : List Connection) (before after : List �
   pub answers : Answers (measure minute) list (rowsOf minute list)
 
 -- ---- What the store call writes. "Word 0 is n, the number of prefix nodes; word 1 is m, the number of arcs."
-abbrev pub nodeCount : Timetable → (source : ℕ) → ℕ
-nodeCount plan source = length (nodes (stored (net plan) source))
+abbrev pub nodeCount : Net → (source : ℕ) → ℕ
+nodeCount n source = length (nodes (stored n source))
 
-abbrev pub arcCount : Timetable → (source : ℕ) → ℕ
-arcCount plan source = length (arcs (stored (net plan) source))
+abbrev pub arcCount : Net → (source : ℕ) → ℕ
+arcCount n source = length (arcs (stored n source))
 
 -- document 02, One: "a store has 2 + 3n + 2m words"
-abbrev pub wordCount : Timetable → (source : ℕ) → ℕ
-wordCount plan source = 2 + 3 * nodeCount plan source + 2 * arcCount plan source
+abbrev pub wordCount : Net → (source : ℕ) → ℕ
+wordCount n source = 2 + 3 * nodeCount n source + 2 * arcCount n source
 
 -- "Is the answer or store slice long enough, and for a store are n and m at most 16,383?"
-pub record StoreFits (plan : Timetable) (source room : ℕ) : Type 0 where
-  pub few-nodes : nodeCount plan source ≤ entriesMost
-  pub few-arcs : arcCount plan source ≤ entriesMost
-  pub room-enough : wordCount plan source ≤ room
+pub record StoreFits (n : Net) (source room : ℕ) : Type 0 where
+  pub few-nodes : nodeCount n source ≤ entriesMost
+  pub few-arcs : arcCount n source ≤ entriesMost
+  pub room-enough : wordCount n source ≤ room
 
-pub record Stores (plan : Timetable) (source : ℕ) (before after : List ℕ) (reply : ℕ) : Type 0 where
+pub record Stores (n : Net) (source : ℕ) (before after : List ℕ) (reply : ℕ) : Type 0 where
   -- 15 exactly if that has a no, and then nothing is written
-  pub short : (reply ≡ refusal 15) ↔ ¬ StoreFits plan source (length before)
-  pub short-writes : ¬ StoreFits plan source (length before) → after ≡ before
+  pub short : (reply ≡ refusal 15) ↔ ¬ StoreFits n source (length before)
+  pub short-writes : ¬ StoreFits n source (length before) → after ≡ before
   -- "A store call returns its words", 2 + 3n + 2m; "Words past a result keep their values"
-  pub replies : StoreFits plan source (length before) → reply ≡ wordCount plan source
-  pub writes : StoreFits plan source (length before)
-      → after ≡ storeWords (net plan) source ++ drop (wordCount plan source) before
+  pub replies : StoreFits n source (length before) → reply ≡ wordCount n source
+  pub writes : StoreFits n source (length before)
+      → after ≡ storeWords n source ++ drop (wordCount n source) before
 
 -- ---- The promises.
 pub record Promises : Type 0 where
@@ -238,7 +238,7 @@ pub record Promises : Type 0 where
   pub store-stores : (text : List ℕ) (plan : Timetable) (timetable lines : List ℕ) → Loaded text plan timetable lines
       → (work source : ℕ) → slicesLeast ≤ work → 1 ≤ source → source ≤ length (plan .stations)
       → (before after : List ℕ) (reply : ℕ) → StoreCall timetable lines work source before after reply
-      → Stores plan source before after reply
+      → Stores (net plan) source before after reply
   pub store-holds : (text : List ℕ) (plan : Timetable) (timetable lines : List ℕ) → Loaded text plan timetable lines
       → (source : ℕ) (store : List ℕ) → Made timetable lines source store
       → (sequence : List ℕ) → sequence ∈ readable store ↔ Sequence (net plan) source sequence
@@ -329,7 +329,7 @@ pub record ChangePromises : Type 0 where
   pub rebuilt-stores : (plan : Timetable) (timetable lines : List ℕ) → Running plan timetable lines
       → (work source : ℕ) → slicesLeast ≤ work → 1 ≤ source → source ≤ length (plan .stations)
       → (before after : List ℕ) (reply : ℕ) → StoreCall timetable lines work source before after reply
-      → Stores plan source before after reply
+      → Stores (net plan) source before after reply
   pub rebuilt-holds : (plan : Timetable) (timetable lines : List ℕ) → Running plan timetable lines
       → (source : ℕ) (store : List ℕ) → Made timetable lines source store
       → (sequence : List ℕ) → sequence ∈ readable store ↔ Sequence (net plan) source sequence

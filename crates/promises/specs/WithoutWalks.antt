@@ -60,8 +60,8 @@ pub record WithoutWalks : Type 0 where
   pub store-doubled : (text : List ℕ) (plan : Timetable) (timetable lines : List ℕ) → Loaded text plan timetable lines
       → plan .walks ≡ [] → (work source : ℕ) → slicesLeast ≤ work → 1 ≤ source → source ≤ length (plan .stations)
       → (before after : List ℕ) (reply : ℕ) → StoreCall timetable lines work source before after reply
-      → StoreFits plan source (length before)
-      → after ≡ doubledStore (formerWords (formerNet plan) source) ++ drop (wordCount plan source) before
+      → StoreFits (net plan) source (length before)
+      → after ≡ doubledStore (formerWords (formerNet plan) source) ++ drop (wordCount (net plan) source) before
 
 -- ---- a line that does not begin with W adds no walk
 abbrev Adds : Line → Type 0
@@ -74,7 +74,7 @@ picked : (b : Bool) (x y : Line) → Adds x → Adds y → Adds (cond b x y)
 picked true x y h g = h
 picked false x y h g = g
 
-stop-adds : (l : StopLine) → Adds (StopIn l)
+pub stop-adds : (l : StopLine) → Adds (StopIn l)
 stop-adds l d = go (l .last)
   where
     go : (last : Bool) → (withStop d (stopOfLine l) last) .walks ≡ d .walks
@@ -166,12 +166,12 @@ module _ (t : Timetable) (n : ℕ) where
   unfolding refused
   turned k l e = absurd (omega (arith, ap refused e))
 
-  if-yes : {G : Type 0} (b : Bool) (o : Outcome) (k l : ℕ) → (o ≡ Accepted t n → G)
+  pub if-yes : {G : Type 0} (b : Bool) (o : Outcome) (k l : ℕ) → (o ≡ Accepted t n → G)
       → cond b o (Refused k l) ≡ Accepted t n → G
   if-yes true o k l h e = h e
   if-yes false o k l h e = turned k l e
 
-  end-adds : (r : Rules) (d : Draft) (line : ℕ) → ended r d line ≡ Accepted t n → t .walks ≡ d .walks
+  pub end-adds : (r : Rules) (d : Draft) (line : ℕ) → ended r d line ≡ Accepted t n → t .walks ≡ d .walks
   unfolding ended walksOf
   end-adds r d line e = if-yes (complete r d) _ 7 line (λ e. sym (ap walksOf e)) e
 
@@ -215,5 +215,5 @@ without-walks =
           λ text plan timetable lines l none work source enough first last before after reply call fits.
           promises .store-stores text plan timetable lines l work source enough first last before after reply call
           .writes fits
-          ∙ ap (λ ws. ws ++ drop (wordCount plan source) before) (words-doubled plan none source);
+          ∙ ap (λ ws. ws ++ drop (wordCount (net plan) source) before) (words-doubled plan none source);
     }

@@ -227,10 +227,10 @@ module _ (s : Slices) (text : List ℕ) (t : Timetable) (lines count : ℕ) (k :
     unfolding encode
     arcs-known = ap (λ l. getD l 1 0) encoded
 
-    count-known : wordCount t a ≡ length (x ∷ y ∷ rest)
+    count-known : wordCount (net t) a ≡ length (x ∷ y ∷ rest)
     count-known = rw (nodes-known, arcs-known) counted
 
-    fits : length (x ∷ y ∷ rest) ≤ length (s .store) → StoreFits t a (length (s .store))
+    fits : length (x ∷ y ∷ rest) ≤ length (s .store) → StoreFits (net t) a (length (s .store))
     fits room =
         record {
           few-nodes = omega (arith, nodes-known);
@@ -238,10 +238,10 @@ module _ (s : Slices) (text : List ℕ) (t : Timetable) (lines count : ℕ) (k :
           room-enough = omega (arith, count-known);
         }
 
-    too-short : length (s .store) < length (x ∷ y ∷ rest) → ¬ StoreFits t a (length (s .store))
+    too-short : length (s .store) < length (x ∷ y ∷ rest) → ¬ StoreFits (net t) a (length (s .store))
     too-short short f = omega (arith, f .room-enough, count-known)
 
-    stores : Stored t a (s .store) (storeSlice s text a) (made s text a)
+    stores : Stored (net t) a (s .store) (storeSlice s text a) (made s text a)
     stores =
         promises .store-stores text t w v loaded (s .space) a (s .space-long) first last
         (s .store) (storeSlice s text a) (made s text a) (record { replies = refl; writes = refl })
