@@ -1,4 +1,4 @@
-// What the listing program prints: for a timetable's text, and for the bytes of its input, chunk by chunk. The program
+// From a timetable's text, and from the bytes of the listing's input, chunk by chunk, to the bytes printed. The program
 // itself only moves bytes.
 ghost use mathlib.Core.Path.{_≡_};
 ghost use Prim.Native.Nat.{_≤_};

@@ -1,4 +1,4 @@
--- The ways out of the call: no connection, too little room, or the rows written.
+-- The ways out of `show`: no connection, too little room, or the rows written.
 use mathlib.Core.Path.{_≡_, refl, sym, ap, _∙_}
 use mathlib.Core.Bool.{Bool, true, false}
 use mathlib.Core.List.{List, [], _∷_}

@@ -13,7 +13,7 @@ use Rattle.store_departures.specs.Held.{Kept}
 pub record KeptWalks (w : List ℕ) (j base begin end : ℕ) (chained : List ℕ) : Type 0 where
   pub is : (k : ℕ) → begin ≤ k → k < end → getD chained (base + k) 0 ≡ catchBy w (onFoot (walkAt w k)) j
 
--- what is kept for stop j stands from place at up to end, and nothing else in front of end was written
+-- what is kept for stop j stands before place end; in front of place at nothing but the word of stop j was written
 pub record Keeping (w : List ℕ) (j at end : ℕ) (old new : List ℕ) : Type 0 where
   pub long : length new ≡ 20480
   pub others : (m : ℕ) → m < at → m ≢ 2048 + j → getD new m 0 ≡ getD old m 0

@@ -1,5 +1,6 @@
 // What an arrival catches: the first departure that a change at the station itself reaches, or a walk from there. It is
-// looked for once and kept, since each pass of the store call asks for it at every arrival.
+// looked for once and kept, since each pass of the store call asks for it at every arrival. Nothing but time hangs on
+// how much is kept.
 ghost use mathlib.Core.Path.{_≡_};
 ghost use mathlib.Core.Bool.{true};
 ghost use Prim.Native.Nat.{_+_, _≤_, _<_};
@@ -78,7 +79,7 @@ fn catch_at(words: &[u16], chain: &[u16], first: &[u32], j: usize) -> u16
 }
 
 // The first departure that a walk reaches after the arrival at stop j; nowhere where one may not alight.
-pub fn catch_on_foot(words: &[u16], chain: &[u16], first: &[u32], walk: Walk, j: usize) -> u16
+pub fn seek_by_walk(words: &[u16], chain: &[u16], first: &[u32], walk: Walk, j: usize) -> u16
     requires { ⌜ (16384 ≤ length (now words))
         × (isTimetable (now words) ≡ true)
         × Standing (now words) (now chain) (now first)
@@ -105,7 +106,7 @@ fn seek_on_foot(words: &[u16], chain: &[u16], first: &[u32], k: usize, j: usize)
     ensures { λ r. ⌜ (r ≡ catchBy (now (words .entry)) (onFoot (walkAt (now (words .entry)) k)) j)
         × (r < 65536) ⌝ }
 {
-    catch_on_foot(words, chain, first, timetable::walk_at(words, k), j)
+    seek_by_walk(words, chain, first, timetable::walk_at(words, k), j)
 }
 
 // ---- what is kept
@@ -130,7 +131,8 @@ pub fn find_catches(words: &[u16], chain: &[u16], first: &[u32], catches: &mut [
     }
 }
 
-// Behind the chain each stop has a word, and behind these stand the departures that are caught on foot.
+// Behind the chain each stop has a word: where what is caught on foot after the arrival there stands, less the place of
+// the walk; 0 if it is not kept. Behind these words stand the departures caught.
 const KEPT: usize = timetable::STOPS_MOST as usize;
 
 const KEPT_FIRST: usize = 2 * KEPT;

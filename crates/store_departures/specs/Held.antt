@@ -63,10 +63,10 @@ held-standing w chained first held = held .standing
 pub held-first : (w chained first : List ℕ) → Departures w chained first → length first ≡ 132
 held-first w chained first held = held .first-long
 
--- whether there are walks at all
-pub some-walks : (w chained first : List ℕ) → Departures w chained first → (b : Bool) → b ≡ ltb 0 (getD first 131 0)
+-- there are no walks at all
+pub no-walks : (w chained first : List ℕ) → Departures w chained first → (b : Bool) → b ≡ ltb 0 (getD first 131 0)
     → b ≡ false → walkCount w ≡ 0
-some-walks w chained first held b is e =
+no-walks w chained first held b is e =
     omega (arith, ltb-false 0 (getD first 131 0) (sym is ∙ e), held .walks-counted)
 
 pub held-prices : (w chained first : List ℕ) → Departures w chained first → Priced w first

@@ -14,7 +14,7 @@ use Rattle.store_stops.specs.Stopwise.{station, changePoints, stay, nowhere}
 use Rattle.store_stops.specs.OpenWays.{Open, ByWalk, WalkTo, walked-none, walked-more, open-ways, never-walked}
 use Rattle.store_departures.specs.Order.{catchBy}
 use Rattle.store_departures.specs.InOrderLaws.{caught-there}
-use Rattle.store_departures.specs.Held.{Departures, some-walks, goes-few}
+use Rattle.store_departures.specs.Held.{Departures, no-walks, goes-few}
 use Rattle.store_frontier.specs.Bounding.{
   caughtBound,
   caught-some,
@@ -102,7 +102,7 @@ module _ (w : List ℕ) (yes : isTimetable w ≡ true) where
       own-bounds chain first held b is e q x here some few price is-here =
           onto-bounds chain first held q x here 0 here some few price is-here
           (bounding-none w q j (WalkTo w (s .station) (walksTo w (s .station)))
-          (never-walked w yes (s .station) (station-listed few) (some-walks w chain first held b is e)))
+          (never-walked w yes (s .station) (station-listed few) (no-walks w chain first held b is e)))
           (omega arith)
 
 -- ---- by all walks from a station

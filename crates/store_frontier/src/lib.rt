@@ -215,6 +215,7 @@ fn close_stop(words: &[u16], j: usize, v: &mut [u32])
     query_minutes::set_points(v, j, UNREACHED);
 }
 
+// Closes all such stops.
 fn close_stops(words: &[u16], v: &mut [u32])
     requires { ⌜ (16384 ≤ length (now words)) × (isTimetable (now words) ≡ true) × (length (now v) ≡ 2048) ⌝ }
     ensures { λ _. ⌜ Closed (now (words .entry)) (now (v .entry)) (now (v .exit)) ⌝ }
@@ -228,10 +229,10 @@ fn close_stops(words: &[u16], v: &mut [u32])
     }
 }
 
-// The word of first that tells whether riders may alight at all stops.
-const CLOSES: usize = 66;
+// The word of first that tells, by 0, that riders may alight at all stops.
+pub const SOME_CLOSED: usize = 66;
 
-// The same; nothing is looked at where riders may alight at all stops.
+// Closes them; where riders may alight at all stops, none is looked at.
 fn close(words: &[u16], first: &[u32], v: &mut [u32])
     requires { ⌜ (16384 ≤ length (now words))
         × (isTimetable (now words) ≡ true)
@@ -241,7 +242,7 @@ fn close(words: &[u16], first: &[u32], v: &mut [u32])
     ensures { λ _. ⌜ Closed (now (words .entry)) (now (v .entry)) (now (v .exit)) ⌝ }
     ensures { λ _. ⌜ length (now (v .exit)) ≡ length (now (v .entry)) ⌝ }
 {
-    if place_at(first, CLOSES) == 0 {
+    if store_departures::index_at(first, SOME_CLOSED) == 0 {
         return;
     }
     close_stops(words, v);
@@ -281,8 +282,8 @@ pub fn allow(words: &[u16], arrivals: &[u16], first: &[u32], source: usize, v: &
     allow_all(words, arrivals, first, source, v);
 }
 
-// Whether some stop is closed to alighting: 1 if so, 0 if not.
-pub fn closes(words: &[u16]) -> u32
+// 0 only if riders may alight at all stops; it is 1 where a stop is closed to that.
+pub fn some_closed(words: &[u16]) -> u32
     requires { ⌜ (16384 ≤ length (now words)) × (isTimetable (now words) ≡ true) ⌝ }
     ensures { λ r. ⌜ Tells (now (words .entry)) r ⌝ }
 {

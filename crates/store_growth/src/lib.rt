@@ -14,23 +14,18 @@ ghost use Rattle.store_frontier.specs.Routes.{Routes};
 ghost use Rattle.store_frontier.specs.Arrivals.{Arrivals};
 ghost use Rattle.stores.specs.Stored.{sequences};
 ghost use Rattle.store_growth.specs.Chunks.{Whole};
+use store_departures::BY_STATION;
+use store_departures::CHAIN_WORDS;
+use store_frontier::SOME_CLOSED;
 use store_tree::Counts;
 use tree::STOPS_MOST;
-
-// The departures by station, and what is caught on foot.
-const CHAIN_WORDS: usize = store_departures::CHAIN_WORDS;
 
 // There are at most so many slots.
 const SLOTS: usize = 320;
 
 // Stations count from 1, 64 at most, and the arrivals of each end where those of the next one begin; behind that stands
 // whether a stop is closed to alighting.
-const CLOSES: usize = 66;
-
-const BEGINS: usize = CLOSES + 1;
-
-// Where departures begin, what changes cost, and how many walks there are.
-const BY_STATION: usize = store_departures::BY_STATION;
+const ARRIVAL_WORDS: usize = SOME_CLOSED + 1;
 
 // Writes the departures by minute and by station. Returns how many departures there are.
 fn list_departures(
@@ -56,7 +51,7 @@ fn list_departures(
 }
 
 // Writes what changes cost at each station, and how many walks there are.
-fn price_changes(words: &[u16], first: &mut [u32])
+fn list_prices(words: &[u16], first: &mut [u32])
     requires { ⌜ (16384 ≤ length (now words)) × (isTimetable (now words) ≡ true) × (length (now first) ≡ 132) ⌝ }
     ensures { λ _. ⌜ PricedBehind (now (words .entry)) (now (first .entry)) (now (first .exit)) ⌝ }
 {
@@ -77,7 +72,7 @@ fn list_catches(words: &[u16], chain: &mut [u16], first: &mut [u32], catch: &mut
 {
     store_catches::find_catches(words, chain, first, catch);
     store_catches::keep_catches(words, chain, first);
-    price_changes(words, first);
+    list_prices(words, first);
 }
 
 // Writes the arrivals by station, where each station's begin, and behind these whether a stop is closed to alighting.
@@ -90,7 +85,7 @@ fn list_arrivals(words: &[u16], work: &mut [u32], arrivals: &mut [u16], begins: 
     ensures { λ _. ⌜ Arrivals (now (words .entry)) (now (arrivals .exit)) (now (begins .exit)) ⌝ }
 {
     store_departures::chain_arrivals(words, work, arrivals, begins);
-    begins[CLOSES] = store_frontier::closes(words);
+    begins[SOME_CLOSED] = store_frontier::some_closed(words);
 }
 
 // Plants and grows the tree, departures and arrivals having been listed. Returns the numbers of nodes and arcs, if they
@@ -162,7 +157,7 @@ fn grow_tree(
         (now (targets .exit)) r ⌝ }
 {
     let mut arrivals = [0u16; STOPS_MOST];
-    let mut begins = [0u32; BEGINS];
+    let mut begins = [0u32; ARRIVAL_WORDS];
     list_arrivals(words, work, &mut arrivals, &mut begins);
     plant_tree(
         words,

@@ -22,7 +22,7 @@ use Rattle.store_stops.specs.Ways.{good-way}
 use Rattle.store_stops.specs.OpenWays.{walk-cheap}
 use Rattle.store_slots.specs.Slots.{hereSlot, walkSlot, walksFrom}
 use Rattle.store_departures.specs.Order.{catchBy, catch}
-use Rattle.store_departures.specs.Held.{Priced, Departures, some-walks, goes-few}
+use Rattle.store_departures.specs.Held.{Priced, Departures, no-walks, goes-few}
 use Rattle.store_points.specs.Lowered.{lowered}
 use Rattle.store_marks.specs.Arrays.{raised}
 use Rattle.store_marks.specs.Riding.{visit, offer, staying, raiseTry, raiseAll, endsTry, changeTry}
@@ -229,7 +229,7 @@ module _ (w q old mid new : List ℕ) (j b y : ℕ) (at : b ≡ station w j)
       → (o : Bool) → o ≡ ltb 0 (getD first 131 0) → o ≡ false → mid ≡ flagKids w q (visit j y) old
   unfolding raiseAll walkTries
   kids-stay ok a chained first held o is e =
-      let none = some-walks w chained first held o is e in
+      let none = no-walks w chained first held o is e in
       let n : walksTo w b - walksTo w (b - 1) ≡ 0 =
       omega (arith, walks-rise w ok b (stationCount w) (arrival-listed w ok j a b at) (omega arith)) in
       sym (kids-are ∙ ap (λ z. tries w q j y (range (walksTo w (b - 1)) z) mid) n)

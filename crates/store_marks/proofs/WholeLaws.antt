@@ -11,7 +11,7 @@ use lib.ListN.{length, getD}
 use lib.Seq.{slice, slice-cons, slice-empty}
 use Rattle.lists.specs.Lists.{_∈_}
 use Rattle.timetable.specs.Timetable.{Walk}
-use Rattle.timetable.specs.Words.{stationCount, walksTo, walkCount, walkAt, isTimetable}
+use Rattle.timetable.specs.Words.{stationCount, walksTo, walkAt, isTimetable}
 use Rattle.timetable.specs.Access.{stations-few}
 use Rattle.timetable.specs.Walks.{walks-few, walks-rise}
 use Rattle.connections.specs.Connections.{Change, onFoot}
@@ -164,14 +164,6 @@ module _ (w : List ℕ) (ok : isTimetable w ≡ true) where
             listed = subst (λ (v : Walk). onFoot v ∈ waysOf w) (sym at) (foot-way w ok k walk-listed);
             stays = λ e. absurd (false≢true e);
           }
-
--- word 0 has the number of stations
-module _ (w : List ℕ) (n : ℕ) (is : n ≡ getD w 0 0) where
-  pub count-low : isTimetable w ≡ true → n ≤ 64
-  count-low ok = omega (arith, stations-few w ok)
-
-  pub all-walks : (r : ℕ) → r ≡ walksTo w n → r ≡ walkCount w
-  all-walks r e = e ∙ ap (walksTo w) is
 
 module _ (w : List ℕ) (c y : ℕ) (x : List ℕ) where
   pub own-rides : (e : ℕ) (way : Walk) (x′ : List ℕ) → y ≡ e → way ≡ staying w y

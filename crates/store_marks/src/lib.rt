@@ -147,7 +147,7 @@ fn caught_at(
     if own {
         return words::word(catch, j) as usize;
     }
-    store_catches::catch_on_foot(words, chain, first, way, j) as usize
+    store_catches::seek_by_walk(words, chain, first, way, j) as usize
 }
 
 // One who arrives at stop j, at station b, having paid y, can change there, if that is where the way begins.

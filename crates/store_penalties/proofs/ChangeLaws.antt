@@ -23,7 +23,7 @@ use Rattle.store_stops.specs.OpenWays.{
   never-walked,
 }
 use Rattle.store_departures.specs.Order.{catchBy}
-use Rattle.store_departures.specs.Held.{Departures, some-walks}
+use Rattle.store_departures.specs.Held.{Departures, no-walks}
 use Rattle.store_points.specs.Lowered.{lowered}
 use Rattle.store_penalties.specs.Offering.{Offering, offering-none, offering-one, offering-as, offering-both}
 
@@ -81,4 +81,4 @@ module _ (w : List ℕ) (c j u : ℕ) where
     own-open b is e caught f x sum q q′ accepted here catches reads price adds lowers =
         all-open caught f x sum q q′ q′ accepted here catches reads price adds lowers
         (offering-none w j u (WalkTo w c (walksTo w c)) q′
-        (never-walked w accepted c few (some-walks w chain first held b is e)))
+        (never-walked w accepted c few (no-walks w chain first held b is e)))

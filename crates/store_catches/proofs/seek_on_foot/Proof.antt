@@ -5,8 +5,8 @@ use Rattle.store_catches.proofs.KeepLaws.{arrival-few, arrival-minute, 
 use Rattle.store_catches.proofs.seek_on_foot.Statement.{statement}
 use Rattle.store_catches.proofs.seek_on_foot.Tie as tie
 
-catch-on-foot-requires : tie.Need-catch-on-foot-requires
-catch-on-foot-requires c κs = (
+seek-by-walk-requires : tie.Need-seek-by-walk-requires
+seek-by-walk-requires c κs = (
   search needs,
   search needs,
   search needs,
@@ -20,5 +20,5 @@ seek-on-foot-spec =
     tie.close
     (tie.spec
     (λ c κs. (search needs, search stations-few, search trips-few, search stops-few, search walk-few))
-    catch-on-foot-requires
+    seek-by-walk-requires
     (λ c. (search walk-caught, search needs)))

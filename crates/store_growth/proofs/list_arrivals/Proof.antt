@@ -15,7 +15,7 @@ returns c =
     let entry = called .before .before .before .before .before .before .before .before in
     let listed = called .chain-arrivals .ensures in
     arrivals-of _ (entry .pre .1) _ _ _ _ _ (listed .0) (listed .1 .1 .1 .0) (listed .1 .1 .1 .1 .0 ∙ entry .pre .4)
-    (c .closes .ensures) refl
+    (c .some-closed .ensures) refl
 
 pub list-arrivals-spec : {M : Type 1} → statement M
 list-arrivals-spec =

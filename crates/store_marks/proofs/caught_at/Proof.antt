@@ -5,8 +5,8 @@ use Rattle.store_marks.proofs.ArrivalLaws.{arrival-room, arrival-few, a
 use Rattle.store_marks.proofs.caught_at.Statement.{statement}
 use Rattle.store_marks.proofs.caught_at.Tie as tie
 
-catch-on-foot-requires : tie.Need-catch-on-foot-requires
-catch-on-foot-requires c κs = (
+seek-by-walk-requires : tie.Need-seek-by-walk-requires
+seek-by-walk-requires c κs = (
   search needs,
   search needs,
   search held-standing,
@@ -22,6 +22,6 @@ caught-at-spec =
     (λ c κs. search arrival-room)
     (λ c. search needs)
     (λ c. search caught-own)
-    catch-on-foot-requires
+    seek-by-walk-requires
     (λ c. search needs)
     (λ c. search needs))

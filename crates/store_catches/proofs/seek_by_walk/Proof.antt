@@ -2,14 +2,14 @@
 use Rattle.timetable.specs.Access.{stations-few}
 use Rattle.store_catches.proofs.CatchLaws.{here-in-time, caught-on-foot, caught-closed}
 use borrow.Author.Needs.{needs}
-use Rattle.store_catches.proofs.catch_on_foot.Statement.{statement}
-use Rattle.store_catches.proofs.catch_on_foot.Tie as tie
+use Rattle.store_catches.proofs.seek_by_walk.Statement.{statement}
+use Rattle.store_catches.proofs.seek_by_walk.Tie as tie
 
 soonest-at-requires : tie.Need-soonest-at-requires
 soonest-at-requires c κs = (search needs, search needs, search needs, search needs)
 
-pub catch-on-foot-spec : {M : Type 1} → statement M
-catch-on-foot-spec =
+pub seek-by-walk-spec : {M : Type 1} → statement M
+seek-by-walk-spec =
     tie.close
     (tie.spec
     (λ c κs. (search needs, search stations-few, search needs))

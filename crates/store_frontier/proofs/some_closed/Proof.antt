@@ -3,8 +3,8 @@ use borrow.Author.Needs.{needs}
 use Prim.Native.Nat.{_-_}
 use Rattle.timetable.specs.Access.{stations-few}
 use Rattle.store_frontier.specs.Allowing.{OpenTo, stop-below, open-none, open-more, open-all, told-closed}
-use Rattle.store_frontier.proofs.closes.Statement.{statement}
-use Rattle.store_frontier.proofs.closes.Tie as tie
+use Rattle.store_frontier.proofs.some_closed.Statement.{statement}
+use Rattle.store_frontier.proofs.some_closed.Tie as tie
 
 abbrev Inv-loop : tie.InvT-loop
 Inv-loop words stops j₀ j = OpenTo words j
@@ -12,8 +12,8 @@ Inv-loop words stops j₀ j = OpenTo words j
 abbrev μ-loop : tie.MeasureT-loop
 μ-loop words stops j₀ j = stops - j
 
-pub closes-spec : {M : Type 1} → statement M
-closes-spec =
+pub some-closed-spec : {M : Type 1} → statement M
+some-closed-spec =
     tie.close
     (tie.spec
     Inv-loop
