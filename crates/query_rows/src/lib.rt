@@ -1,10 +1,10 @@
 // The rows of a query from a store. All arcs of the target are gone through first: for each minute of arrival the
 // least penalty of their connections, and the arc that alone has it (`note_arcs`). The minutes whose penalty is
-// below those of all earlier ones are the rows. Each row's arc is named and the row is measured by the arc's number
-// of rides (`measure`), and only then are its rides looked for and written (`write_rows`): an answer that does not
-// fit is refused before a word of it is written, and there is no room to keep the rides of all rows until it is
-// known to fit. Where several arcs tie, naming the arc means trying them all, so that the connection of such a row
-// is found twice.
+// below those of all earlier ones are the rows, so that a connection may be left out that arrives later than another
+// and costs no less. Each row's arc is named and the row is measured by the arc's number of rides (`measure`), and
+// only then are its rides looked for and written (`write_rows`): an answer that does not fit is refused before a word
+// of it is written, and there is no room to keep the rides of all rows until it is known to fit. Where several arcs
+// tie, naming the arc means trying them all, so that the connection of such a row is found twice.
 ghost use mathlib.Core.Path.{_≡_};
 ghost use mathlib.Core.List.{_∷_};
 ghost use Prim.Native.Nat.{_+_, _-_, _*_, _≤_, _<_, min};
@@ -223,8 +223,8 @@ fn note_arc(
     merge(k, reached.from, reached.to, mine, best, who);
 }
 
-// Notes the least penalty for each minute of arrival, of all connections whose pattern is stored, and the arc that
-// alone has it.
+// Notes the least penalty for each minute of arrival, of the connections whose pattern is stored, and the arc that
+// alone has it. One that arrives later than another and costs no less may be left out.
 pub fn note_arcs(
     words: &[u16],
     lines: &[u16],
