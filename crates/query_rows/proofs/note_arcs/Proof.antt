@@ -92,7 +92,6 @@ note-arcs-spec =
     (tie.spec
     Inv-loop
     μ-loop
-    (λ c. search needs)
     arc-count-requires
     loop-holds
     (λ c. search needs)
