@@ -109,6 +109,18 @@ module _ (n : Net) (ok : Sound n) (s : List ℕ) (a u b : ℕ) where
               (λ z. absurd (other (ends-at n a u b c q y f (z ∙ e))));
         }
 
+    -- neither has one that was followed already
+    pub collected-again : this ∈ take k (readable s) → Collected (suc k) w
+    collected-again again =
+        record {
+          long = so-far .long;
+          attained = λ m h g. keep m (getD w m 0) (so-far .attained m h g);
+          low =
+              λ c f i.
+              sequence-cases s k inside (stations c) i (so-far .low c f)
+              (λ z. so-far .low c f (subst (λ q. q ∈ take k (readable s)) (sym z) again));
+        }
+
     module _ (rev : List Transfer) (e : this ≡ readBack rev (b ∷ [])) (new : List ℕ) (l : Lowered n a u rev b w new)
       where
         -- within the array what is read past its end does not matter

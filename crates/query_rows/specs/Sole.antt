@@ -97,6 +97,18 @@ module _ (n : Net) (ok : Sound n) (s : List ℕ) (a u b : ℕ) where
               (λ z. absurd (other (ends-at n a u b c q y g (z ∙ e))));
         }
 
+    -- neither has one that was followed already
+    pub sole-again : this ∈ take k (readable s) → Sole (suc k) best who
+    sole-again again =
+        record {
+          inside = λ m j f. omega (arith, so-far .inside m j f);
+          ends = so-far .ends;
+          alone =
+              λ m j f c g i h.
+              sequence-cases s k inside (stations c) i (λ z. so-far .alone m j f c g z h)
+              (λ z. so-far .alone m j f c g (subst (λ q. q ∈ take k (readable s)) (sym z) again) h);
+        }
+
     -- arc k merged
     module _ (mine best′ who′ : List ℕ) (rev : List Transfer) (e : this ≡ readBack rev (b ∷ []))
         (ends-here : arcTarget s k ≡ b) (low : Collected n ok s a u b k best) (l : Lowered n a u rev b blank mine)

@@ -101,6 +101,25 @@ module _ (n : Net) (ok : Sound n) (s : List ℕ) (a u b : ℕ) (c : Cost) where
           first = λ e o. cases e o (w .first e) (λ z. absurd (empty e z));
         }
 
+    -- or those that do were found already
+    module _ (again : this ∈ take k (readable s)) where
+      back : (e : Connection) → Of (suc k) e → Of k e
+      back e o =
+          cases e o (λ z. z)
+          (λ z.
+          record {
+            feasible = z .feasible;
+            held = subst (λ q. q ∈ take k (readable s)) (sym (z .is)) again;
+            arrives = z .arrives;
+            pays = z .pays;
+          })
+
+      pub none-again : None k → None (suc k)
+      none-again gone e o = gone e (back e o)
+
+      pub won-again : (one : Connection) → Won k one → Won (suc k) one
+      won-again one w = record { of = earlier one (w .of); first = λ e o. w .first e (back e o) }
+
     -- the first that is found, one that goes before, and one that does not
     pub won-new : (one : Connection) → None k → Own this one → Won (suc k) one
     won-new one gone w =

@@ -251,7 +251,7 @@ pub fn note_arcs(
     while k < arcs {
         let arc = k;
         k += 1;
-        if query_store::arc_target(store, arc) != to {
+        if !query_store::counts(store, arc, to) {
             continue;
         }
         note_arc(
@@ -436,7 +436,7 @@ fn choose(
     while k < arcs {
         let arc = k;
         k += 1;
-        if query_store::arc_target(store, arc) != to {
+        if !query_store::counts(store, arc, to) {
             continue;
         }
         x = try_arc(

@@ -100,7 +100,7 @@ fn main() {
         let what = format!("12 diamonds behind two shuttles of {departures} departures");
         asking_once(&what, &diamonds_behind_shuttles(departures), Query { from: 1, to: 39, minute: 0 });
     }
-    for arcs in [1, 10, 100] {
+    for arcs in [1, 10, 16_322] {
         asking_useless(arcs);
     }
     growing();

@@ -2,8 +2,8 @@
 use mathlib.Core.Path.{_≡_}
 use Prim.Native.Nat.{_≤_, _-_}
 use lib.ListN.{length}
-use Rattle.query_rows.specs.Arcs.{store-words, store-present}
-use Rattle.query_rows.specs.Trying.{Sized, Tried, first-sized, tried-first, tried-skip, target-of}
+use Rattle.query_rows.specs.Arcs.{store-words, store-made}
+use Rattle.query_rows.specs.Trying.{Sized, Tried, first-sized, tried-first, tried-idle, counted-target}
 use Rattle.query_rows.specs.Leader.{tried-leader}
 use borrow.Author.Needs.{needs}
 use Rattle.query_rows.proofs.choose.Statement.{statement}
@@ -27,11 +27,11 @@ arc-count-requires c κs = search store-words
 loop-holds : tie.Need-loop-holds Inv-loop μ-loop
 loop-holds c = (search needs, search needs, search needs, search needs, search first-sized, search tried-first)
 
-arc-target-requires : tie.Need-arc-target-requires Inv-loop μ-loop
-arc-target-requires c κs = (search store-present, search needs)
+counts-requires : tie.Need-counts-requires Inv-loop μ-loop
+counts-requires c κs = (search store-made, search needs)
 
 loop-again : tie.Need-loop-again Inv-loop μ-loop
-loop-again c = (search needs, search needs, search needs, search needs, search needs, search tried-skip)
+loop-again c = (search needs, search needs, search needs, search needs, search needs, search tried-idle)
 
 try-arc-requires : tie.Need-try-arc-requires Inv-loop μ-loop
 try-arc-requires c κs = (
@@ -39,7 +39,7 @@ try-arc-requires c κs = (
   search needs,
   search needs,
   search needs,
-  search target-of,
+  search counted-target,
   search needs,
   search needs,
   search needs,
@@ -62,7 +62,7 @@ choose-spec =
     arc-count-requires
     loop-holds
     (λ c. search needs)
-    arc-target-requires
+    counts-requires
     (λ c. search needs)
     loop-again
     (λ c. search needs)
