@@ -84,7 +84,7 @@ extern "C" {
 #define DAIRYEPOCH_TIMES_BY_STOP_STACK 8192
 #define DAIRYEPOCH_DIRECT_STACK 20480
 #define DAIRYEPOCH_MAKE_STORE_STACK 141312
-#define DAIRYEPOCH_QUERY_STACK 69632
+#define DAIRYEPOCH_QUERY_STACK 81920
 #define DAIRYEPOCH_CANCEL_TRIP_STACK 32768
 #define DAIRYEPOCH_ADD_TRIP_STACK 65536
 
@@ -100,7 +100,8 @@ extern "C" {
  *   dairyepoch_direct              0.02 for one line, 0.04 for 256 and for an answer of 507 rows
  *   dairyepoch_make_store          2 on a rural timetable, 9 on random trips, 37 at worst; on a rural timetable with 64
  *                                  walks 3.5, with 256 walks 5.5 and 21 at worst
- *   dairyepoch_query               0.05 on a rural timetable; up to 90 for a hundred rows or more
+ *   dairyepoch_query               0.04 on a rural timetable; up to 20 for a hundred rows or more, 70 for a store of
+ *                                  thousands of sequences of equal cost, and more in cases that docs/SPEED.md names
  *   dairyepoch_cancel_trip         0.03 for one line, 0.04 on a rural timetable and for 256 lines
  *   dairyepoch_add_trip            likewise, and 0.05 for each thousand lines of its text
  */

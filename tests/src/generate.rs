@@ -95,8 +95,13 @@ pub const DIRECT_ROWS_MOST: u32 = 507;
 /// of different rows share no stop. One of penalty p needs a stop for each 100 points, and one more, so that 507 rows
 /// have 2,044 stops, and the 508th would bring them to 2,051.
 pub fn most_rows() -> Timetable {
+    with_rows(DIRECT_ROWS_MOST)
+}
+
+/// As `most_rows`, on a trip that is just long enough for so many rows.
+fn with_rows(rows: u32) -> Timetable {
     let mut way = Vec::new();
-    for penalty in (0..DIRECT_ROWS_MOST as u16).rev() {
+    for penalty in (0..rows as u16).rev() {
         let rides = penalty.div_ceil(RIDE_PENALTY_MOST).max(1);
         for ride in 0..rides {
             let station = if ride == 0 { 1 } else { 3 + usize::from(ride % 2) };
@@ -105,6 +110,15 @@ pub fn most_rows() -> Timetable {
         way.push((2, 0));
     }
     minute_by_minute(4, &way)
+}
+
+/// As `most_rows`, on a trip that is just long enough for so many rows, and nobody may board at stations 3 and 4: so no
+/// change saves points, and a query from a store has all of these rows too.
+pub fn rows_without_changes(rows: u32) -> Timetable {
+    let mut timetable = with_rows(rows);
+    let between = timetable.trips.values_mut().flatten().filter(|stop| stop.station > 2);
+    between.for_each(|stop| stop.mark = SETTING_DOWN_ONLY);
+    timetable
 }
 
 /// One trip of so many stops, each with this ride penalty, which can add up to 204,700. It meets stations 1, 2, .. once
@@ -286,6 +300,26 @@ impl Diamonds {
         let stations = vec![Station { change_minutes: 0, change_penalty: 1 }; usize::from(last + self.chain)];
         Timetable::new(stations, trips)
     }
+}
+
+/// Twelve diamonds behind two shuttles, one behind the other, that leave so many times: whoever sets out takes each of
+/// 4,096 patterns to the last junction, station 39, at each of these minutes. At most 400 times.
+pub fn diamonds_behind_shuttles(departures: u16) -> Timetable {
+    let Timetable { stations, trips, .. } = Diamonds { count: 12, ..Diamonds::default() }.timetable();
+    let shuttle = |from: usize| {
+        let way: Vec<(usize, u16)> = (0..2 * usize::from(departures)).map(|place| (from + place % 2, 0)).collect();
+        let rides: Vec<(u16, u16)> = (0..2 * departures - 1).map(|ride| (2 * ride, 2 * ride + 1)).collect();
+        trip_on(&way, &rides)
+    };
+    let later = |time: u16| time + 4 * departures;
+    let behind = |stop: &Stop| Stop {
+        station: stop.station + 2,
+        arrive: stop.arrive.map(later),
+        onward: stop.onward.map(|onward| Onward { depart: later(onward.depart), ..onward }),
+        mark: stop.mark,
+    };
+    let trips = trips.values().map(|trip| trip.iter().map(behind).collect());
+    Timetable::new([&stations[..2], &stations].concat(), trips.chain([shuttle(1), shuttle(2)]))
 }
 
 /// Every trip of so many stops over so many stations, with times from 0 to `last`, penalties 0 and 1, and mark 0.
@@ -632,8 +666,10 @@ mod tests {
     use std::collections::BTreeSet;
 
     use super::*;
+    use crate::direct::Query;
     use crate::lines::lines;
     use crate::reference::{led_to, read};
+    use crate::search::{whole, Network};
     use crate::timetable::trip_text;
 
     #[test]
@@ -752,6 +788,17 @@ mod tests {
         let timetable = most_rows();
         assert_eq!(timetable.trips[&1].len(), 2_044);
         assert_eq!(read(&timetable.to_text()), Ok(timetable));
+    }
+
+    #[test]
+    fn rows_without_changes_are_found_by_a_search() {
+        for (rows, stops) in [(1, 2), (64, 128), (119, 256), (203, 510), (325, 1_022), (DIRECT_ROWS_MOST, 2_044)] {
+            let timetable = rows_without_changes(rows);
+            assert_eq!(timetable.stops(), stops);
+            let found = whole(&Network::new(&timetable), Query { from: 1, to: 2, minute: 0 });
+            assert_eq!(found.len(), rows as usize);
+            assert_eq!(read(&timetable.to_text()), Ok(timetable));
+        }
     }
 
     #[test]

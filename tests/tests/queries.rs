@@ -854,15 +854,22 @@ fn patterns_above_64_rides_give_13() {
 
 #[test]
 fn long_patterns_are_followed() {
-    // 63 changes to and fro between 1 and 2, then to 3
-    let mut trips: Vec<_> = (0..63).map(|at| hop(1 + at % 2, 2 - at % 2, at, at + 1, 0)).collect();
-    trips.extend([hop(2, 3, 63, 64, 0), hop(1, 3, 63, 70, 0)]);
-    let to_and_fro = text_of_hops(&[(0, 1); 3], &trips);
-    let rides: Vec<[u32; 3]> = (1..=64).map(|trip| [trip, 1, 2]).collect();
-    assert_eq!(rows_from(&to_and_fro, &chain(63).to_words(), 1, 3, 0), Ok(vec![(64, 63, rides)]));
-    assert_eq!(rows_from(&to_and_fro, &chain(62).to_words(), 1, 3, 0).map(|rows| rows[0].2.len()), Ok(63));
-    assert_eq!(rows_from(&to_and_fro, &chain(63).to_words(), 1, 3, 1), Err(14));
-    assert_eq!(rows_from(&to_and_fro, &chain(61).to_words(), 1, 3, 3).map(|rows| rows[0].2.len()), Err(14));
+    // 63 changes to and fro between 1 and 2, then to 3: within an hour, and over both days, where working space has no
+    // room for what is left to pay after each of them
+    for pace in [1, 44] {
+        let ride = |at: u16, from: u16, to: u16| hop(from, to, pace * at, pace * at + 1, 0);
+        let mut trips: Vec<_> = (0..63).map(|at| ride(at, 1 + at % 2, 2 - at % 2)).collect();
+        trips.extend([ride(63, 2, 3), hop(1, 3, 63 * pace, 63 * pace + 7, 0)]);
+        // a later bus on each leg, which costs a point
+        trips.extend((0..63).map(|at| hop(1 + at % 2, 2 - at % 2, pace * at + pace / 2, pace * (at + 1), 1)));
+        let to_and_fro = text_of_hops(&[(0, 1); 3], &trips);
+        let rides: Vec<[u32; 3]> = (1..=64).map(|trip| [trip, 1, 2]).collect();
+        let answer = |nodes: u16, minute: u32| rows_from(&to_and_fro, &chain(nodes).to_words(), 1, 3, minute);
+        assert_eq!(answer(63, 0), Ok(vec![(63 * u32::from(pace) + 1, 63, rides)]));
+        assert_eq!(answer(62, 0).map(|rows| rows[0].2.len()), Ok(63));
+        assert_eq!(answer(63, u32::from(pace)), Err(14));
+        assert_eq!(answer(61, 3 * u32::from(pace)).map(|rows| rows[0].2.len()), Err(14));
+    }
 }
 
 #[test]

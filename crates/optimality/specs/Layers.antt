@@ -1,11 +1,12 @@
 -- What the query's code rests on: the least penalties along one stored sequence, change by change. From the values for
--- the changes so far one step gives those for one change more; the last step gives, for each minute, the least penalty
--- with which a connection of the sequence arrives then.
+-- the changes so far one step gives those for one change more; the last step gives penalties for minutes of arrival,
+-- for each connection of the sequence that of one that arrives no later and costs no more.
 use mathlib.Core.Path.{_≡_, ap}
 use mathlib.Core.List.{List, [], _∷_}
 use Prim.Native.Nat.{ℕ, _+_, _≤_, _<_}
 use native.Mathlib.Omega.{arith}
 use Rattle.lists.specs.Lists.{_∈_}
+use Rattle.results.specs.Best.{ByThen}
 use Rattle.connections.specs.Rides.{Ride}
 use Rattle.connections.specs.Connections.{Change, Transfer, transfer, Net, Changes, ready}
 use Rattle.optimality.specs.Along.{Along, Ends}
@@ -91,7 +92,7 @@ module _ (n : Net) (a t inf limit : ℕ) where
       -- from the values `old` of other sequences
       pub record Ending (b : ℕ) (old best : ℕ → ℕ) : Type 0 where
         pub over : (r : Ride) → r ∈ n .rides → r .to ≡ b → val (r .from) (r .depart) < inf
-            → best (r .arrive) ≤ val (r .from) (r .depart) + r .points
+            → ByThen best (r .arrive) (val (r .from) (r .depart) + r .points)
         pub attained : (v : ℕ) → best v < old v → LastTo b best v
 
       module _ (b : ℕ) (old best : ℕ → ℕ) (e : Ending b old best) where
@@ -109,9 +110,13 @@ module _ (n : Net) (a t inf limit : ℕ) where
               total = k .is;
             }
 
-        pub end-below : (v p : ℕ) → p < inf → Ends n a t rev b v p → best v ≤ p
+        pub end-below : (v p : ℕ) → p < inf → Ends n a t rev b v p → ByThen best v p
         end-below v p h g =
             let r = g .ride in
             let k = l .below (r .from) (r .depart) (g .paid) (leaves r (g .listed)) (g .below) in
             let o = e .over r (g .listed) (g .to) (omega (arith, g .total)) in
-            omega (arith, ap best (g .minute), g .total)
+            record {
+              minute = o .minute;
+              until = omega (arith, o .until, g .minute);
+              low = omega (arith, o .low, g .total);
+            }

@@ -77,9 +77,6 @@ module _
         enough m room =
             number-is m true true some (le-leb (length (rowWords (rows w s a b u))) m (omega arith))
 
-        pub rows-room : (m : ℕ) → long ≤ m → length (rowWords (rows w s a b u)) ≤ m
-        rows-room m room = omega arith
-
         pub done-reply : (m : ℕ) → long ≤ m → Done count ≡ shownReply w s a b u m
         unfolding shownReply
         done-reply m room =
@@ -94,3 +91,7 @@ module _
             e
             ∙ words-done (shownNumber w s a b u (length old)) (rowWords (rows w s a b u)) old
             (enough (length old) room)
+
+-- what was measured fits
+pub rows-room : (long rows room : ℕ) → long ≡ rows → long ≤ room → rows ≤ room
+rows-room long rows room is fits = omega (arith, is)

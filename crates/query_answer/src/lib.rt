@@ -9,6 +9,7 @@ ghost use Rattle.query_rows.specs.Leader.{AllNamed};
 ghost use Rattle.query_rows.specs.Granted.{Granted};
 ghost use Rattle.query_answer.specs.Answer.{shownReply, shownWords};
 use query_minutes::MINUTES;
+use query_minutes::NO_POINTS;
 use replies::Reply;
 
 // Writes the rows, of which there are some, if the answer has room for them: it is measured before a word is written.
@@ -23,6 +24,7 @@ fn show_rows(
     who: &mut [u16],
     count: usize,
     answer: &mut [u32],
+    work: &mut [u32],
 ) -> Reply
     requires { ⌜ Granted (now words) (now lines) (now store) from to minute
         × LeastKept minute (kept (now words) (now store) from to minute) (now best)
@@ -31,7 +33,8 @@ fn show_rows(
         × (length (now who) ≡ 2880)
         × (count ≡ length (leads noPoints 0 (now best)))
         × (1 ≤ count)
-        × (count ≤ 2880) ⌝ }
+        × (count ≤ 2880)
+        × (2880 ≤ length (now work)) ⌝ }
     ensures { λ r. ⌜ r
         ≡ shownReply
         (now (words .entry))
@@ -43,28 +46,39 @@ fn show_rows(
     ensures { λ _. ⌜ now (answer .exit)
         ≡ shownWords (now (words .entry)) (now (store .entry)) from to minute (now (answer .entry)) ⌝ }
 {
-    let long = query_rows::measure(words, lines, store, from, to, minute, best, who);
+    let long = query_rows::measure(words, lines, store, from, to, minute, best, who, work);
     if answer.len() < long {
         return Reply::Refused { number: 15 };
     }
-    query_rows::write_rows(words, lines, store, from, to, minute, best, who, answer);
+    query_rows::write_rows(
+        words,
+        lines,
+        store,
+        from,
+        to,
+        minute,
+        best,
+        who,
+        answer,
+        work,
+    );
     Reply::Done {
         count: count as u32,
     }
 }
 
-// Answers a query from a store that is well made.
+// Answers a query from a store that is well made. Working space may hold any words afterwards.
 pub fn show(
     words: &[u16],
     lines: &[u16],
     store: &[u16],
-    best: &mut [u32],
+    work: &mut [u32],
     from: usize,
     to: usize,
     minute: usize,
     answer: &mut [u32],
 ) -> Reply
-    requires { ⌜ Granted (now words) (now lines) (now store) from to minute × (length (now best) ≡ 2880) ⌝ }
+    requires { ⌜ Granted (now words) (now lines) (now store) from to minute × (2880 ≤ length (now work)) ⌝ }
     ensures { λ r. ⌜ r
         ≡ shownReply
         (now (words .entry))
@@ -76,9 +90,10 @@ pub fn show(
     ensures { λ _. ⌜ now (answer .exit)
         ≡ shownWords (now (words .entry)) (now (store .entry)) from to minute (now (answer .entry)) ⌝ }
 {
+    let mut best = [NO_POINTS; MINUTES];
     let mut who = [0u16; MINUTES];
-    query_rows::note_arcs(words, lines, store, from, to, minute, best, &mut who);
-    let count = query_minutes::count_rows(best);
+    query_rows::note_arcs(words, lines, store, from, to, minute, &mut best, &mut who);
+    let count = query_minutes::count_rows(&best);
     if count < 1 {
         return Reply::Refused { number: 14 };
     }
@@ -89,9 +104,10 @@ pub fn show(
         from,
         to,
         minute,
-        best,
+        &best,
         &mut who,
         count,
         answer,
+        work,
     )
 }

@@ -3,8 +3,7 @@ use mathlib.Core.Path.{_≡_}
 use mathlib.Core.List.{List}
 use Prim.Native.Nat.{ℕ, _≤_}
 use native.Mathlib.Omega.{arith}
-use lib.ListN.{length, take}
-use lib.Seq.{length-take-le}
+use lib.ListN.{length}
 use Rattle.lines_check.specs.Asked.{queryNumber}
 use Rattle.lines_check.specs.Yes.{yes-all}
 
@@ -17,6 +16,3 @@ module _ (w v work : List ℕ) (a b u : ℕ) (all : queryNumber w v (length work
 
   pub minutes-room : (after : List ℕ) → length after ≡ length work → 2880 ≤ length after
   minutes-room after e = omega (arith, work-room)
-
-  pub minutes-part : (after : List ℕ) → length after ≡ length work → length (take 2880 after) ≡ 2880
-  minutes-part after e = length-take-le 2880 after (minutes-room after e)

@@ -7,7 +7,6 @@ ghost use Rattle.stores.specs.Words.{wellMade};
 ghost use Rattle.lines_check.specs.Asked.{queryNumber};
 ghost use Rattle.replies.specs.Replies.{valuesOf};
 ghost use Rattle.promises.specs.Query.{askReply, askValues, askWords};
-use query_minutes::MINUTES;
 use replies::Reply;
 
 // Whether the store is well made for the stations of the timetable.
@@ -55,12 +54,11 @@ fn query_stored(
     if !is_made(words, store, work) {
         return Reply::Refused { number: 13 };
     }
-    let best = &mut work[0..MINUTES];
     query_answer::show(
         words,
         lines,
         store,
-        best,
+        work,
         from as usize,
         to as usize,
         minute as usize,

@@ -8,7 +8,7 @@ use lib.ListN.{length, getD}
 use Rattle.timetable.specs.Words.{timetableOf, isTimetable}
 use Rattle.connections.specs.Connections.{Net, net}
 use Rattle.lines_check.specs.Question10.{areTables}
-use Rattle.query_places.specs.Candidates.{allRead}
+use Rattle.query_places.specs.Candidates.{nearRead}
 use Rattle.query_costs.specs.Lowered.{Lowered}
 use Rattle.query_costs.specs.Layering.{takenAll, startOf, firstValue}
 use Rattle.query_costs.specs.Readies.{Ready, start-ready}
@@ -56,12 +56,12 @@ module _ (w : List ℕ) (accepted : isTimetable w ≡ true) where
     where
       -- the last ride
       pub ended : j + 1 ≡ r → (old best after : List ℕ) → length old ≡ 2880 → best ≡ old
-          → after ≡ takenAll k 0 0 best (allRead v x e y)
+          → after ≡ takenAll k 0 0 best (nearRead v x e y)
           → Lowered n a t (changesTo path (r - 1)) (getD path (2 * r - 2) 0) old after
       ended at old best after size same h =
           let last : j ≡ r - 1 = omega (arith, at) in
           let end : 2 * j ≡ 2 * r - 2 = omega (arith, at) in
-          let all = h ∙ ap (λ b. takenAll k 0 0 b (allRead v x e y)) same in
+          let all = h ∙ ap (λ b. takenAll k 0 0 b (nearRead v x e y)) same in
           let lowered = end-on w accepted v own x i a t (changesTo path j) e k is y old size in
           subst
           (λ m. Lowered n a t (changesTo path m) (getD path (2 * r - 2) 0) old after)
@@ -76,7 +76,7 @@ module _ (w : List ℕ) (accepted : isTimetable w ≡ true) where
         named : record { alighted = y; boarded = z } ∷ changesTo path j ≡ changesTo path (j + 1)
         named = (λ i. record { alighted = here i; boarded = there i } ∷ changesTo path j) ∙ sym (changes-more path j)
 
-        pub ready-next : (after : List ℕ) → after ≡ changeWords w k y z (allRead v x e y)
+        pub ready-next : (after : List ℕ) → after ≡ changeWords w k y z (nearRead v x e y)
             → (first : ℕ) → first ≡ firstValue after → Ready n a t (changesTo path (j + 1)) z first after
         ready-next after h first f =
             subst
@@ -92,7 +92,7 @@ module _ (w : List ℕ) (accepted : isTimetable w ≡ true) where
             (alighted-here w path r j y stations more here) z)))
 
         -- no one is ready any more
-        pub stopped : ¬ (j + 1 ≡ r) → (after : List ℕ) → after ≡ changeWords w k y z (allRead v x e y)
+        pub stopped : ¬ (j + 1 ≡ r) → (after : List ℕ) → after ≡ changeWords w k y z (nearRead v x e y)
             → (first : ℕ) → first ≡ firstValue after → first ≤ 2880 → 2880 ≤ first
             → (old best : List ℕ) → best ≡ old
             → Lowered n a t (changesTo path (r - 1)) (getD path (2 * r - 2) 0) old best

@@ -7,11 +7,11 @@ use native.Mathlib.Omega.{arith}
 use lib.ListN.{length, getD}
 use Rattle.lists.specs.Lists.{_∈_}
 use Rattle.connections.specs.Rides.{Ride}
-use Rattle.query_places.specs.Candidates.{allRead}
+use Rattle.query_places.specs.Candidates.{nearRead}
 use Rattle.query_minutes.specs.Minutes.{noteAll, lowered}
 use Rattle.query_rides.specs.declared.Ride.{Ride as RideStruct}
 use Rattle.query_rides.specs.declared.Cursor.{Cursor}
-use Rattle.query_rides.specs.Riding.{Good, Tells, left, rideOf, left-none}
+use Rattle.query_rides.specs.Riding.{Good, Tells, nearLeft, rideOf, near-none}
 use Rattle.query_rides.specs.Ridden.{ride-left}
 use Rattle.query_costs.specs.declared.Span.{Span}
 use Rattle.query_costs.specs.Spans.{Within, widened, widened-low, within-none, within-more}
@@ -50,11 +50,11 @@ ride-widened s wider a b ready is e = e ∙ ap (widened s) is
 
 module _ (v : List ℕ) (a b u : ℕ) (p : List ℕ) (c : Cursor) where
   -- the rides left fit
-  pub fitting-first : Fitting p (allRead v a u b) → left v u c ≡ allRead v a u b → Fitting p (left v u c)
+  pub fitting-first : Fitting p (nearRead v a u b) → nearLeft v u c ≡ nearRead v a u b → Fitting p (nearLeft v u c)
   fitting-first f e = subst (Fitting p) (sym e) f
 
-  module _ (fit : Fitting p (left v u c)) where
-    pub fitting-next : (d : Cursor) → left v u c ≡ rideOf v c ∷ left v u d → Fitting p (left v u d)
+  module _ (fit : Fitting p (nearLeft v u c)) where
+    pub fitting-next : (d : Cursor) → nearLeft v u c ≡ rideOf v c ∷ nearLeft v u d → Fitting p (nearLeft v u d)
     fitting-next d e =
         record {
           depart = λ r m. fit .depart r (subst (λ l. r ∈ l) (sym e) (there m));
@@ -72,21 +72,21 @@ module _ (v : List ℕ) (a b u : ℕ) (p : List ℕ) (c : Cursor) where
           few = omega (arith, t .points, fit .few (rideOf v c) m);
         }
 
-  pub noting-first : (minutes points : ℕ) (best : List ℕ) → left v u c ≡ allRead v a u b
-      → takenAll p minutes points best (allRead v a u b) ≡ takenAll p minutes points best (left v u c)
+  pub noting-first : (minutes points : ℕ) (best : List ℕ) → nearLeft v u c ≡ nearRead v a u b
+      → takenAll p minutes points best (nearRead v a u b) ≡ takenAll p minutes points best (nearLeft v u c)
   noting-first minutes points best e = ap (takenAll p minutes points best) (sym e)
 
   module _ (minutes points : ℕ) (whole best : List ℕ) where
-    pub noting-more : whole ≡ takenAll p minutes points best (left v u c)
+    pub noting-more : whole ≡ takenAll p minutes points best (nearLeft v u c)
         → (s : RideStruct) → Tells s (rideOf v c)
-        → (d : Cursor) → left v u c ≡ rideOf v c ∷ left v u d
+        → (d : Cursor) → nearLeft v u c ≡ rideOf v c ∷ nearLeft v u d
         → (after : List ℕ) → after ≡ lowered best (s .arrive + minutes) (getD p (s .depart) 0 + s .points .0 + points)
-        → whole ≡ takenAll p minutes points after (left v u d)
+        → whole ≡ takenAll p minutes points after (nearLeft v u d)
     noting-more h s t d e after is =
         h
         ∙ ap (takenAll p minutes points best) e
-        ∙ taken-more p minutes points best (rideOf v c) (left v u d)
-        ∙ sym (ap (λ l. takenAll p minutes points l (left v u d)) (is ∙ same))
+        ∙ taken-more p minutes points best (rideOf v c) (nearLeft v u d)
+        ∙ sym (ap (λ l. takenAll p minutes points l (nearLeft v u d)) (is ∙ same))
       where
         same : lowered best (s .arrive + minutes) (getD p (s .depart) 0 + s .points .0 + points)
             ≡ lowered best (rideOf v c .arrive + minutes)
@@ -94,11 +94,11 @@ module _ (v : List ℕ) (a b u : ℕ) (p : List ℕ) (c : Cursor) where
         same =
             (λ i. lowered best (t .arrive i + minutes) (getD p (t .depart i) 0 + t .points i + points))
 
-    pub noting-done : whole ≡ takenAll p minutes points best (left v u c) → c .more ≡ false → best ≡ whole
+    pub noting-done : whole ≡ takenAll p minutes points best (nearLeft v u c) → c .more ≡ false → best ≡ whole
     noting-done h e =
         sym
         (h
-        ∙ ap (takenAll p minutes points best) (left-none v u c e)
+        ∙ ap (takenAll p minutes points best) (near-none v u c e)
         ∙ taken-none p minutes points best)
 
 -- ---- the span of the minutes noted

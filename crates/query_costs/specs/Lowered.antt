@@ -1,10 +1,11 @@
 -- What the code of a query promises for one stored pattern: it lowers the least penalties of the arrival minutes to
--- those of the pattern's connections.
+-- those of connections of the pattern, so that for each of them one is kept that arrives no later and costs no more.
 use mathlib.Core.Path.{_≡_}
 use mathlib.Core.Logic.{_⊎_}
 use mathlib.Core.List.{List}
 use Prim.Native.Nat.{ℕ, _≤_}
 use lib.ListN.{length, getD}
+use Rattle.results.specs.Best.{ByThen}
 use Rattle.connections.specs.Connections.{Transfer, Net}
 use Rattle.optimality.specs.Along.{Ends}
 use Rattle.query_minutes.specs.Minutes.{noPoints}
@@ -18,4 +19,4 @@ pub record Lowered (n : Net) (a t : ℕ) (rev : List Transfer) (b : ℕ) (old ne
   pub long : length new ≡ length old
   pub lower : (m : ℕ) → kept new m ≤ kept old m
   pub stems : (m : ℕ) → (kept new m ≡ kept old m) ⊎ Ends n a t rev b m (kept new m)
-  pub below : (m p : ℕ) → Ends n a t rev b m p → kept new m ≤ p
+  pub below : (m p : ℕ) → Ends n a t rev b m p → ByThen (kept new) m p

@@ -2,7 +2,6 @@
 -- ready again, or lowers the penalties as is promised.
 use mathlib.Core.Path.{_≡_, refl, sym, subst}
 use mathlib.Core.Bool.{Bool, true, false, cond}
-use mathlib.Core.Logic.{_↔_}
 use mathlib.Core.List.{List, _∷_}
 use Prim.Native.Nat.{ℕ, _-_, _≤_, _<_}
 use native.Mathlib.Omega.{arith}
@@ -20,10 +19,10 @@ use Rattle.connections.specs.Rides.{Ride}
 use Rattle.connections.specs.Connections.{net, Boards, Transfer, noStation}
 use Rattle.connections.specs.Sound.{sound, ride-cheap, station-priced}
 use Rattle.lines_check.specs.Question10.{areTables}
-use Rattle.query_places.specs.Candidates.{allRead}
+use Rattle.query_places.specs.Candidates.{nearRead}
 use Rattle.query_minutes.specs.Minutes.{noPoints}
 use Rattle.query_minutes.specs.Noted.{getD-any}
-use Rattle.query_rides.specs.Ridden.{read-rides}
+use Rattle.query_rides.specs.Ridden.{near-rides, rides-near}
 use Rattle.query_rides.specs.declared.Way.{Way}
 use Rattle.query_rides.specs.Ways.{onWalk, atStation, wayBetween, Open, open-way}
 use Rattle.query_costs.specs.Layering.{stepOf, takenAll, firstValue}
@@ -85,22 +84,25 @@ module _ (w : List ℕ) (accepted : isTimetable w ≡ true) where
     inside : x ≤ length (t .stations)
     inside = omega (arith, i .inside, length-stations w)
 
-    between : (y e : ℕ) → Between (net t) x y e (allRead v x e y)
+    between : (y e : ℕ) → Between (net t) x y e (nearRead v x e y)
     between y e =
         record {
-          listed = λ r m. read r .0 m .0 .listed;
-          from = λ r m. read r .0 m .0 .here;
-          to = λ r m. read r .0 m .1;
-          timely = λ r m. read r .0 m .0 .timely;
-          all = λ r m from to timely. read r .1 (record { listed = m; here = from; timely = timely }, to);
+          listed = λ r m. read r m .0 .listed;
+          from = λ r m. read r m .0 .here;
+          to = λ r m. read r m .1;
+          timely = λ r m. read r m .0 .timely;
+          all =
+              λ r m from to timely.
+              rides-near w v x y e accepted own (i .some) inside r
+              (record { listed = m; here = from; timely = timely }, to);
         }
       where
-        read : (r : Ride) → r ∈ allRead v x e y ↔ (Boards (net t) x e r × (r .to ≡ y))
-        read = read-rides w v x y e accepted own (i .some) inside
+        read : (r : Ride) → r ∈ nearRead v x e y → Boards (net t) x e r × (r .to ≡ y)
+        read = near-rides w v x y e accepted own (i .some) inside
 
     module _ (a u : ℕ) (rev : List Transfer) (e : ℕ) (p : List ℕ) (is : Ready (net t) a u rev x e p) (y : ℕ) where
       abbrev l : List Ride
-      l = allRead v x e y
+      l = nearRead v x e y
 
       pub fitting : Fitting p l
       fitting = record { depart = depart; low = low; few = few }

@@ -13,6 +13,7 @@ use lib.ListN.{length, getD, set, length-set, length-replicate, List·getD-eq-de
 use lib.Seq.{getD-set-same, getD-set-other}
 use Rattle.timetable.specs.Timetable.{Timetable, valid}
 use Rattle.lists.specs.Lists.{_∈_}
+use Rattle.results.specs.Best.{ByThen}
 use Rattle.connections.specs.Rides.{Ride}
 use Rattle.connections.specs.Connections.{Net, net, Change, Transfer, transfer, Changes, ready}
 use Rattle.connections.specs.Sound.{sound, ride-cheap}
@@ -23,6 +24,7 @@ use Rattle.optimality.specs.Bounds.{penaltyMost, reach-most}
 use Rattle.query_minutes.specs.Minutes.{noPoints, blank}
 use Rattle.query_minutes.specs.Noted.{getD-any, getD-blank}
 use Rattle.lists.specs.First.{Foremost, foremost}
+use Rattle.query_nearest.specs.Nearest.{Nearer, nearer-sooner}
 use Rattle.query_rides.specs.declared.Way.{Way}
 use Rattle.query_rides.specs.Ways.{costIn, Open}
 use Rattle.query_costs.specs.Lowest.{length-lowest, lowest-below, lowest-stems}
@@ -58,13 +60,15 @@ kept-inside p m e h =
       | no g ↦ absurd (omega (arith, List·getD-eq-default p noPoints {n = m} (omega (arith, e))))
     ]
 
--- the rides of a list are those of the net from station x to station y that leave at minute e or later
+-- The rides of a list are some of the net from station x to station y that leave at minute e or later. For each of
+-- them there is one in the list that leaves with it, arrives no later and costs no more.
 pub record Between (n : Net) (x y e : ℕ) (l : List Ride) : Type 0 where
   pub listed : (r : Ride) → r ∈ l → r ∈ n .rides
   pub from : (r : Ride) → r ∈ l → r .from ≡ x
   pub to : (r : Ride) → r ∈ l → r .to ≡ y
   pub timely : (r : Ride) → r ∈ l → e ≤ r .depart
-  pub all : (r : Ride) → r ∈ n .rides → r .from ≡ x → r .to ≡ y → e ≤ r .depart → r ∈ l
+  pub all : (r : Ride) → r ∈ n .rides → r .from ≡ x → r .to ≡ y → e ≤ r .depart
+      → (k : Ride) × (k ∈ l) × Nearer k r
 
 -- Along rev, from station a at minute t on, one is ready to board at station x by minute u for word u of p at the
 -- least, from minute e on; before it not at all.
@@ -177,9 +181,25 @@ module _ (tt : Timetable) (ok : T (valid tt)) (a t : ℕ) where
           getD-any p (r .depart) 0 noPoints (omega (arith, leaves r m, is .long))
           ∙ sym (value-here x p (r .from) (r .depart) h)
 
-      -- who has paid something reads the ride from the list
-      in-list : (r : Ride) → r ∈ n .rides → r .to ≡ y → valueAt x p (r .from) (r .depart) < noPoints → r ∈ l
-      in-list r m h g = b .all r m from h timely
+      -- a ride of the list, for one who takes r
+      record Instead (r : Ride) : Type 0 where
+        ride : Ride
+        listed : ride ∈ l
+        sooner : ride .arrive ≤ r .arrive
+        paid : getD p (ride .depart) 0 ≡ valueAt x p (r .from) (r .depart)
+        cheap : ride .points ≤ r .points
+
+      -- who can take a ride takes one of the list instead
+      instead : (r : Ride) → r ∈ n .rides → r .to ≡ y → valueAt x p (r .from) (r .depart) < noPoints → Instead r
+      instead r m h g =
+          let k = b .all r m from h timely in
+          record {
+            ride = k .0;
+            listed = k .1;
+            sooner = nearer-sooner (k .0) r (k .2);
+            paid = ap (λ d. getD p d 0) (k .2 .depart) ∙ before r m from;
+            cheap = k .2 .points;
+          }
         where
           from : r .from ≡ x
           from = value-some x p (r .from) (r .depart) g
@@ -228,10 +248,11 @@ module _ (tt : Timetable) (ok : T (valid tt)) (a t : ℕ) where
                 reached some =
                     let way = known .all c (h .listed) from to in
                     let there : r .to ≡ y = sym (h .here) ∙ from in
-                    let paid = before r m (value-some x p (r .from) (r .depart) some) in
-                    let soon : r .arrive + costIn g .minutes .0 ≤ u = omega (arith, way .1 .minutes) in
-                    let done = s .over (way .0) r (in-list r m there some) u soon i in
-                    omega (arith, here, paid, done, way .1 .points)
+                    let j = instead r m there some in
+                    let soon : j .ride .arrive + costIn g .minutes .0 ≤ u =
+                    omega (arith, way .1 .minutes, j .sooner) in
+                    let done = s .over (way .0) (j .ride) (j .listed) u soon i in
+                    omega (arith, here, j .paid, j .cheap, done, way .1 .points)
 
             attained : (o u : ℕ) → valueAt z q o u < noPoints
                 → Last n a t noPoints 2880 change (valueAt x p) (valueAt z q) o u
@@ -300,16 +321,16 @@ module _ (tt : Timetable) (ok : T (valid tt)) (a t : ℕ) where
         ending = record { over = over; attained = attained }
           where
             over : (r : Ride) → r ∈ n .rides → r .to ≡ y → valueAt x p (r .from) (r .depart) < noPoints
-                → kept new (r .arrive) ≤ valueAt x p (r .from) (r .depart) + r .points
+                → ByThen (kept new) (r .arrive) (valueAt x p (r .from) (r .depart) + r .points)
             over r m h z =
-                let none-added : r .arrive + 0 ≡ r .arrive = omega arith in
-                let low = noted .low r (in-list r m h z) (omega (arith, sound tt ok .bounded r m)) in
-                omega (
-                  arith,
-                  low,
-                  ap (kept new) none-added,
-                  before r m (value-some x p (r .from) (r .depart) z),
-                )
+                let j = instead r m h z in
+                let at = j .ride .arrive + 0 in
+                let soon : at < 2880 = omega (arith, sound tt ok .bounded r m, j .sooner) in
+                record {
+                  minute = at;
+                  until = omega (arith, j .sooner);
+                  low = omega (arith, noted .low (j .ride) (j .listed) soon, j .paid, j .cheap);
+                }
 
             attained : (m : ℕ) → kept new m < kept old m
                 → LastTo n a t noPoints 2880 rev (valueAt x p) (is .least) leaves y (kept new) m
@@ -348,7 +369,7 @@ module _ (tt : Timetable) (ok : T (valid tt)) (a t : ℕ) where
                   | no h ↦ inl (omega (arith, noted .kept m))
                 ]
 
-            below : (m c : ℕ) → Ends n a t rev y m c → kept new m ≤ c
+            below : (m c : ℕ) → Ends n a t rev y m c → ByThen (kept new) m c
             below m c g =
                 end-below
                 n a t noPoints 2880 rev (valueAt x p) (is .least) leaves y (kept old) (kept new) ending m c

@@ -7,7 +7,7 @@ ghost use lib.ListN.{length, getD};
 ghost use Rattle.timetable.specs.Words.{timetableOf, isTimetable};
 ghost use Rattle.connections.specs.Connections.{net};
 ghost use Rattle.lines_check.specs.Question10.{areTables};
-ghost use Rattle.query_places.specs.Candidates.{allRead};
+ghost use Rattle.query_places.specs.Candidates.{nearRead};
 ghost use Rattle.query_minutes.specs.Minutes.{noPoints, blank, lowered};
 ghost use Rattle.query_costs.specs.Lowest.{lowest};
 ghost use Rattle.query_costs.specs.Spans.{Within, widened};
@@ -158,7 +158,8 @@ fn note_ride(p: &[u32], ride: Ride, change: Cost, best: &mut [u32], noted: Span)
     widen(noted, ready)
 }
 
-// Notes all rides from one station to another that leave at a minute or later. Returns the span of the minutes noted.
+// Notes the rides from one station to another that leave at a minute or later, each to the nearest place of the other:
+// who rides on arrives later and pays no less. Returns the span of the minutes noted.
 fn note_rides(
     lines: &[u16],
     from: usize,
@@ -170,7 +171,7 @@ fn note_rides(
 ) -> Span
     requires { ⌜ (length (now p) ≡ 2880)
         × (length (now best) ≡ 2880)
-        × Fitting (now p) (allRead (now lines) from earliest to)
+        × Fitting (now p) (nearRead (now lines) from earliest to)
         × (change .minutes .0 ≤ 240)
         × (change .points .0 ≤ 1000) ⌝ }
     ensures { λ _. ⌜ now (best .exit)
@@ -179,7 +180,7 @@ fn note_rides(
         (change .minutes .0)
         (change .points .0)
         (now (best .entry))
-        (allRead (now (lines .entry)) from earliest to) ⌝ }
+        (nearRead (now (lines .entry)) from earliest to) ⌝ }
     ensures { λ _. ⌜ length (now (best .exit)) ≡ length (now (best .entry)) ⌝ }
     ensures { λ r. ⌜ Within r (now (best .entry)) (now (best .exit)) × (r .from ≤ 2880) ⌝ }
 {
@@ -187,7 +188,7 @@ fn note_rides(
     let mut c = query_rides::begin(lines, from, to, earliest);
     while c.more {
         noted = note_ride(p, query_rides::tell(lines, c), change, best, noted);
-        c = query_rides::next(lines, earliest, c);
+        c = query_rides::next_nearest(lines, earliest, c);
     }
     noted
 }
@@ -204,14 +205,14 @@ fn note_way(
 ) -> Span
     requires { ⌜ (length (now p) ≡ 2880)
         × (length (now best) ≡ 2880)
-        × Fitting (now p) (allRead (now lines) from earliest to)
+        × Fitting (now p) (nearRead (now lines) from earliest to)
         × Priced way ⌝ }
     ensures { λ _. ⌜ now (best .exit)
         ≡ takenWay
         (now (p .entry))
         way
         (now (best .entry))
-        (allRead (now (lines .entry)) from earliest to) ⌝ }
+        (nearRead (now (lines .entry)) from earliest to) ⌝ }
     ensures { λ _. ⌜ length (now (best .exit)) ≡ length (now (best .entry)) ⌝ }
     ensures { λ r. ⌜ Within r (now (best .entry)) (now (best .exit)) × (r .from ≤ 2880) ⌝ }
 {
@@ -239,14 +240,14 @@ fn step(
     requires { ⌜ (16384 ≤ length (now words)) × (isTimetable (now words) ≡ true) × Listed (now words) alighted ⌝ }
     requires { ⌜ (length (now p) ≡ 2880)
         × (length (now q) ≡ 2880)
-        × Fitting (now p) (allRead (now lines) from earliest alighted) ⌝ }
+        × Fitting (now p) (nearRead (now lines) from earliest alighted) ⌝ }
     ensures { λ _. ⌜ now (q .exit)
         ≡ changeWords
         (now (words .entry))
         (now (p .entry))
         alighted
         boarded
-        (allRead (now (lines .entry)) from earliest alighted) ⌝ }
+        (nearRead (now (lines .entry)) from earliest alighted) ⌝ }
     ensures { λ _. ⌜ length (now (q .exit)) ≡ length (now (q .entry)) ⌝ }
     ensures { λ r. ⌜ (r ≡ firstValue (now (q .exit))) × (r ≤ 2880) ⌝ }
 {
@@ -257,7 +258,7 @@ fn step(
     first_value(q, noted.from)
 }
 
-// The last ride: notes for each minute of arrival the least penalty. Returns the span of the minutes noted.
+// The last ride: lowers the penalties of the minutes of arrival. Returns the span of the minutes noted.
 fn finish(
     lines: &[u16],
     from: usize,
@@ -268,9 +269,9 @@ fn finish(
 ) -> Span
     requires { ⌜ (length (now p) ≡ 2880)
         × (length (now best) ≡ 2880)
-        × Fitting (now p) (allRead (now lines) from earliest to) ⌝ }
+        × Fitting (now p) (nearRead (now lines) from earliest to) ⌝ }
     ensures { λ _. ⌜ now (best .exit)
-        ≡ takenAll (now (p .entry)) 0 0 (now (best .entry)) (allRead (now (lines .entry)) from earliest to) ⌝ }
+        ≡ takenAll (now (p .entry)) 0 0 (now (best .entry)) (nearRead (now (lines .entry)) from earliest to) ⌝ }
     ensures { λ _. ⌜ length (now (best .exit)) ≡ length (now (best .entry)) ⌝ }
     ensures { λ r. ⌜ Within r (now (best .entry)) (now (best .exit)) ⌝ }
 {
@@ -296,14 +297,14 @@ fn step_turned(
     requires { ⌜ (16384 ≤ length (now words)) × (isTimetable (now words) ≡ true) × Listed (now words) alighted ⌝ }
     requires { ⌜ (length (now p) ≡ 2880)
         × (length (now q) ≡ 2880)
-        × Fitting (held turned (now p) (now q)) (allRead (now lines) from earliest alighted) ⌝ }
+        × Fitting (held turned (now p) (now q)) (nearRead (now lines) from earliest alighted) ⌝ }
     ensures { λ _. ⌜ held (not turned) (now (p .exit)) (now (q .exit))
         ≡ changeWords
         (now (words .entry))
         (held turned (now (p .entry)) (now (q .entry)))
         alighted
         boarded
-        (allRead (now (lines .entry)) from earliest alighted) ⌝ }
+        (nearRead (now (lines .entry)) from earliest alighted) ⌝ }
     ensures { λ _. ⌜ (length (now (p .exit)) ≡ 2880) × (length (now (q .exit)) ≡ 2880) ⌝ }
     ensures { λ r. ⌜ (r ≡ firstValue (held (not turned) (now (p .exit)) (now (q .exit)))) × (r ≤ 2880) ⌝ }
 {
@@ -327,14 +328,14 @@ fn finish_turned(
     requires { ⌜ (length (now p) ≡ 2880)
         × (length (now q) ≡ 2880)
         × (length (now best) ≡ 2880)
-        × Fitting (held turned (now p) (now q)) (allRead (now lines) from earliest to) ⌝ }
+        × Fitting (held turned (now p) (now q)) (nearRead (now lines) from earliest to) ⌝ }
     ensures { λ _. ⌜ now (best .exit)
         ≡ takenAll
         (held turned (now (p .entry)) (now (q .entry)))
         0
         0
         (now (best .entry))
-        (allRead (now (lines .entry)) from earliest to) ⌝ }
+        (nearRead (now (lines .entry)) from earliest to) ⌝ }
     ensures { λ _. ⌜ length (now (best .exit)) ≡ length (now (best .entry)) ⌝ }
     ensures { λ r. ⌜ Within r (now (best .entry)) (now (best .exit)) ⌝ }
 {
@@ -346,7 +347,8 @@ fn finish_turned(
 
 // Lowers the penalties of the arrival minutes to those of the connections of one pattern of r rides: from the source at
 // the minute or later, with the r - 1 changes that the path names first, each by the stations alighted and boarded at,
-// to the station after them. Returns the span of the minutes noted: outside it no penalty changes.
+// to the station after them. One that arrives later than another of them and costs no less may be left out. Returns the
+// span of the minutes noted: outside it no penalty changes.
 pub fn note_pattern(
     words: &[u16],
     lines: &[u16],

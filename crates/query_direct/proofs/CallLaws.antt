@@ -18,7 +18,7 @@ use Rattle.query_places.specs.Candidates.{reachBy, nearest, legs, rideOn, first
 use Rattle.query_minutes.specs.Minutes.{noteAll, lowered}
 use Rattle.query_places.specs.Turns.{firstCalls, from, legs-none, legs-more}
 use Rattle.query_minutes.proofs.NoteLaws.{noteAll-append}
-use Rattle.query_places.specs.Places.{rest, restAt, nearest-none, nearest-found}
+use Rattle.query_places.specs.Places.{foundAt, nearest-none, nearest-found}
 use Rattle.query_places.specs.declared.Place.{Place}
 
 -- ---- the first trip: none before place j leaves in time
@@ -90,7 +90,7 @@ module _ (v : List ℕ) (a u b : ℕ) (old : List ℕ) where
 
 -- ---- the ride to the nearest place
 module _ (v : List ℕ) (g : Boarding) (j : ℕ) (best : List ℕ) (s : Place)
-    (is : rest v g (g .rest .from) ≡ restAt v g s) where
+    (is : nearest (reachBy v g) ≡ foundAt s) where
   pub noted-none : not (s .found) ≡ true
       → best ≡ noteAll best (map (rideOn v (g .line) (g .call .place) j) (nearest (reachBy v g)))
   unfolding noteAll

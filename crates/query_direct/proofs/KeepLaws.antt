@@ -17,7 +17,7 @@ use Rattle.lines_lookup.specs.Lookup.{Line, numberAt, arriveAt, departAt}
 use Rattle.lines_lookup.specs.Calls.{Piece, Boarding, callsOf, callsIn, BoardsAt}
 use Rattle.lines_lookup.specs.First.{firstTrip}
 use Rattle.query_places.specs.Candidates.{Reach, reachBy, nearest, legs, rideOn, nearLeg, nearRead}
-use Rattle.query_places.specs.Places.{rest, restAt, nearest-none, nearest-found}
+use Rattle.query_places.specs.Places.{foundAt, nearest-none, nearest-found}
 use Rattle.query_places.specs.declared.Place.{Place}
 use Rattle.query_direct.specs.Choosing.{Found, noFound, goesBefore}
 use Rattle.query_direct.specs.Keeping.{keptAt, rideWords, keptWith, keptOn, keepAll, Unkept, put-here}
@@ -131,7 +131,7 @@ module _ (v : List ℕ) (l : Line) (x p j points : ℕ) (best kept old : List �
 
 -- ---- to the nearest place
 module _ (v : List ℕ) (g : Boarding) (first : ℕ) (best kept : List ℕ) (s : Place)
-    (is : rest v g (g .rest .from) ≡ restAt v g s) where
+    (is : nearest (reachBy v g) ≡ foundAt s) where
   pub kept-none : not (s .found) ≡ true
       → kept
       ≡ keepAll best kept

@@ -9,7 +9,7 @@ use lib.Dec.{T}
 use lib.ListN.{length, getD, length-map, List·getD-eq-default}
 use Rattle.lists.specs.Lists.{_∈_, before, concatMap, tail}
 use Rattle.results.specs.Results.{Cost, Measure, pair, row, costs, Undominated, Picked, Climbs}
-use Rattle.results.specs.Best.{Has, LeastPoints, Leads, leads-exactly}
+use Rattle.results.specs.Best.{ByThen, Has, LeastPoints, Leads, leads-exactly}
 use Rattle.results.specs.Picks.{lead, costs-in, costs-out, undominated-cost}
 use Rattle.results.specs.Answered.{result-is, result-none}
 use Rattle.connections.specs.Rides.{Ride}
@@ -42,7 +42,7 @@ module _ (u : ℕ) (firsts : List Ride) (bounds : (r : Ride) → r ∈ firsts �
   least-points =
       record {
         attained = attained;
-        below = of-directs (λ c. best (duration u c) ≤ penalty c) firsts below;
+        below = of-directs (λ c. ByThen best (duration u c) (penalty c)) firsts below;
         small = of-directs (λ c. penalty c < noPoints) firsts (λ r i. bounds r i .few);
       }
     where
@@ -56,11 +56,11 @@ module _ (u : ℕ) (firsts : List Ride) (bounds : (r : Ride) → r ∈ firsts �
             points = a .costs;
           }
 
-      below : (r : Ride) → r ∈ firsts → best (r .arrive - u) ≤ r .points
+      below : (r : Ride) → r ∈ firsts → ByThen best (r .arrive - u) (r .points)
       below r i =
           let b = bounds r i in
           let at : u + (r .arrive - u) ≡ r .arrive = omega (arith, b .leaves, b .later) in
-          rw at (noted .low r i)
+          record { minute = r .arrive - u; until = omega arith; low = rw at (noted .low r i) }
 
   -- a cost leads exactly if the array has it below all that are earlier; before minute u nothing arrives
   led-leads : (c : Cost) → c ∈ leads noPoints 0 w

@@ -18,7 +18,7 @@ fn note_nearest(v: &[u16], g: Boarding, j: usize, best: &mut [u32])
         (map (rideOn (now (v .entry)) (g .line) (g .call .place) j) (nearest (reachBy (now (v .entry)) g))) ⌝ }
     ensures { λ _. ⌜ length (now (best .exit)) ≡ length (now (best .entry)) ⌝ }
 {
-    let to = query_places::seek_place(v, g, g.rest.from);
+    let to = query_places::seek_place(v, g);
     if !to.found {
         return;
     }

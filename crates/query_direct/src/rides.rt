@@ -199,7 +199,7 @@ fn keep_nearest(v: &[u16], g: Boarding, first: usize, best: &[u32], kept: &mut [
         (nearest (reachBy (now (v .entry)) g))) ⌝ }
     ensures { λ _. ⌜ length (now (kept .exit)) ≡ length (now (kept .entry)) ⌝ }
 {
-    let to = query_places::seek_place(v, g, g.rest.from);
+    let to = query_places::seek_place(v, g);
     if !to.found {
         return;
     }

@@ -1,15 +1,17 @@
 -- The least penalty so far runs over the arrival minutes; where the next is less, its minute leads.
 use mathlib.Core.Path.{_≡_, refl, ap, _∙_}
 use mathlib.Core.Bool.{Bool, true, false, cond}
-use mathlib.Core.List.{List, [], _∷_}
+use mathlib.Core.List.{List, _∷_}
 use Prim.Native.Nat.{ℕ, _+_, _≤_, _<_, min}
 use native.Mathlib.Numerals.{add-one}
 use native.Mathlib.Omega.{arith}
 use lib.Dec.{ltb}
-use lib.ListN.{length, getD, drop, drop-of-length-le}
+use lib.ListN.{length, getD, drop}
 use lib.Seq.{drop-cons}
 use borrow.Author.Tests.{lt-ltb, le-ltb, ltb-true, ltb-false}
 use Rattle.query_minutes.specs.Minutes.{noPoints, leads}
+use Rattle.query_minutes.specs.Ending.{Floor, LeadsEnd}
+use Rattle.query_minutes.proofs.EndLaws.{leads-over}
 
 module _ (best : List ℕ) (least a : ℕ) (more : a < length best) where
   pub leads-here : getD best a 0 < least
@@ -34,10 +36,14 @@ module _
     (so-far : length (leads noPoints 0 best) ≡ rows + length (leads least a (drop a best)))
     (long : length best ≡ 2880)
   where
-    pub count-more : (r s x : ℕ) → x ≡ getD best a 0 → r ≡ cond (ltb x least) 1 0 → s ≡ min least x → a < 2880
+    pub count-more : (r s x : ℕ) → x ≡ getD best a 0 → r ≡ cond (ltb x least) 1 0 → s ≡ min least x
+        → (end : ℕ) → LeadsEnd best end → a < end
         → length (leads noPoints 0 best) ≡ rows + r + length (leads s (a + 1) (drop (a + 1) best))
-    count-more r s x is-x e f h = go (ltb (getD best a 0) least) refl
+    count-more r s x is-x e f end ends early = go (ltb (getD best a 0) least) refl
       where
+        h : a < 2880
+        h = omega (arith, ends .few)
+
         go : (b : Bool) → ltb (getD best a 0) least ≡ b
             → length (leads noPoints 0 best) ≡ rows + r + length (leads s (a + 1) (drop (a + 1) best))
         go true t =
@@ -49,8 +55,8 @@ module _
             let next = leads-not best least a (omega arith) (ltb-false _ _ t) in
             rw (f, is-x) (omega (arith, so-far, ap length next, none))
 
-    pub count-done : 2880 ≤ a → rows ≡ length (leads noPoints 0 best)
-    unfolding leads
-    count-done h =
-        let none : drop a best ≡ [] = drop-of-length-le best {i = a} (omega arith) in
-        omega (arith, so-far, ap (λ l. length (leads least a l)) none)
+    pub count-done : (end : ℕ) → LeadsEnd best end → Floor least a best → end ≤ a
+        → rows ≡ length (leads noPoints 0 best)
+    count-done end ends low h =
+        let over = ends .over least (record { under = λ j g. low .under j (omega arith) }) in
+        omega (arith, so-far, ap length (leads-over best least a long over))

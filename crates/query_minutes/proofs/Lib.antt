@@ -1,2 +1,3 @@
+pub mod EndLaws
 pub mod NoteLaws
 pub mod LeadLaws

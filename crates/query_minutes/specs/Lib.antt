@@ -1,3 +1,4 @@
 pub mod Compared
 pub mod Minutes
+pub mod Ending
 pub mod Noted

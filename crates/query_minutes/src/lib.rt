@@ -11,6 +11,7 @@ ghost use lib.Dec.{leb, ltb, eqb};
 ghost use lib.ListN.{length, getD, set};
 ghost use Rattle.words.specs.Put.{put};
 ghost use Rattle.query_minutes.specs.Minutes.{noPoints, blank, lowered, leads};
+ghost use Rattle.query_minutes.specs.Ending.{Floor, LeadsEnd};
 use results::Cost;
 use results::Minutes;
 use results::Points;
@@ -191,15 +192,48 @@ fn below(a: Points, b: Points) -> usize
     0
 }
 
+// The least penalty of all minutes.
+fn least_of(best: &[u32]) -> Points
+    requires { ⌜ length (now best) ≡ 2880 ⌝ }
+    ensures { λ r. ⌜ Floor (r .0) 2880 (now (best .entry)) ⌝ }
+{
+    let mut low = Points(NO_POINTS);
+    let mut m = 0;
+    while m < MINUTES {
+        low = lesser(low, points_at(best, m));
+        m += 1;
+    }
+    low
+}
+
+// The minute after the first that has the least penalty of all: no row arrives from there on. Most rows arrive within
+// some hours of the first, so that few minutes of the two days are left to look at.
+pub fn rows_end(best: &[u32]) -> usize
+    requires { ⌜ length (now best) ≡ 2880 ⌝ }
+    ensures { λ r. ⌜ LeadsEnd (now (best .entry)) r ⌝ }
+{
+    let low = least_of(best);
+    let mut m = 0;
+    while m < MINUTES {
+        let points = points_at(best, m);
+        m += 1;
+        if at_least(low, points) {
+            return m;
+        }
+    }
+    m
+}
+
 // How many minutes have a penalty below those of all earlier minutes: the rows of the answer.
 pub fn count_rows(best: &[u32]) -> usize
     requires { ⌜ length (now best) ≡ 2880 ⌝ }
     ensures { λ r. ⌜ (r ≡ length (leads noPoints 0 (now (best .entry)))) × (r ≤ 2880) ⌝ }
 {
+    let end = rows_end(best);
     let mut rows = 0;
     let mut least = Points(NO_POINTS);
     let mut minute = 0;
-    while minute < MINUTES {
+    while minute < end {
         let points = points_at(best, minute);
         rows += below(points, least);
         least = lesser(least, points);

@@ -9,9 +9,9 @@ use Rattle.results.specs.declared.Points.{Points}
 use Rattle.lines_lookup.specs.Lookup.{Line, boardsAt, alightsAt, totalAt, pointsBetween}
 use Rattle.lines_lookup.specs.Calls.{Call, Boarding, callAt, callsIn}
 use Rattle.lines_lookup.proofs.LookupLaws.{pairs-more, pairs-none}
-use Rattle.query_places.specs.Candidates.{opens, reachTo, reachOf}
+use Rattle.query_places.specs.Candidates.{opens, reachTo, reachOf, reachBy, nearest}
 use Rattle.query_places.specs.Turns.{from}
-use Rattle.query_places.specs.Places.{rest, restAt}
+use Rattle.query_places.specs.Places.{rest, foundAt}
 use Rattle.query_places.specs.declared.Place.{Place}
 
 -- ---- the penalty, by two totals
@@ -55,36 +55,37 @@ module _ (v : List ℕ) (l : Line) (x y : ℕ) (b : Bool) (is-b : b ≡ boardsAt
   unfolding opens
   board-closed e = rw (← is-b, e)
 
--- ---- a loop over the calls from index `at` on, which stands at index k
-module _ (v : List ℕ) (g : Boarding) (at k : ℕ) (so-far : rest v g at ≡ rest v g k) where
-  none-at : rest v g k ≡ [] → (s : Place) → s .found ≡ false → rest v g at ≡ restAt v g s
-  unfolding restAt
-  none-at e s f = so-far ∙ e ∙ rw f
+-- ---- a loop over the calls that are left to alight at, which stands at index k
+module _ (v : List ℕ) (g : Boarding) (k : ℕ) (so-far : rest v g (g .rest .from) ≡ rest v g k) where
+  none-found : rest v g k ≡ [] → (s : Place) → s .found ≡ false → nearest (reachBy v g) ≡ foundAt s
+  unfolding rest nearest foundAt
+  none-found e s f = ap nearest (so-far ∙ e) ∙ rw f
 
-  pub place-none : g .rest .end ≤ k + 1 → (s : Place) → s .found ≡ false → rest v g at ≡ restAt v g s
+  pub place-none : g .rest .end ≤ k + 1 → (s : Place) → s .found ≡ false → nearest (reachBy v g) ≡ foundAt s
   unfolding rest
-  place-none h s f = none-at (reach-none v (g .line) (g .call) k (g .rest .end) h) s f
+  place-none h s f = none-found (reach-none v (g .line) (g .call) k (g .rest .end) h) s f
 
   module _ (more : k + 1 < g .rest .end) (inside : g .rest .end ≤ length v) (d : Call) (is-d : d ≡ callAt v k) where
-    pub place-other : (d .line ≡ g .call .line → ⊥) → (s : Place) → s .found ≡ false → rest v g at ≡ restAt v g s
+    pub place-other : (d .line ≡ g .call .line → ⊥) → (s : Place) → s .found ≡ false
+        → nearest (reachBy v g) ≡ foundAt s
     unfolding rest
-    place-other h s f = none-at (reach-other v (g .line) (g .call) k (g .rest .end) more inside d is-d h) s f
+    place-other h s f = none-found (reach-other v (g .line) (g .call) k (g .rest .end) more inside d is-d h) s f
 
     module _
         (same : d .line ≡ g .call .line)
         (r : Bool)
         (is-r : r ≡ opens v (g .line) (g .call .place) (d .place))
       where
-        pub place-closed : r ≡ false → rest v g at ≡ rest v g (k + 2)
+        pub place-closed : r ≡ false → rest v g (g .rest .from) ≡ rest v g (k + 2)
         unfolding rest
         place-closed e =
             so-far ∙ reach-closed v (g .line) (g .call) k (g .rest .end) more inside d is-d same (sym is-r ∙ e)
 
         pub place-found : r ≡ true → (points : Points)
             → points .0 ≡ pointsBetween v (g .line) (g .call .place) (d .place)
-            → rest v g at ≡ restAt v g (record { found = true; place = d .place; points = points; next = k + 2 })
-        unfolding rest restAt
+            → nearest (reachBy v g) ≡ foundAt (record { found = true; place = d .place; points = points })
+        unfolding rest nearest foundAt
         place-found e points is-points =
-            so-far
-            ∙ reach-open v (g .line) (g .call) k (g .rest .end) more inside d is-d same (sym is-r ∙ e)
-            ∙ (λ i. record { place = d .place; points = sym is-points i } ∷ rest v g (k + 2))
+            ap nearest
+            (so-far ∙ reach-open v (g .line) (g .call) k (g .rest .end) more inside d is-d same (sym is-r ∙ e))
+            ∙ (λ i. record { place = d .place; points = sym is-points i } ∷ [])

@@ -9,7 +9,7 @@ use Rattle.connections.specs.Rides.{Ride}
 use Rattle.lines_lookup.specs.Lookup.{Line}
 use Rattle.lines_lookup.specs.Calls.{Call, Piece, Boarding, callsIn, BoardsAt}
 use Rattle.lines_lookup.proofs.LookupLaws.{pairs-more, pairs-none}
-use Rattle.query_places.specs.Candidates.{Reach, rideOn, legs, firstLeg, nearLeg, allLeg, legOf}
+use Rattle.query_places.specs.Candidates.{Reach, rideOn, legs, firstLeg, nearLeg, legOf}
 
 -- the first rides from the calls cs to the calls ds
 unfoldable pub firstCalls : List ℕ → (u : ℕ) (cs ds : List Call) → List Ride
@@ -19,13 +19,9 @@ firstCalls v u cs ds = concatMap (firstLeg v u) (legs v cs ds)
 abbrev pub tripsFrom : List ℕ → Line → (x j : ℕ) → Reach → List Ride
 tripsFrom v l x j r = map (λ i. rideOn v l x i r) (range j (l .trips - j))
 
--- those to the nearest places
+-- all rides from the calls cs to the nearest places of the calls ds
 unfoldable pub nearCalls : List ℕ → (u : ℕ) (cs ds : List Call) → List Ride
 nearCalls v u cs ds = concatMap (nearLeg v u) (legs v cs ds)
-
--- all rides from the calls cs to the calls ds
-unfoldable pub allCalls : List ℕ → (u : ℕ) (cs ds : List Call) → List Ride
-allCalls v u cs ds = concatMap (allLeg v u) (legs v cs ds)
 
 -- a piece from index k on
 abbrev pub from : (k end : ℕ) → Piece

@@ -1,20 +1,20 @@
-// Places to ride to: from where a line is boarded, the next of its places at the other station at which one may alight.
+// Places to ride to: from where a line is boarded, the nearest of its places at the other station at which one may
+// alight.
 ghost use mathlib.Core.Path.{_≡_};
 ghost use mathlib.Core.Bool.{false};
-ghost use Prim.Native.Nat.{_≤_, _<_};
+ghost use Prim.Native.Nat.{_<_};
 ghost use Rattle.lines_lookup.specs.Lookup.{pointsBetween};
 ghost use Rattle.lines_lookup.specs.Calls.{Within};
-ghost use Rattle.query_places.specs.Candidates.{opens};
-ghost use Rattle.query_places.specs.Places.{rest, restAt};
+ghost use Rattle.query_places.specs.Candidates.{opens, nearest, reachBy};
+ghost use Rattle.query_places.specs.Places.{foundAt};
 use lines_lookup::Boarding;
 use results::Points;
 
-// A place to alight at and the penalty of the ride to it, if one was found, and the index of the call after it.
+// A place to alight at and the penalty of the ride to it, if one was found.
 pub struct Place {
     pub found: bool,
     pub place: usize,
     pub points: Points,
-    pub next: usize,
 }
 
 // The penalty of the ride to place y of the line that is boarded: the difference of two totals.
@@ -29,13 +29,12 @@ fn ride_points(v: &[u16], g: Boarding, y: usize) -> Points
 
 // No place.
 pub fn nowhere() -> Place
-    ensures { λ r. ⌜ (r .found ≡ false) × (r .place < 65536) × (r .next ≤ 65536) ⌝ }
+    ensures { λ r. ⌜ (r .found ≡ false) × (r .place < 65536) ⌝ }
 {
     Place {
         found: false,
         place: 0,
         points: Points(0),
-        next: 0,
     }
 }
 
@@ -50,15 +49,13 @@ fn may_ride(v: &[u16], g: Boarding, y: usize) -> bool
     false
 }
 
-// The first place of the line that is boarded to which one may ride, of the calls from index at on.
-pub fn seek_place(v: &[u16], g: Boarding, at: usize) -> Place
-    requires { ⌜ Within (now v) g × (at ≤ 65536) ⌝ }
-    ensures { λ r. ⌜ (rest (now (v .entry)) g at ≡ restAt (now (v .entry)) g r)
-        × (r .place < 65536)
-        × (r .next ≤ 65536) ⌝ }
+// The nearest place of the line that is boarded to which one may ride.
+pub fn seek_place(v: &[u16], g: Boarding) -> Place
+    requires { ⌜ Within (now v) g ⌝ }
+    ensures { λ r. ⌜ (nearest (reachBy (now (v .entry)) g) ≡ foundAt r) × (r .place < 65536) ⌝ }
 {
     let end = g.rest.end;
-    let mut k = at;
+    let mut k = g.rest.from;
     while k + 1 < end {
         let d = lines_lookup::call_at(v, k);
         if d.line != g.call.line {
@@ -69,7 +66,6 @@ pub fn seek_place(v: &[u16], g: Boarding, at: usize) -> Place
                 found: true,
                 place: d.place,
                 points: ride_points(v, g, d.place),
-                next: k + 2,
             };
         }
         k += 2;

@@ -1,5 +1,5 @@
--- The rides through which a cursor goes are those of the timetable that board at the one station at the minute or
--- later and alight at the other, if the line tables belong to the timetable.
+-- The rides through which a cursor goes are some of the timetable that board at the one station at the minute or later
+-- and alight at the other, if the line tables belong to the timetable, and no other of these is better.
 use mathlib.Core.Path.{_≡_, refl, sym, ap}
 use mathlib.Core.Bool.{true}
 use mathlib.Core.Logic.{_↔_}
@@ -25,7 +25,7 @@ use Rattle.query_nearest.specs.Bounds.{Bounds}
 use Rattle.query_nearest.specs.Nearest.{Nearer}
 use Rattle.query_nearest.specs.Gathered.{all-read, near-all, all-near, near-bounds}
 use Rattle.query_rides.specs.declared.Cursor.{Cursor}
-use Rattle.query_rides.specs.Riding.{rideOf, left, Good}
+use Rattle.query_rides.specs.Riding.{rideOf, nearLeft, Good}
 
 -- what a connection begins with: a direct one is its ride
 abbrev firstRide : Connection → Ride
@@ -41,7 +41,7 @@ module _
     (some : 1 ≤ a)
     (inside : a ≤ length (t .stations))
   where
-    pub told-rides : (r : Ride) → r ∈ allRead v a u b ↔ (Boards (net t) a u r × (r .to ≡ b))
+    told-rides : (r : Ride) → r ∈ allRead v a u b ↔ (Boards (net t) a u r × (r .to ≡ b))
     told-rides r = (to, from)
       where
         to : r ∈ allRead v a u b → Boards (net t) a u r × (r .to ≡ b)
@@ -69,7 +69,7 @@ module _
         let t = timetableOf w in
         holding v t (begins-holds v t .0 own)
 
-    pub read-rides : (r : Ride) → r ∈ allRead v a u b ↔ (Boards (net (timetableOf w)) a u r × (r .to ≡ b))
+    read-rides : (r : Ride) → r ∈ allRead v a u b ↔ (Boards (net (timetableOf w)) a u r × (r .to ≡ b))
     read-rides = told-rides v (timetableOf w) told (spelled-valid w accepted) a b u some inside
 
     -- those to the nearest places are among them, and none is missed that is as good
@@ -86,8 +86,8 @@ module _
     read-bounds = near-bounds v (timetableOf w) told a u b some inside (spelled-valid w accepted)
 
 -- the ride at which a cursor stands is left
-pub ride-left : (v : List ℕ) (u : ℕ) (c : Cursor) → Good v c → c .more ≡ true → rideOf v c ∈ left v u c
-unfolding left rideOf
+pub ride-left : (v : List ℕ) (u : ℕ) (c : Cursor) → Good v c → c .more ≡ true → rideOf v c ∈ nearLeft v u c
+unfolding nearLeft rideOf
 ride-left v u c good more =
     let runs = good .at-trip more in
     let g = c .boarding in

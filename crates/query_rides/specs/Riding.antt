@@ -6,20 +6,15 @@ use mathlib.Core.List.{List, [], _∷_, _++_}
 use Prim.Native.Nat.{ℕ, _≤_, _<_}
 use native.Mathlib.Omega.{arith}
 use lib.ListN.{length}
-use Rattle.lists.specs.Lists.{concatMap}
 use Rattle.connections.specs.Rides.{Ride}
 use Rattle.lines_lookup.specs.Calls.{Piece, Boarding, callsIn, Inside, Within}
 use Rattle.query_places.specs.Candidates.{Reach, rideOn}
-use Rattle.query_places.specs.Places.{rest, reachAt}
-use Rattle.query_places.specs.Turns.{tripsFrom, nearCalls, allCalls}
+use Rattle.query_places.specs.Places.{reachAt}
+use Rattle.query_places.specs.Turns.{tripsFrom, nearCalls}
 use Rattle.query_rides.specs.declared.Ride.{Ride as RideStruct}
 use Rattle.query_rides.specs.declared.Cursor.{Cursor}
 
--- the rides from the calls in one piece to those in another
-unfoldable pub callsFrom : List ℕ → (u : ℕ) (calls others : Piece) → List Ride
-callsFrom v u calls others = allCalls v u (callsIn v calls) (callsIn v others)
-
--- those to the nearest places
+-- the rides from the calls in one piece to the nearest places of those in another
 unfoldable pub nearFrom : List ℕ → (u : ℕ) (calls others : Piece) → List Ride
 nearFrom v u calls others = nearCalls v u (callsIn v calls) (callsIn v others)
 
@@ -31,17 +26,7 @@ tripsOf v g j r = tripsFrom v (g .line) (g .call .place) j r
 unfoldable pub rideOf : List ℕ → Cursor → Ride
 rideOf v c = rideOn v (c .boarding .line) (c .boarding .call .place) (c .j) (reachAt (c .to))
 
--- the rides from the one at which a cursor stands on: on the trips left to its place, on all trips in time to the
--- places left of its line, and from the calls left
-unfoldable pub left : List ℕ → (u : ℕ) → Cursor → List Ride
-left v u c =
-    cond (c .more)
-    (tripsOf v (c .boarding) (c .j) (reachAt (c .to))
-    ++ (concatMap (tripsOf v (c .boarding) (c .first)) (rest v (c .boarding) (c .to .next))
-    ++ callsFrom v u (c .calls) (c .boarding .rest)))
-    []
-
--- those to the nearest places: on the trips left to its place, and from the calls left
+-- the rides from the one at which a cursor stands on: on the trips left to its place, and from the calls left
 unfoldable pub nearLeft : List ℕ → (u : ℕ) → Cursor → List Ride
 nearLeft v u c =
     cond (c .more)
@@ -53,9 +38,7 @@ pub record Good (v : List ℕ) (c : Cursor) : Type 0 where
   pub calls-inside : Inside v (c .calls)
   pub within : Within v (c .boarding)
   pub place-few : c .to .place < 65536
-  pub next-few : c .to .next ≤ 65536
   pub j-few : c .j < 65536
-  pub first-before : c .first ≤ c .j
   pub at-trip : c .more ≡ true → c .j < c .boarding .line .trips
 
 -- a ride as the code tells it, and how large its numbers get
@@ -73,20 +56,11 @@ pub record Tells (s : RideStruct) (r : Ride) : Type 0 where
   pub arrive-few : s .arrive < 65536
 
 -- where no ride is left
-pub left-none : (v : List ℕ) (u : ℕ) (c : Cursor) → c .more ≡ false → left v u c ≡ []
-unfolding left
-left-none v u c e = rw e
-
--- after a ride, one less is left
-pub left-falls : (v : List ℕ) (u : ℕ) (c d : Cursor) → left v u c ≡ rideOf v c ∷ left v u d
-    → length (left v u d) < length (left v u c)
-left-falls v u c d e = omega (arith, ap length e)
-
--- the same of those to the nearest places
 pub near-none : (v : List ℕ) (u : ℕ) (c : Cursor) → c .more ≡ false → nearLeft v u c ≡ []
 unfolding nearLeft
 near-none v u c e = rw e
 
+-- after a ride, one less is left
 pub near-falls : (v : List ℕ) (u : ℕ) (c d : Cursor) → nearLeft v u c ≡ rideOf v c ∷ nearLeft v u d
     → length (nearLeft v u d) < length (nearLeft v u c)
 near-falls v u c d e = omega (arith, ap length e)

@@ -1,5 +1,5 @@
-// The rides from one station to another that leave at a minute or later, one after the other, from line tables, all of
-// them or those to the nearest places; and the way of changing between two rides, with what it takes and costs.
+// The rides from one station to another that leave at a minute or later, one after the other, from line tables, each
+// to the nearest place; and the way of changing between two rides, with what it takes and costs.
 ghost use mathlib.Core.Path.{_≡_};
 ghost use mathlib.Core.Bool.{true};
 ghost use mathlib.Core.List.{_∷_};
@@ -7,8 +7,8 @@ ghost use Prim.Native.Nat.{_-_, _≤_, _<_};
 ghost use lib.ListN.{length};
 ghost use Rattle.timetable.specs.Words.{stationCount, stationAt, isTimetable};
 ghost use Rattle.lines_lookup.specs.Calls.{Inside};
-ghost use Rattle.query_places.specs.Candidates.{nearRead, allRead};
-ghost use Rattle.query_rides.specs.Riding.{Good, Tells, left, nearLeft, rideOf, callsFrom, nearFrom};
+ghost use Rattle.query_places.specs.Candidates.{nearRead};
+ghost use Rattle.query_rides.specs.Riding.{Good, Tells, nearLeft, rideOf, nearFrom};
 ghost use Rattle.query_rides.specs.Ways.{costOf, wayBetween};
 use lines_lookup::Boarding;
 use lines_lookup::Call;
@@ -31,12 +31,11 @@ pub struct Ride {
 }
 
 // Where one stands in the rides: the calls that are left to board at; the call boarded at, with those that were left to
-// alight at; the first trip that leaves in time; the place alighted at, and the trip.
+// alight at; the place alighted at, and the trip.
 pub struct Cursor {
     pub more: bool,
     pub calls: Piece,
     pub boarding: Boarding,
-    pub first: usize,
     pub to: Place,
     pub j: usize,
 }
@@ -45,8 +44,7 @@ pub struct Cursor {
 // where there is a place to alight at.
 fn seek_call(v: &[u16], minute: usize, calls: Piece, others: Piece) -> Cursor
     requires { ⌜ Inside (now v) calls × Inside (now v) others ⌝ }
-    ensures { λ r. ⌜ (left (now (v .entry)) minute r ≡ callsFrom (now (v .entry)) minute calls others)
-        × (nearLeft (now (v .entry)) minute r ≡ nearFrom (now (v .entry)) minute calls others)
+    ensures { λ r. ⌜ (nearLeft (now (v .entry)) minute r ≡ nearFrom (now (v .entry)) minute calls others)
         × Good (now (v .entry)) r ⌝ }
 {
     let end = calls.end;
@@ -56,7 +54,7 @@ fn seek_call(v: &[u16], minute: usize, calls: Piece, others: Piece) -> Cursor
         let g = lines_lookup::boarding_at(v, k, rest);
         rest = g.rest;
         k += 2;
-        let to = query_places::seek_place(v, g, g.rest.from);
+        let to = query_places::seek_place(v, g);
         if !to.found {
             continue;
         }
@@ -66,7 +64,6 @@ fn seek_call(v: &[u16], minute: usize, calls: Piece, others: Piece) -> Cursor
                 more: true,
                 calls: Piece { from: k, end },
                 boarding: g,
-                first,
                 to,
                 j: first,
             };
@@ -86,7 +83,6 @@ fn seek_call(v: &[u16], minute: usize, calls: Piece, others: Piece) -> Cursor
             total: lines_lookup::total_at(v, line, 0),
             rest,
         },
-        first: 0,
         to: query_places::nowhere(),
         j: 0,
     }
@@ -94,8 +90,7 @@ fn seek_call(v: &[u16], minute: usize, calls: Piece, others: Piece) -> Cursor
 
 // The first ride from one station to another.
 pub fn begin(v: &[u16], from: usize, to: usize, minute: usize) -> Cursor
-    ensures { λ r. ⌜ (left (now (v .entry)) minute r ≡ allRead (now (v .entry)) from minute to)
-        × (nearLeft (now (v .entry)) minute r ≡ nearRead (now (v .entry)) from minute to)
+    ensures { λ r. ⌜ (nearLeft (now (v .entry)) minute r ≡ nearRead (now (v .entry)) from minute to)
         × Good (now (v .entry)) r ⌝ }
 {
     seek_call(
@@ -104,40 +99,6 @@ pub fn begin(v: &[u16], from: usize, to: usize, minute: usize) -> Cursor
         lines_lookup::list_of(v, from),
         lines_lookup::list_of(v, to),
     )
-}
-
-// The ride after the one at which c stands: on the next trip of the line; else to the next place of the station, with
-// the first trip again; else from the next call.
-pub fn next(v: &[u16], minute: usize, c: Cursor) -> Cursor
-    requires { ⌜ Good (now v) c × (c .more ≡ true) ⌝ }
-    ensures { λ r. ⌜ (left (now (v .entry)) minute c ≡ rideOf (now (v .entry)) c ∷ left (now (v .entry)) minute r)
-        × Good (now (v .entry)) r ⌝ }
-{
-    let g = c.boarding;
-    let calls = c.calls;
-    let here = c.to;
-    if c.j + 1 < g.line.trips {
-        return Cursor {
-            more: true,
-            calls,
-            boarding: g,
-            first: c.first,
-            to: here,
-            j: c.j + 1,
-        };
-    }
-    let to = query_places::seek_place(v, g, here.next);
-    if to.found {
-        return Cursor {
-            more: true,
-            calls,
-            boarding: g,
-            first: c.first,
-            to,
-            j: c.first,
-        };
-    }
-    seek_call(v, minute, calls, g.rest)
 }
 
 // The ride after the one at which c stands, where only the nearest place is ridden to: on the next trip of the line;
@@ -158,7 +119,6 @@ pub fn next_nearest(v: &[u16], minute: usize, c: Cursor) -> Cursor
         more: true,
         calls,
         boarding: g,
-        first: c.first,
         to: here,
         j: c.j + 1,
     }

@@ -21,9 +21,11 @@ use Rattle.query_minutes.specs.Noted.{getD-any}
 use Rattle.query_minutes.proofs.LeadLaws.{leads-here, leads-not}
 use Rattle.promises.specs.Query.{kept, rows, rowWords}
 use Rattle.query_rows.specs.Rowed.{LeastKept, RowFor}
+use Rattle.query_minutes.specs.Ending.{Floor, LeadsEnd}
 use Rattle.query_rows.specs.Leading.{noCost, leads-count, lead-row}
 use Rattle.query_rows.specs.Granted.{Granted, all-bounds, costOf, Leading, Written, Room}
 use Rattle.query_rows.specs.Leader.{Leader, Named, NamedRow, AllNamed, AllLed, all-led}
+use Rattle.query_minutes.proofs.EndLaws.{floor-none, floor-more, leads-over}
 
 -- ---- the next of a list
 module _ {A : Type 0} (l : List A) (i : ℕ) (x : A) (rest : List A) (next : drop i l ≡ x ∷ rest) where
@@ -47,9 +49,11 @@ pub record Going (best : List ℕ) (rs : List (List ℕ)) (here least m : ℕ) :
   pub left : drop place (leads noPoints 0 best) ≡ leads least m (drop m best)
   pub within : here ≤ length (rowWords rs)
   pub rest : drop here (rowWords rs) ≡ rowWords (drop place rs)
+  pub lowest : Floor least m best
 
 going-first : (best : List ℕ) (rs : List (List ℕ)) → Going best rs 0 noPoints 0
-going-first best rs = record { place = 0; left = refl; within = omega arith; rest = refl }
+going-first best rs =
+    record { place = 0; left = refl; within = omega arith; rest = refl; lowest = floor-none best noPoints }
 
 pub rows-are : (w s : List ℕ) (a b u : ℕ) → rows w s a b u ≡ rowsOf u (kept w s a b u)
 unfolding answer
@@ -85,6 +89,7 @@ module _
                 ∙ ap (λ z. leads z (m + 1) (drop (m + 1) best)) low;
             within = k .within;
             rest = k .rest;
+            lowest = floor-more best least m (getD best m 0) least (k .lowest) refl (sym low);
           }
 
       module _ (low : getD best m 0 < least) where
@@ -151,6 +156,7 @@ module _
                 left = next-rest ls (k .place) this _ now-next;
                 within = fits-words;
                 rest = left-next (rowWords rs) here row (rowWords (drop (k .place + 1) rs)) words-next;
+                lowest = floor-more best least m (getD best m 0) (getD best m 0) (k .lowest) refl (omega arith);
               }
 
           pub written-row : (old out : List ℕ) → length (rowWords rs) ≤ length old
@@ -180,12 +186,12 @@ module _
               ∙ written-row (z .row) (z .is) old out room held
               ∙ ap (λ e. put 0 (take e (rowWords rs)) old) (sym (z .ends))
 
-    -- all minutes are seen
-    module _ (done : 2880 ≤ m) where
+    -- all minutes that can lead are seen
+    module _ (end : ℕ) (ends : LeadsEnd best end) (done : end ≤ m) where
       all-past : length ls ≤ k .place
-      unfolding leads
       all-past =
-          let none = k .left ∙ ap (leads least m) (drop-of-length-le best {i = m} (omega arith)) in
+          let low = ends .over least (record { under = λ j h. k .lowest .under j (omega arith) }) in
+          let none = k .left ∙ leads-over best least m long low in
           omega (arith, length-drop (k .place) ls, ap length none)
 
       all-read : here ≡ length (rowWords (rows w s a b u))
@@ -286,10 +292,10 @@ module _
                       getD-set-other who m (c .minutes) (z .arc + 1) 0 q,
                     )
 
-    -- all minutes are seen
-    module _ (done : 2880 ≤ m) where
+    -- all minutes that can lead are seen
+    module _ (end : ℕ) (ends : LeadsEnd best end) (done : end ≤ m) where
       pub all-counted : here ≡ length (rowWords (rows w s a b u))
-      all-counted = all-read w v s best a b u here least m g is-least long (k .going) done
+      all-counted = all-read w v s best a b u here least m g is-least long (k .going) end ends done
 
       pub all-led-now : AllNamed w s a b u best who → AllLed w s a b u best who
       all-led-now z =
@@ -299,7 +305,7 @@ module _
           (subst (λ l. c ∈ l)
           (sym
           (take-all (k .going .place) (leads noPoints 0 best)
-          (all-past w v s best a b u here least m g is-least long (k .going) done)))
+          (all-past w v s best a b u here least m g is-least long (k .going) end ends done)))
           i))
 
 -- ---- no minute before that of the query leads

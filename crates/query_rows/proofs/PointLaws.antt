@@ -10,6 +10,7 @@ use lib.ListN.{length, getD, take, set}
 use Rattle.words.specs.Put.{put}
 use Rattle.promises.specs.Query.{kept, rows, rowWords}
 use Rattle.query_rows.specs.Rowed.{LeastKept}
+use Rattle.query_minutes.specs.Ending.{LeadsEnd}
 use Rattle.query_rows.specs.Merged.{soleOf}
 use Rattle.query_rows.specs.Granted.{Granted, Leading, Written, Room}
 use Rattle.query_rows.specs.Leader.{Leader, Named, NamedRow, AllNamed, AllLed, named-kept}
@@ -26,10 +27,15 @@ module _
     (is-least : LeastKept u (kept w s a b u) best)
     (long : length best ≡ 2880)
     (k : Going best (rows w s a b u) here least m)
-    (more : m < 2880)
+    (until : ℕ)
+    (ends : LeadsEnd best until)
+    (early : m < until)
     (below : Bool)
     (is-below : below ≡ ltb p least)
   where
+    more : m < 2880
+    more = omega (arith, ends .few)
+
     pub skip-at : not below ≡ true → Going best (rows w s a b u) here least (m + 1)
     skip-at h =
         going-skip w v s best a b u here least m g is-least long k more
@@ -80,13 +86,18 @@ module _
     (is-least : LeastKept u (kept w s a b u) best)
     (long : length best ≡ 2880)
     (k : Counting best who (rows w s a b u) here least m)
-    (more : m < 2880)
+    (until : ℕ)
+    (ends : LeadsEnd best until)
+    (early : m < until)
     (below : Bool)
     (is-below : below ≡ ltb p least)
   where
+    inside : m < 2880
+    inside = omega (arith, ends .few)
+
     pub count-skip-at : not below ≡ true → Counting best who (rows w s a b u) here least (m + 1)
     count-skip-at h =
-        counting-skip w v s best who a b u here least m g is-least long k more
+        counting-skip w v s best who a b u here least m g is-least long k inside
         (omega (arith, is, ltb-false p least (sym is-below ∙ not-true below h)))
 
     module _ (low : not below ≡ false) where
@@ -96,24 +107,24 @@ module _
       pub count-leading-at : Leading w s a b u m p
       count-leading-at =
           subst (Leading w s a b u m) (sym is)
-          (count-leading w v s best who a b u here least m g is-least long k more less)
+          (count-leading w v s best who a b u here least m g is-least long k inside less)
 
       pub count-named-at : AllNamed w s a b u best who → Named w s a b u m p (getD who m 0)
       count-named-at z =
           subst (λ q. Named w s a b u m q (getD who m 0)) (sym is)
-          (count-named w v s best who a b u here least m g is-least long k more less z)
+          (count-named w v s best who a b u here least m g is-least long k inside less z)
 
       pub count-row-at : (n : ℕ) (new : List ℕ) → length who ≡ 2880 → NamedRow w s a b u m p n who new
           → Counting best new (rows w s a b u) (here + n) p (m + 1)
       count-row-at n new long-who z =
           subst (λ q. Counting best new (rows w s a b u) (here + n) q (m + 1)) (sym is)
-          (counting-row w v s best who a b u here least m g is-least long k more less n new long-who
+          (counting-row w v s best who a b u here least m g is-least long k inside less n new long-who
           (subst (λ q. NamedRow w s a b u m q n who new) is z))
 
       pub named-at : (n : ℕ) (new : List ℕ) → length who ≡ 2880 → NamedRow w s a b u m p n who new
           → AllNamed w s a b u best who → AllNamed w s a b u best new
       named-at n new long-who z all =
-          named-kept w s best who new a b u m n (subst (λ q. NamedRow w s a b u m q n who new) is z) all more long
+          named-kept w s best who new a b u m n (subst (λ q. NamedRow w s a b u m q n who new) is z) all inside long
           long-who
 
 -- ---- a minute merged

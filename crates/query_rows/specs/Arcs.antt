@@ -1,10 +1,13 @@
 -- The sequence of one arc, as the code has it: its stations are the first words of an array, two for each change, the
 -- target the last of them. And the least penalties, arc by arc, for the words of a timetable.
 use mathlib.Core.Path.{_≡_, refl, sym, ap, subst, _∙_}
+use mathlib.Core.Bool.{Bool, true, false, not}
+use mathlib.Core.Logic.{inl, inr}
 use mathlib.Core.List.{List, [], _∷_, _++_}
 use Prim.Native.Nat.{ℕ, suc, _+_, _-_, _*_, _/_, _≤_, _<_}
 use native.Mathlib.Numerals.{add-one}
 use native.Mathlib.Omega.{arith}
+use borrow.Author.Tests.{not-true}
 use lib.ListN.{length, getD, take, length-append, length-take}
 use lib.Seq.{take-suc, getD-take, getD-append-seam}
 use Rattle.timetable.specs.Words.{timetableOf}
@@ -12,11 +15,13 @@ use Rattle.timetable.specs.Check.{length-stations}
 use Rattle.connections.specs.Connections.{Transfer, net, Connection, direct, onward, stations}
 use Rattle.connections.specs.Planner.{rideCount}
 use Rattle.connections.specs.Sound.{Sound}
+use Rattle.lists.specs.Lists.{_∈_}
 use Rattle.stores.specs.Words.{readable}
 use Rattle.stores.specs.Sequences.{Odd, odd-length}
 use Rattle.lines_tables.specs.Spelled.{within}
-use Rattle.query_store.specs.Entries.{nodeCount, arcCount, arcTarget, arcBefore}
+use Rattle.query_store.specs.Entries.{arcCount, arcTarget, arcBefore}
 use Rattle.query_store.specs.Paths.{nodePath, arcPath, arc-path, length-readable}
+use Rattle.query_store.specs.Repeats.{Idle, repeated-in}
 use Rattle.query_store.specs.Made.{Made, arc-odd}
 use Rattle.query_store.specs.Granted.{arc-within, few-arcs, made}
 use Rattle.optimality.specs.Along.{readBack}
@@ -26,9 +31,10 @@ use Rattle.query_costs.specs.Patterns.{changesTo, changes-read}
 use Rattle.query_costs.specs.Onward.{Listed, Stations}
 use Rattle.promises.specs.Query.{kept}
 use Rattle.query_rows.specs.Rowed.{LeastKept}
-use Rattle.query_rows.specs.Collected.{Collected, collected-first, collected-skip, collected-more, collected-all}
+use Rattle.query_rows.specs.Collected.{Collected, collected-first, collected-skip, collected-again}
+use Rattle.query_rows.specs.Collected.{collected-more, collected-all}
 use Rattle.query_rows.specs.Merged.{unnamed, Bound, Merged, lowered-merged}
-use Rattle.query_rows.specs.Sole.{Sole, sole-first, sole-skip, sole-more}
+use Rattle.query_rows.specs.Sole.{Sole, sole-first, sole-skip, sole-again, sole-more}
 use Rattle.query_rows.specs.Granted.{Granted, is-sound}
 
 -- ---- the number of rides of a sequence: one to each station alighted at, and one to the target
@@ -118,9 +124,6 @@ module _ (w v s : List ℕ) (a b u : ℕ) (g : Granted w v s a b u) where
   pub store-words : 2 ≤ length s
   store-words = omega (arith, store-made .present)
 
-  pub store-present : 2 + 3 * nodeCount s + 2 * arcCount s ≤ length s
-  store-present = store-made .present
-
   -- the number of an arc and one more is a word
   pub arc-few : (k : ℕ) → k < arcCount s → k + 1 < 65536
   arc-few k h = omega (arith, few-arcs (length ((timetableOf w) .stations)) s (g .made))
@@ -160,7 +163,7 @@ module _ (w s best who : List ℕ) (a b u k arcs : ℕ) (all : arcs ≡ arcCount
     inside : k < length (readable s)
     inside = omega (arith, length-readable s)
 
-    pub noted-skip : (t ≡ b → ⊥) → NotedAll w s a b u (k + 1) best who
+    noted-skip : (t ≡ b → ⊥) → NotedAll w s a b u (k + 1) best who
     unfolding arcPath
     noted-skip other =
         subst (λ j. NotedAll w s a b u j best who) (sym (add-one k))
@@ -180,6 +183,26 @@ module _ (w s best who : List ℕ) (a b u k arcs : ℕ) (all : arcs ≡ arcCount
               (arc-path s k in-arcs)
               (λ e. other (target ∙ e));
         })
+
+  -- an arc that adds nothing
+  pub noted-idle : (r : Bool) → (r ≡ false → Idle s b k) → not r ≡ true → k < arcs
+      → NotedAll w s a b u (k + 1) best who
+  unfolding Idle arcPath
+  noted-idle r idle e more =
+      elim (idle (not-true r e)) [
+        | inl other ↦ noted-skip (arcTarget s k) refl more other
+        | inr again ↦ noted-again (repeated-in s k again (omega arith))
+      ]
+    where
+      noted-again : arcPath s k ∈ take k (readable s) → NotedAll w s a b u (k + 1) best who
+      noted-again again =
+          let inside : k < length (readable s) = omega (arith, length-readable s) in
+          subst (λ j. NotedAll w s a b u j best who) (sym (add-one k))
+          (record {
+            collected =
+                λ ok. collected-again (net (timetableOf w)) ok s a u b k best inside (so-far .collected ok) again;
+            sole = λ ok. sole-again (net (timetableOf w)) ok s a u b k best who inside (so-far .sole ok) again;
+          })
 
   pub noted-all : (v : List ℕ) → Granted w v s a b u → arcs ≤ k → LeastKept u (kept w s a b u) best
   noted-all v g past =

@@ -1,5 +1,6 @@
--- The least penalties of a store's sequences, collected arc by arc: after k arcs the array has, for each minute, the
--- least penalty of those who arrive then by one of the first k sequences; after all arcs it has that of the list kept.
+-- The least penalties of a store's sequences, collected arc by arc: after k arcs the array has, for minutes, that of
+-- one who arrives then by one of the first k sequences, and for everyone who goes by these that of one who arrives no
+-- later and pays no more; after all arcs it has those of the list kept.
 use mathlib.Core.Path.{_≡_, refl, sym, ap, subst, _∙_}
 use mathlib.Core.Logic.{_≢_, inl, inr}
 use mathlib.Core.List.{List, [], _∷_, _++_, List·Memᴰ·head as here, Memᴰ·append-left, Memᴰ·append-right}
@@ -10,6 +11,7 @@ use lib.Seq.{take-suc, take-all}
 use Rattle.lists.specs.Lists.{_∈_, tail}
 use Rattle.lists.specs.Places.{no-length}
 use Rattle.lists.specs.Members.{none, append-cases, cons-cases}
+use Rattle.results.specs.Best.{ByThen, by-lower}
 use Rattle.results.specs.Picks.{lead}
 use Rattle.connections.specs.Connections.{Transfer, Net, Connection, direct, onward, Feasible, ready, arrival}
 use Rattle.connections.specs.Connections.{penalty, stations}
@@ -21,12 +23,8 @@ use Rattle.stores.specs.Words.{readable, keptList}
 use Rattle.stores.specs.KeptLaws.{kept-exactly}
 use Rattle.query_minutes.specs.Minutes.{noPoints, blank}
 use Rattle.query_minutes.specs.Noted.{getD-any}
-use Rattle.query_costs.specs.Lowered.{Lowered}
+use Rattle.query_costs.specs.Lowered.{kept, Lowered}
 use Rattle.query_rows.specs.Rowed.{At, LeastKept, Bounds}
-
-pub arrives-in-time : (n : Net) → Sound n → (x u b : ℕ) (c : Connection) → Feasible n x u b c → arrival c < 2880
-arrives-in-time n ok x u b (direct r) f = omega (arith, ok .bounded r (f .0 .listed))
-arrives-in-time n ok x u b (onward r z c) f = arrives-in-time n ok (z .to) (ready r z) b c (f .2)
 
 -- it ends at the last of its stations
 pub ends-at : (n : Net) (x u b : ℕ) (c : Connection) (q : List ℕ) (y : ℕ) → Feasible n x u b c
@@ -64,7 +62,7 @@ module _ (n : Net) (ok : Sound n) (s : List ℕ) (a u b : ℕ) where
     pub long : length w ≡ 2880
     pub attained : (m : ℕ) → m < 2880 → getD w m 0 < noPoints → Held k m (getD w m 0)
     pub low : (c : Connection) → Feasible n a u b c → stations c ∈ take k (readable s)
-        → getD w (arrival c) 0 ≤ penalty c
+        → ByThen (kept w) (arrival c) (penalty c)
 
   getD-blank : (k m : ℕ) → m < k → getD (replicate k noPoints) m 0 ≡ noPoints
   getD-blank zero m h = absurd (omega arith)
@@ -111,6 +109,18 @@ module _ (n : Net) (ok : Sound n) (s : List ℕ) (a u b : ℕ) where
               (λ z. absurd (other (ends-at n a u b c q y f (z ∙ e))));
         }
 
+    -- neither has one that was followed already
+    pub collected-again : this ∈ take k (readable s) → Collected (suc k) w
+    collected-again again =
+        record {
+          long = so-far .long;
+          attained = λ m h g. keep m (getD w m 0) (so-far .attained m h g);
+          low =
+              λ c f i.
+              sequence-cases s k inside (stations c) i (so-far .low c f)
+              (λ z. so-far .low c f (subst (λ q. q ∈ take k (readable s)) (sym z) again));
+        }
+
     module _ (rev : List Transfer) (e : this ≡ readBack rev (b ∷ [])) (new : List ℕ) (l : Lowered n a u rev b w new)
       where
         -- within the array what is read past its end does not matter
@@ -148,23 +158,14 @@ module _ (n : Net) (ok : Sound n) (s : List ℕ) (a u b : ℕ) where
         collected-more = record { long = l .long ∙ so-far .long; attained = attained; low = low }
           where
             low : (c : Connection) → Feasible n a u b c → stations c ∈ take (suc k) (readable s)
-                → getD new (arrival c) 0 ≤ penalty c
+                → ByThen (kept new) (arrival c) (penalty c)
             low c f i =
-                let h = arrives-in-time n ok a u b c f in
                 sequence-cases s k inside (stations c) i
+                (λ z. by-lower (kept w) (kept new) (l .lower) (arrival c) (penalty c) (so-far .low c f z))
                 (λ z.
-                omega (
-                  arith,
-                  l .lower (arrival c),
-                  before-is (arrival c) h,
-                  after-is (arrival c) h,
-                  so-far .low c f z,
-                ))
-                (λ z.
-                let ends =
-                sequence-ends n a u rev b (arrival c) (penalty c) .1
-                (record { connection = c; feasible = f; sequence = z ∙ e; arrives = refl; pays = refl }) in
-                omega (arith, l .below (arrival c) (penalty c) ends, after-is (arrival c) h))
+                l .below (arrival c) (penalty c)
+                (sequence-ends n a u rev b (arrival c) (penalty c) .1
+                (record { connection = c; feasible = f; sequence = z ∙ e; arrives = refl; pays = refl })))
 
   -- all sequences: the list kept
   pub collected-all : (k : ℕ) (w : List ℕ) → length (readable s) ≤ k → Collected k w
@@ -194,12 +195,10 @@ module _ (n : Net) (ok : Sound n) (s : List ℕ) (a u b : ℕ) where
             pays = z .pays ∙ sym same;
           }
 
-      low : (e : Connection) → e ∈ keptList n s a u b → getD w (arrival e) noPoints ≤ penalty e
+      low : (e : Connection) → e ∈ keptList n s a u b → ByThen (kept w) (arrival e) (penalty e)
       low e i =
           let z = kept-exactly n ok s a u b e .0 i in
-          let h = arrives-in-time n ok a u b e (z .feasible) in
-          let same = getD-any w (arrival e) noPoints 0 (omega (arith, h, c .long)) in
-          omega (arith, same, c .low e (z .feasible) (subst (λ l. stations e ∈ l) (sym whole) (z .held)))
+          c .low e (z .feasible) (subst (λ l. stations e ∈ l) (sym whole) (z .held))
 
   -- the bounds of those on the list
   pub kept-bounds : ((c : Connection) → Feasible n a u b c → penalty c < noPoints)

@@ -69,6 +69,13 @@ lead-points best m p i =
     let l = led-exactly noPoints best noPoints 0 (costOf m p) .0 i in
     ap (λ j. getD best j noPoints) (omega (arith, l .at)) ∙ l .is
 
+-- every earlier one has more
+pub lead-first : (best : List ℕ) (m p : ℕ) → costOf m p ∈ leads noPoints 0 best → (k : ℕ) → k < m
+    → getD best m noPoints < getD best k noPoints
+lead-first best m p i k h =
+    let l = led-exactly noPoints best noPoints 0 (costOf m p) .0 i in
+    omega (arith, l .first k (omega (arith, l .at)), lead-points best m p i)
+
 module _ (w v s : List ℕ) (a b u m p k : ℕ) (g : Granted w v s a b u) (l : Leader w s a b u m p k) where
   pub leader-few : k + 1 < 65536
   leader-few = arc-few w v s a b u g k (l .inside)
@@ -190,7 +197,8 @@ noted-named w v s best who a b u k arcs all g noted most past = record { leader 
               (z .one)
               (z .shows .listed)
               (z .shows .arrives)
-              (z .shows .pays ∙ sym (lead-points best m p i));
+              (z .shows .pays ∙ sym (lead-points best m p i))
+              (lead-first best m p i);
         }
 
 -- one minute more has its word

@@ -11,6 +11,7 @@ use lib.Dec.{ltb, eqb, ltb→lt, nltb→le}
 use lib.ListN.{length, getD, set, replicate, length-replicate}
 use lib.Seq.{getD-set-same, getD-set-other, ext-getD}
 use Rattle.lists.specs.Tests.{either}
+use Rattle.results.specs.Best.{by-lower}
 use Rattle.connections.specs.Connections.{Transfer, Net}
 use Rattle.optimality.specs.Along.{Ends}
 use Rattle.query_minutes.specs.Minutes.{noPoints, blank}
@@ -83,6 +84,14 @@ pub record Merged (k : ℕ) (mine best who best′ who′ : List ℕ) : Type 0 w
   pub at : (m : ℕ)
       → MergedAt k (getD best m noPoints) (getD who m 0) (getD mine m noPoints) (getD best′ m noPoints) (getD who′ m 0)
 
+-- no penalty is more than it was, nor than that of arc k
+module _ (k : ℕ) (mine best who best′ who′ : List ℕ) (merged : Merged k mine best who best′ who′) where
+  pub under-best : (m : ℕ) → getD best′ m noPoints ≤ getD best m noPoints
+  under-best m = omega (arith, merged .at m .least)
+
+  pub under-mine : (m : ℕ) → getD best′ m noPoints ≤ getD mine m noPoints
+  under-mine m = omega (arith, merged .at m .least)
+
 -- arc k reaches no minute before `from`, nor `to` and later ones
 pub record Outside (from to : ℕ) (mine : List ℕ) : Type 0 where
   pub early : (m : ℕ) → m < from → getD mine m noPoints ≡ noPoints
@@ -129,9 +138,15 @@ module _ (k : ℕ) (mine best who best′ who′ : List ℕ) (bound : Bound best
   lowered-merged n a t rev b long l =
       record {
         long = long;
-        lower = λ m. omega (arith, merged .at m .least);
+        lower = under-best k mine best who best′ who′ merged;
         stems = stems;
-        below = λ m p e. omega (arith, merged .at m .least, l .below m p e);
+        below =
+            λ m p e.
+            by-lower (λ i. getD mine i noPoints) (λ i. getD best′ i noPoints)
+            (under-mine k mine best who best′ who′ merged)
+            m
+            p
+            (l .below m p e);
       }
     where
       stems : (m : ℕ)

@@ -10,13 +10,14 @@ use lib.ListN.{length, getD, List·getD-eq-default}
 use Rattle.lists.specs.Lists.{_∈_, before, tail}
 use Rattle.lists.specs.Members.{none, cons-cases}
 use Rattle.results.specs.Results.{Cost, pair, row, Undominated, Picked, Climbs}
-use Rattle.results.specs.Best.{Has, LeastPoints, Leads, leads-exactly}
+use Rattle.results.specs.Best.{ByThen, Has, LeastPoints, Leads, leads-exactly}
 use Rattle.results.specs.Picks.{lead, undominated-cost}
 use Rattle.results.specs.Answered.{result-is}
 use Rattle.connections.specs.Connections.{Connection, arrival, duration, penalty, cost}
 use Rattle.connections.specs.Planner.{tieKey, measure, rowsOf}
 use Rattle.query_minutes.specs.Minutes.{noPoints, leads}
 use Rattle.query_minutes.specs.Noted.{Led, led-exactly, Rises, leads-rise}
+use Rattle.query_costs.specs.Lowered.{kept}
 
 -- for a query at minute u, over the list d
 module _ (u : ℕ) (d : List Connection) where
@@ -32,10 +33,11 @@ module _ (u : ℕ) (d : List Connection) where
     pub arrives : arrival one ≡ m
     pub pays : penalty one ≡ p
 
-  -- w has for each minute the least penalty of those that arrive then
+  -- w has for minutes the penalty of one who arrives then; for each of the list there is one that arrives no later and
+  -- costs no more
   pub record LeastKept (w : List ℕ) : Type 0 where
     pub attained : (m : ℕ) → getD w m noPoints < noPoints → At m (getD w m noPoints)
-    pub low : (c : Connection) → c ∈ d → getD w (arrival c) noPoints ≤ penalty c
+    pub low : (c : Connection) → c ∈ d → ByThen (kept w) (arrival c) (penalty c)
 
   -- what is shown for an arrival minute and a penalty: of those of that cost the first by the rule
   pub record Shows (c : Cost) (one : Connection) : Type 0 where
@@ -73,10 +75,12 @@ module _ (u : ℕ) (d : List Connection) where
             let a = least .attained (u + e) h in
             record { one = a .one; listed = a .listed; minutes = omega (arith, a .arrives); points = a .pays }
 
-        below : (c : Connection) → c ∈ d → best (duration u c) ≤ penalty c
+        below : (c : Connection) → c ∈ d → ByThen best (duration u c) (penalty c)
         below c i =
-            let at : u + (arrival c - u) ≡ arrival c = omega (arith, bounds c i .from) in
-            rw at (least .low c i)
+            let k = least .low c i in
+            let from = at-from (k .minute) _ (least .attained (k .minute) (omega (arith, k .low, bounds c i .small))) in
+            let at : u + (k .minute - u) ≡ k .minute = omega (arith, from) in
+            record { minute = k .minute - u; until = omega (arith, k .until); low = rw at (k .low) }
 
     -- a cost leads exactly if the array has it below all that are earlier; before minute u no one arrives
     pub led-leads : (c : Cost) → c ∈ leads noPoints 0 w

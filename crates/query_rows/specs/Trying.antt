@@ -2,6 +2,7 @@
 -- along the next arc in another.
 use mathlib.Core.Path.{_≡_, refl, sym, ap, subst, _∙_}
 use mathlib.Core.Bool.{Bool, true, false, not, cond}
+use mathlib.Core.Logic.{inl, inr}
 use mathlib.Core.List.{List}
 use Prim.Native.Nat.{ℕ, suc, _+_, _*_, _≤_, _<_}
 use native.Mathlib.Numerals.{add-one}
@@ -11,7 +12,7 @@ use lib.Dec.{T}
 use lib.ListN.{length, take}
 use lib.Seq.{length-take-le}
 use Rattle.words.specs.Put.{put, take-put}
-use Rattle.lists.specs.Lists.{before}
+use Rattle.lists.specs.Lists.{_∈_, before}
 use Rattle.timetable.specs.Words.{timetableOf}
 use Rattle.results.specs.Results.{Cost}
 use Rattle.connections.specs.Connections.{Net, net, Connection, stations}
@@ -20,9 +21,10 @@ use Rattle.connections.specs.Sound.{Sound}
 use Rattle.stores.specs.Words.{readable}
 use Rattle.query_store.specs.Entries.{arcCount, arcTarget, arcBefore}
 use Rattle.query_store.specs.Paths.{nodePath, arcPath, arc-path, length-readable}
+use Rattle.query_store.specs.Repeats.{Idle, repeated-in}
 use Rattle.query_rows.specs.Keys.{keyWords, key-is}
 use Rattle.query_rows.specs.Won.{By, Own, Won, None, none-first}
-use Rattle.query_rows.specs.Won.{none-more, won-skip, won-new, won-better, won-keep}
+use Rattle.query_rows.specs.Won.{none-more, none-again, won-skip, won-again, won-new, won-better, won-keep}
 use Rattle.query_rows.specs.Won.{none-elsewhere}
 use Rattle.query_rows.specs.Granted.{costOf, Holds}
 use Rattle.query_rows.specs.declared.Winner.{Winner}
@@ -38,8 +40,9 @@ in-time x s e = s .timely (not-false (x .found) e)
 pub first-sized : Sized (record { found = false; arc = 0; depart = 0; rides = 0 })
 first-sized = record { few = omega arith; timely = λ e. omega arith }
 
-pub target-of : (s : List ℕ) (k b t : ℕ) → t ≡ arcTarget s k → t ≡ b → arcTarget s k ≡ b
-target-of s k b t e f = sym e ∙ f
+pub counted-target : (s : List ℕ) (k b : ℕ) (r : Bool) → (r ≡ true → arcTarget s k ≡ b) → not r ≡ false
+    → arcTarget s k ≡ b
+counted-target s k b r so e = so (not-false r e)
 
 -- f goes before the winner so far, or is the first
 unfoldable pub winsTest : (f : Winner) (tried : List ℕ) (x : Winner) (shown : List ℕ) → Bool
@@ -142,6 +145,25 @@ module _ (w s : List ℕ) (a b u m p : ℕ) where
                   by = z .by;
                   holds = z .holds;
                   won = λ ok. won-skip n ok s a u b c k inside (z .one) (z .won ok) (gone ok);
+                };
+          })
+
+      repeated : arcPath s k ∈ take k (readable s) → Tried (k + 1) x shown
+      unfolding arcPath
+      repeated again =
+          next x shown
+          (record {
+            none = λ f ok. none-again n ok s a u b c k inside again (so-far .none f ok);
+            won =
+                λ f.
+                let z = so-far .won f in
+                record {
+                  inside = z .inside;
+                  target = z .target;
+                  one = z .one;
+                  by = z .by;
+                  holds = z .holds;
+                  won = λ ok. won-again n ok s a u b c k inside again (z .one) (z .won ok);
                 };
           })
 
@@ -277,6 +299,12 @@ module _ (w s : List ℕ) (a b u m p : ℕ) where
               pub tried-turn : Tried (k + 1) f new
               tried-turn = turn (f .found) (x .found) refl refl
 
-    pub tried-skip : (arcs t : ℕ) → arcs ≡ arcCount s → t ≡ arcTarget s k → k < arcs → (t ≡ b → ⊥)
+    -- an arc that adds nothing
+    pub tried-idle : (arcs : ℕ) → arcs ≡ arcCount s → (r : Bool) → (r ≡ false → Idle s b k) → not r ≡ true → k < arcs
         → Tried (k + 1) x shown
-    tried-skip arcs t all target more other = elsewhere (omega arith) (λ e. other (target ∙ e))
+    unfolding Idle arcPath
+    tried-idle arcs all r idle e more =
+        elim (idle (not-true r e)) [
+          | inl other ↦ elsewhere (omega arith) other
+          | inr again ↦ repeated (omega arith) (repeated-in s k again (omega arith))
+        ]

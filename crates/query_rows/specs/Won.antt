@@ -12,6 +12,7 @@ use Rattle.lists.specs.Lists.{_∈_, before}
 use Rattle.lists.specs.Order.{before-trans, not-before-trans}
 use Rattle.lists.specs.Members.{none, append-cases, cons-cases}
 use Rattle.results.specs.Results.{Cost}
+use Rattle.results.specs.Best.{ByThen}
 use Rattle.connections.specs.Connections.{Net, Connection, Feasible, arrival, penalty, stations}
 use Rattle.connections.specs.Planner.{tieKey}
 use Rattle.connections.specs.Sound.{Sound}
@@ -20,6 +21,7 @@ use Rattle.stores.specs.Words.{readable, keptList}
 use Rattle.stores.specs.KeptLaws.{kept-exactly}
 use Rattle.query_minutes.specs.Minutes.{noPoints, leads}
 use Rattle.query_minutes.specs.Noted.{Led, led-exactly}
+use Rattle.query_costs.specs.Lowered.{kept}
 use Rattle.query_rows.specs.Rowed.{LeastKept, Shows}
 use Rattle.query_rows.specs.Collected.{ends-at}
 
@@ -99,6 +101,25 @@ module _ (n : Net) (ok : Sound n) (s : List ℕ) (a u b : ℕ) (c : Cost) where
           first = λ e o. cases e o (w .first e) (λ z. absurd (empty e z));
         }
 
+    -- or those that do were found already
+    module _ (again : this ∈ take k (readable s)) where
+      back : (e : Connection) → Of (suc k) e → Of k e
+      back e o =
+          cases e o (λ z. z)
+          (λ z.
+          record {
+            feasible = z .feasible;
+            held = subst (λ q. q ∈ take k (readable s)) (sym (z .is)) again;
+            arrives = z .arrives;
+            pays = z .pays;
+          })
+
+      pub none-again : None k → None (suc k)
+      none-again gone e o = gone e (back e o)
+
+      pub won-again : (one : Connection) → Won k one → Won (suc k) one
+      won-again one w = record { of = earlier one (w .of); first = λ e o. w .first e (back e o) }
+
     -- the first that is found, one that goes before, and one that does not
     pub won-new : (one : Connection) → None k → Own this one → Won (suc k) one
     won-new one gone w =
@@ -175,30 +196,34 @@ module _ (n : Net) (ok : Sound n) (s : List ℕ) (a u b : ℕ) (c : Cost) where
             feasible = f .feasible;
             is = f .is;
             arrives = at;
-            pays = omega (arith, low, f .cheap, l .is, place, ap (λ z. getD w z noPoints) at);
+            pays = omega (arith, low .low, f .cheap, place, ap (kept w) same);
           }
         where
           l : Led noPoints noPoints 0 w c
           l = led-exactly noPoints w noPoints 0 c .0 i
 
-          place : getD w (c .minutes) noPoints ≡ c .points
-          place = ap (λ z. getD w z noPoints) (omega (arith, l .at)) ∙ l .is
+          place : kept w (c .minutes) ≡ c .points
+          place = ap (kept w) (omega (arith, l .at)) ∙ l .is
 
           listed : e ∈ keptList n s a u b
           listed =
               kept-exactly n ok s a u b e .1
               (record { feasible = f .feasible; held = subst (λ z. z ∈ readable s) (sym (f .is)) m })
 
-          low : getD w (arrival e) noPoints ≤ penalty e
+          low : ByThen (kept w) (arrival e) (penalty e)
           low = least .low e listed
 
-          at : arrival e ≡ c .minutes
-          at =
-              let late = by-contra (c .minutes) (arrival e) early in
-              omega (arith, f .timely, late)
+          -- nothing as cheap is kept for an earlier minute
+          same : low .minute ≡ c .minutes
+          same =
+              let late = by-contra (c .minutes) (low .minute) early in
+              omega (arith, f .timely, low .until, late)
             where
-              early : arrival e < c .minutes → ⊥
-              early h = omega (arith, l .first (arrival e) (omega (arith, l .at)), low, f .cheap)
+              early : low .minute < c .minutes → ⊥
+              early h = omega (arith, l .first (low .minute) (omega (arith, l .at)), low .low, f .cheap)
+
+          at : arrival e ≡ c .minutes
+          at = omega (arith, f .timely, low .until, same)
 
       by-fits : (q : List ℕ) (e : Connection) → By q e → Fits n b (c .minutes) q a u (c .points) e
       by-fits q e o =

@@ -1,10 +1,10 @@
 // The rows of a query from a store. All arcs of the target are gone through first: for each minute of arrival the
 // least penalty of their connections, and the arc that alone has it (`note_arcs`). The minutes whose penalty is
-// below those of all earlier ones are the rows. Each row's arc is named and the row is measured by the arc's number
-// of rides (`measure`), and only then are its rides looked for and written (`write_rows`): an answer that does not
-// fit is refused before a word of it is written, and there is no room to keep the rides of all rows until it is
-// known to fit. Where several arcs tie, naming the arc means trying them all, so that the connection of such a row
-// is found twice.
+// below those of all earlier ones are the rows, so that a connection may be left out that arrives later than another
+// and costs no less. Each row's arc is named and the row is measured by the arc's number of rides (`measure`), and
+// only then are its rides looked for and written (`write_rows`): an answer that does not fit is refused before a word
+// of it is written, and there is no room to keep the rides of all rows until it is known to fit. Where several arcs
+// tie, naming the arc means trying them all, so that the connection of such a row is found twice.
 ghost use mathlib.Core.Path.{_≡_};
 ghost use mathlib.Core.List.{_∷_};
 ghost use Prim.Native.Nat.{_+_, _-_, _*_, _≤_, _<_, min};
@@ -223,8 +223,8 @@ fn note_arc(
     merge(k, reached.from, reached.to, mine, best, who);
 }
 
-// Notes the least penalty for each minute of arrival, of all connections whose pattern is stored, and the arc that
-// alone has it.
+// Notes the least penalty for each minute of arrival, of the connections whose pattern is stored, and the arc that
+// alone has it. One that arrives later than another and costs no less may be left out.
 pub fn note_arcs(
     words: &[u16],
     lines: &[u16],
@@ -236,6 +236,7 @@ pub fn note_arcs(
     who: &mut [u16],
 )
     requires { ⌜ Granted (now words) (now lines) (now store) from to minute
+        × (now best ≡ blank)
         × (length (now best) ≡ 2880)
         × (now who ≡ unnamed)
         × (length (now who) ≡ 2880) ⌝ }
@@ -244,14 +245,13 @@ pub fn note_arcs(
         × (length (now (best .exit)) ≡ 2880)
         × (length (now (who .exit)) ≡ 2880) ⌝ }
 {
-    query_minutes::fill_blank(best);
     let mut mine = [NO_POINTS; MINUTES];
     let arcs = query_store::arc_count(store);
     let mut k = 0;
     while k < arcs {
         let arc = k;
         k += 1;
-        if query_store::arc_target(store, arc) != to {
+        if !query_store::counts(store, arc, to) {
             continue;
         }
         note_arc(
@@ -282,13 +282,15 @@ fn find_arc(
     arrive: usize,
     points: Points,
     tried: &mut [u32],
+    work: &mut [u32],
 ) -> Winner
     requires { ⌜ Granted (now words) (now lines) (now store) from to minute
         × Leading (now words) (now store) from to minute arrive (points .0)
         × (arrive < 2880)
         × (k < arcCount (now store))
         × (arcTarget (now store) k ≡ to)
-        × (length (now tried) ≡ 192) ⌝ }
+        × (length (now tried) ≡ 192)
+        × (2880 ≤ length (now work)) ⌝ }
     ensures { λ r. ⌜ ArcTried
         (now (words .entry))
         (now (store .entry))
@@ -301,7 +303,8 @@ fn find_arc(
         r
         (now (tried .exit))
         × Sized r ⌝ }
-    ensures { λ _. ⌜ length (now (tried .exit)) ≡ length (now (tried .entry)) ⌝ }
+    ensures { λ _. ⌜ (length (now (tried .exit)) ≡ length (now (tried .entry)))
+        × (length (now (work .exit)) ≡ length (now (work .entry))) ⌝ }
 {
     let mut path = [0u16; STATIONS_MOST];
     let r = read_arc(store, k, &mut path);
@@ -315,6 +318,7 @@ fn find_arc(
         arrive,
         points,
         tried,
+        work,
     );
     Winner {
         found: f.found,
@@ -352,6 +356,7 @@ fn try_arc(
     x: Winner,
     tried: &mut [u32],
     shown: &mut [u32],
+    work: &mut [u32],
 ) -> Winner
     requires { ⌜ Granted (now words) (now lines) (now store) from to minute
         × Leading (now words) (now store) from to minute arrive (points .0)
@@ -361,7 +366,8 @@ fn try_arc(
         × Sized x
         × Tried (now words) (now store) from to minute arrive (points .0) k x (now shown)
         × (length (now tried) ≡ 192)
-        × (length (now shown) ≡ 192) ⌝ }
+        × (length (now shown) ≡ 192)
+        × (2880 ≤ length (now work)) ⌝ }
     ensures { λ r. ⌜ Tried
         (now (words .entry))
         (now (store .entry))
@@ -375,7 +381,8 @@ fn try_arc(
         (now (shown .exit))
         × Sized r ⌝ }
     ensures { λ _. ⌜ (length (now (tried .exit)) ≡ length (now (tried .entry)))
-        × (length (now (shown .exit)) ≡ length (now (shown .entry))) ⌝ }
+        × (length (now (shown .exit)) ≡ length (now (shown .entry)))
+        × (length (now (work .exit)) ≡ length (now (work .entry))) ⌝ }
 {
     let f = find_arc(
         words,
@@ -388,6 +395,7 @@ fn try_arc(
         arrive,
         points,
         tried,
+        work,
     );
     if !wins(f, tried, x, shown) {
         return x;
@@ -406,11 +414,14 @@ fn choose(
     minute: usize,
     arrive: usize,
     points: Points,
+    work: &mut [u32],
 ) -> usize
     requires { ⌜ Granted (now words) (now lines) (now store) from to minute
         × Leading (now words) (now store) from to minute arrive (points .0)
-        × (arrive < 2880) ⌝ }
+        × (arrive < 2880)
+        × (2880 ≤ length (now work)) ⌝ }
     ensures { λ r. ⌜ Leader (now (words .entry)) (now (store .entry)) from to minute arrive (points .0) r ⌝ }
+    ensures { λ _. ⌜ length (now (work .exit)) ≡ length (now (work .entry)) ⌝ }
 {
     let mut tried = [0u32; NUMBERS_MOST];
     let mut shown = [0u32; NUMBERS_MOST];
@@ -425,7 +436,7 @@ fn choose(
     while k < arcs {
         let arc = k;
         k += 1;
-        if query_store::arc_target(store, arc) != to {
+        if !query_store::counts(store, arc, to) {
             continue;
         }
         x = try_arc(
@@ -441,6 +452,7 @@ fn choose(
             x,
             &mut tried,
             &mut shown,
+            work,
         );
     }
     x.arc
@@ -458,17 +470,20 @@ fn leading_arc(
     arrive: usize,
     points: Points,
     named: usize,
+    work: &mut [u32],
 ) -> usize
     requires { ⌜ Granted (now words) (now lines) (now store) from to minute
         × Leading (now words) (now store) from to minute arrive (points .0)
         × Named (now words) (now store) from to minute arrive (points .0) named
         × (named < 65536)
-        × (arrive < 2880) ⌝ }
+        × (arrive < 2880)
+        × (2880 ≤ length (now work)) ⌝ }
     ensures { λ r. ⌜ Leader (now (words .entry)) (now (store .entry)) from to minute arrive (points .0) r
         × (r + 1 < 65536) ⌝ }
+    ensures { λ _. ⌜ length (now (work .exit)) ≡ length (now (work .entry)) ⌝ }
 {
     if named == 0 {
-        return choose(words, lines, store, from, to, minute, arrive, points);
+        return choose(words, lines, store, from, to, minute, arrive, points, work);
     }
     named - 1
 }
@@ -495,12 +510,14 @@ fn name_arc(
     arrive: usize,
     points: Points,
     who: &mut [u16],
+    work: &mut [u32],
 ) -> usize
     requires { ⌜ Granted (now words) (now lines) (now store) from to minute
         × Leading (now words) (now store) from to minute arrive (points .0)
         × Named (now words) (now store) from to minute arrive (points .0) (getD (now who) arrive 0)
         × (arrive < 2880)
-        × (length (now who) ≡ 2880) ⌝ }
+        × (length (now who) ≡ 2880)
+        × (2880 ≤ length (now work)) ⌝ }
     ensures { λ r. ⌜ NamedRow
         (now (words .entry))
         (now (store .entry))
@@ -513,10 +530,22 @@ fn name_arc(
         (now (who .entry))
         (now (who .exit))
         × (r ≤ 195) ⌝ }
-    ensures { λ _. ⌜ length (now (who .exit)) ≡ length (now (who .entry)) ⌝ }
+    ensures { λ _. ⌜ (length (now (who .exit)) ≡ length (now (who .entry)))
+        × (length (now (work .exit)) ≡ length (now (work .entry))) ⌝ }
 {
     let named = words::word(who, arrive) as usize;
-    let arc = leading_arc(words, lines, store, from, to, minute, arrive, points, named);
+    let arc = leading_arc(
+        words,
+        lines,
+        store,
+        from,
+        to,
+        minute,
+        arrive,
+        points,
+        named,
+        work,
+    );
     who[arrive] = (arc + 1) as u16;
     row_length(store, arc)
 }
@@ -531,21 +560,25 @@ pub fn measure(
     minute: usize,
     best: &[u32],
     who: &mut [u16],
+    work: &mut [u32],
 ) -> usize
     requires { ⌜ Granted (now words) (now lines) (now store) from to minute
         × LeastKept minute (kept (now words) (now store) from to minute) (now best)
         × AllNamed (now words) (now store) from to minute (now best) (now who)
         × (length (now best) ≡ 2880)
-        × (length (now who) ≡ 2880) ⌝ }
+        × (length (now who) ≡ 2880)
+        × (2880 ≤ length (now work)) ⌝ }
     ensures { λ r. ⌜ (r ≡ length (rowWords (rows (now (words .entry)) (now (store .entry)) from to minute)))
         × AllLed (now (words .entry)) (now (store .entry)) from to minute (now (best .entry)) (now (who .exit)) ⌝ }
-    ensures { λ _. ⌜ length (now (who .exit)) ≡ length (now (who .entry)) ⌝ }
+    ensures { λ _. ⌜ (length (now (who .exit)) ≡ length (now (who .entry)))
+        × (length (now (work .exit)) ≡ length (now (work .entry))) ⌝ }
 {
+    let end = query_minutes::rows_end(best);
     let mut count = 0;
     let mut least = Points(NO_POINTS);
     // No connection arrives before the minute of the query.
     let mut m = minute;
-    while m < MINUTES {
+    while m < end {
         let arrive = m;
         let points = query_minutes::points_at(best, m);
         m += 1;
@@ -553,7 +586,18 @@ pub fn measure(
             continue;
         }
         least = points;
-        count += name_arc(words, lines, store, from, to, minute, arrive, points, who);
+        count += name_arc(
+            words,
+            lines,
+            store,
+            from,
+            to,
+            minute,
+            arrive,
+            points,
+            who,
+            work,
+        );
     }
     count
 }
@@ -586,12 +630,14 @@ fn find_shown(
     arrive: usize,
     points: Points,
     shown: &mut [u32],
+    work: &mut [u32],
 ) -> Winner
     requires { ⌜ Granted (now words) (now lines) (now store) from to minute
         × Leading (now words) (now store) from to minute arrive (points .0)
         × Leader (now words) (now store) from to minute arrive (points .0) k
         × (arrive < 2880)
-        × (length (now shown) ≡ 192) ⌝ }
+        × (length (now shown) ≡ 192)
+        × (2880 ≤ length (now work)) ⌝ }
     ensures { λ r. ⌜ Winning
         (now (words .entry))
         (now (store .entry))
@@ -602,6 +648,7 @@ fn find_shown(
         (points .0)
         r
         (now (shown .exit)) ⌝ }
+    ensures { λ _. ⌜ length (now (work .exit)) ≡ length (now (work .entry)) ⌝ }
 {
     find_arc(
         words,
@@ -614,6 +661,7 @@ fn find_shown(
         arrive,
         points,
         shown,
+        work,
     )
 }
 
@@ -631,6 +679,7 @@ fn write_row(
     points: Points,
     answer: &mut [u32],
     at: usize,
+    work: &mut [u32],
 ) -> usize
     requires { ⌜ Granted (now words) (now lines) (now store) from to minute
         × Leading (now words) (now store) from to minute arrive (points .0)
@@ -638,6 +687,7 @@ fn write_row(
         × (1 ≤ getD (now who) arrive 0)
         × (arrive < 2880)
         × (length (now who) ≡ 2880)
+        × (2880 ≤ length (now work))
         × Room (now words) (now store) from to minute arrive (points .0) at (now answer) ⌝ }
     ensures { λ r. ⌜ Written
         (now (words .entry))
@@ -651,7 +701,8 @@ fn write_row(
         r
         (now (answer .entry))
         (now (answer .exit)) ⌝ }
-    ensures { λ r. ⌜ length (now (answer .exit)) ≡ length (now (answer .entry)) ⌝ }
+    ensures { λ r. ⌜ (length (now (answer .exit)) ≡ length (now (answer .entry)))
+        × (length (now (work .exit)) ≡ length (now (work .entry))) ⌝ }
 {
     let k = words::word(who, arrive) as usize - 1;
     let mut shown = [0u32; NUMBERS_MOST];
@@ -666,6 +717,7 @@ fn write_row(
         arrive,
         points,
         &mut shown,
+        work,
     );
     let cost = Cost {
         minutes: query_minutes::minutes_between(minute, arrive),
@@ -686,22 +738,25 @@ pub fn write_rows(
     best: &[u32],
     who: &[u16],
     answer: &mut [u32],
+    work: &mut [u32],
 )
     requires { ⌜ Granted (now words) (now lines) (now store) from to minute
         × LeastKept minute (kept (now words) (now store) from to minute) (now best)
         × AllLed (now words) (now store) from to minute (now best) (now who)
         × (length (now best) ≡ 2880)
         × (length (now who) ≡ 2880)
+        × (2880 ≤ length (now work))
         × (length (rowWords (rows (now words) (now store) from to minute)) ≤ length (now answer)) ⌝ }
     ensures { λ _. ⌜ now (answer .exit)
         ≡ put 0 (rowWords (rows (now (words .entry)) (now (store .entry)) from to minute)) (now (answer .entry)) ⌝ }
     ensures { λ _. ⌜ length (now (answer .exit)) ≡ length (now (answer .entry)) ⌝ }
 {
+    let end = query_minutes::rows_end(best);
     let mut here = 0;
     let mut least = Points(NO_POINTS);
     // No connection arrives before the minute of the query.
     let mut m = minute;
-    while m < MINUTES {
+    while m < end {
         let arrive = m;
         let points = query_minutes::points_at(best, m);
         m += 1;
@@ -721,6 +776,7 @@ pub fn write_rows(
             points,
             answer,
             here,
+            work,
         );
     }
 }

@@ -2,6 +2,7 @@ pub mod Showing
 pub mod Rests
 pub mod Settling
 pub mod Spans
+pub mod Layers
 pub mod Stepping
 pub mod Prices
 pub mod Foremost

@@ -1,5 +1,6 @@
 // The connection of one stored pattern that is shown for a row: what is left after each ride, from the target back, and
 // then ride by ride the first that can be taken.
+mod layers;
 mod rests;
 mod rides;
 
@@ -9,6 +10,7 @@ ghost use lib.ListN.{length};
 ghost use Rattle.timetable.specs.Words.{stationCount};
 ghost use Rattle.query_shown.specs.Showing.{Given, FoundAt};
 ghost use Rattle.query_shown.specs.Spans.{Spans};
+use crate::layers::Kept;
 use query_minutes::MINUTES;
 use query_minutes::NO_POINTS;
 use query_rides::Change;
@@ -54,6 +56,7 @@ fn first_in_time(
     v: usize,
     p: Points,
     rides: &mut [u32],
+    work: &mut [u32],
     z: &mut [u32],
     old: &mut [u32],
 ) -> First
@@ -62,31 +65,22 @@ fn first_in_time(
         × (1 ≤ source)
         × (source ≤ stationCount (now words))
         × (length (now rides) ≡ 192)
+        × (2880 ≤ length (now work))
         × (minute ≤ v)
         × Spans minute v (now z)
         × Spans minute v (now old) ⌝ }
     ensures { λ f. ⌜ FoundAt (now (words .entry)) (now (path .entry)) r v source minute (p .0) f (now (rides .exit)) ⌝ }
-    ensures { λ _. ⌜ length (now (rides .exit)) ≡ length (now (rides .entry)) ⌝ }
+    ensures { λ _. ⌜ (length (now (rides .exit)) ≡ length (now (rides .entry)))
+        × (length (now (work .exit)) ≡ length (now (work .entry))) ⌝ }
 {
     let start = At {
         alighted: source,
         arrive: minute,
         left: p,
     };
-    let head = rides::ride_on(
-        words,
-        lines,
-        minute,
-        path,
-        0,
-        r,
-        v,
-        start,
-        true,
-        rides,
-        z,
-        old,
-    );
+    let none = Kept { low: 0, high: 0 };
+    let mut kept = layers::rest(words, lines, minute, path, 0, r, v, none, work, z, old);
+    let head = rides::ride_on(words, lines, minute, path, 0, r, v, start, true, rides, z);
     if !head.found {
         return First {
             found: false,
@@ -97,20 +91,8 @@ fn first_in_time(
     let mut at = head.at;
     let mut i = 1;
     while i < r {
-        let next = rides::ride_on(
-            words,
-            lines,
-            minute,
-            path,
-            i,
-            r,
-            v,
-            at,
-            false,
-            rides,
-            z,
-            old,
-        );
+        kept = layers::rest(words, lines, minute, path, i, r, v, kept, work, z, old);
+        let next = rides::ride_on(words, lines, minute, path, i, r, v, at, false, rides, z);
         at = next.at;
         i += 1;
     }
@@ -131,14 +113,17 @@ pub fn first_of_pattern(
     v: usize,
     p: Points,
     rides: &mut [u32],
+    work: &mut [u32],
 ) -> First
     requires { ⌜ Given (now words) (now lines) (now path) r v
         × (1 ≤ r)
         × (1 ≤ source)
         × (source ≤ stationCount (now words))
-        × (length (now rides) ≡ 192) ⌝ }
+        × (length (now rides) ≡ 192)
+        × (2880 ≤ length (now work)) ⌝ }
     ensures { λ f. ⌜ FoundAt (now (words .entry)) (now (path .entry)) r v source minute (p .0) f (now (rides .exit)) ⌝ }
-    ensures { λ _. ⌜ length (now (rides .exit)) ≡ length (now (rides .entry)) ⌝ }
+    ensures { λ _. ⌜ (length (now (rides .exit)) ≡ length (now (rides .entry)))
+        × (length (now (work .exit)) ≡ length (now (work .entry))) ⌝ }
 {
     if v < minute {
         return First {
@@ -158,6 +143,7 @@ pub fn first_of_pattern(
         v,
         p,
         rides,
+        work,
         &mut z,
         &mut old,
     )

@@ -10,7 +10,6 @@ ghost use Rattle.timetable.specs.Words.{stationCount, isTimetable};
 ghost use Rattle.query_places.specs.Candidates.{nearRead};
 ghost use Rattle.query_minutes.specs.Minutes.{noPoints, noteAll, blank, lowered};
 ghost use Rattle.query_shown.specs.Showing.{Given};
-ghost use Rattle.query_shown.specs.Rests.{RestsAt};
 ghost use Rattle.query_shown.specs.Settling.{settledFrom};
 ghost use Rattle.query_shown.specs.Spans.{Spans, Stored, Arrived};
 ghost use Rattle.query_shown.specs.Stepping.{catches, ridesTo, caughtWay};
@@ -205,7 +204,7 @@ fn gather_back(
 }
 
 // From what is left after ride j along a path to what is left after the one before it.
-fn step(
+pub fn step(
     words: &[u16],
     lines: &[u16],
     minute: usize,
@@ -234,41 +233,10 @@ fn step(
 }
 
 // After the last ride nothing is left to pay, by minute v.
-fn fill_last(z: &mut [u32], minute: usize, v: usize)
+pub fn fill_last(z: &mut [u32], minute: usize, v: usize)
     requires { ⌜ (minute ≤ v) × (v ≤ 2879) × Spans minute v (now z) ⌝ }
     ensures { λ _. ⌜ Arrived minute v (now (z .exit)) ⌝ }
     ensures { λ _. ⌜ length (now (z .exit)) ≡ length (now (z .entry)) ⌝ }
 {
     fill(z, minute, v + 1, Points(0));
-}
-
-// What is left after ride i along a path of r rides, counted from 0, for one who is to arrive at the end by minute v.
-pub fn rest(
-    words: &[u16],
-    lines: &[u16],
-    minute: usize,
-    path: &[u16],
-    i: usize,
-    r: usize,
-    v: usize,
-    z: &mut [u32],
-    old: &mut [u32],
-)
-    requires { ⌜ Given (now words) (now lines) (now path) r v
-        × (i < r)
-        × (minute ≤ v)
-        × Spans minute v (now z)
-        × Spans minute v (now old) ⌝ }
-    ensures { λ _. ⌜ RestsAt (now (words .entry)) (now (path .entry)) r v minute i (now (z .exit))
-        × Spans minute v (now (z .exit))
-        × Spans minute v (now (old .exit)) ⌝ }
-    ensures { λ _. ⌜ (length (now (z .exit)) ≡ length (now (z .entry)))
-        × (length (now (old .exit)) ≡ length (now (old .entry))) ⌝ }
-{
-    fill_last(z, minute, v);
-    let mut j = r - 1;
-    while i < j {
-        step(words, lines, minute, path, j, v, z, old);
-        j -= 1;
-    }
 }

@@ -10,7 +10,7 @@ ghost use Rattle.query_places.specs.Candidates.{nearRead};
 ghost use Rattle.query_rides.specs.Ways.{costOf, wayBetween};
 ghost use Rattle.query_shown.specs.Prices.{stepPrice, frontPrice};
 ghost use Rattle.query_shown.specs.Showing.{Given};
-ghost use Rattle.query_shown.specs.Spans.{Spans};
+ghost use Rattle.query_shown.specs.Rests.{RestsAt};
 ghost use Rattle.query_shown.specs.Heads.{lateness, headOf};
 ghost use Rattle.query_shown.specs.OnTheWay.{boardedAt, Standing, Headed, Moved, Rode};
 ghost use Rattle.query_shown.specs.Turns.{tellsOf, numbersBefore, comesBefore, tried, triedOnto, Sized};
@@ -193,7 +193,7 @@ fn boarded(path: &[u16], i: usize, first: bool, alighted: usize) -> usize
     rests::station(path, 2 * i - 1)
 }
 
-// Ride i along the path, if there is one to take, from where one is.
+// Ride i along the path, if there is one to take, from where one is; z holds what is left after it.
 fn take_ride(
     words: &[u16],
     lines: &[u16],
@@ -206,25 +206,16 @@ fn take_ride(
     first: bool,
     from: usize,
     way: Way,
-    z: &mut [u32],
-    old: &mut [u32],
+    z: &[u32],
 ) -> Ride
     requires { ⌜ Given (now words) (now lines) (now path) r v
         × (i < r)
         × Standing (now words) minute first i at
         × (from ≡ boardedAt (now path) first i (at .alighted))
         × (way ≡ wayBetween (now words) (at .alighted) from)
-        × (minute ≤ v)
-        × Spans minute v (now z)
-        × Spans minute v (now old) ⌝ }
-    ensures { λ s. ⌜ Headed (now (words .entry)) (now (path .entry)) r v first i at s
-        × Sized s
-        × Spans minute v (now (z .exit))
-        × Spans minute v (now (old .exit)) ⌝ }
-    ensures { λ _. ⌜ (length (now (z .exit)) ≡ length (now (z .entry)))
-        × (length (now (old .exit)) ≡ length (now (old .entry))) ⌝ }
+        × RestsAt (now words) (now path) r v minute i (now z) ⌝ }
+    ensures { λ s. ⌜ Headed (now (words .entry)) (now (path .entry)) r v first i at s × Sized s ⌝ }
 {
-    rests::rest(words, lines, minute, path, i, r, v, z, old);
     let left = at.left;
     let to = rests::station(path, 2 * i);
     choose(lines, from, to, at.arrive, first, way, left, z)
@@ -260,7 +251,7 @@ fn move_on(path: &[u16], i: usize, left: Points, price: Points, ride: Ride, ride
     }
 }
 
-// Takes ride i along the path, if there is one to take.
+// Takes ride i along the path, if there is one to take; z holds what is left after it.
 pub fn ride_on(
     words: &[u16],
     lines: &[u16],
@@ -272,41 +263,20 @@ pub fn ride_on(
     at: At,
     first: bool,
     rides: &mut [u32],
-    z: &mut [u32],
-    old: &mut [u32],
+    z: &[u32],
 ) -> Next
     requires { ⌜ Given (now words) (now lines) (now path) r v
         × (i < r)
         × Standing (now words) minute first i at
         × (length (now rides) ≡ 192)
-        × (minute ≤ v)
-        × Spans minute v (now z)
-        × Spans minute v (now old) ⌝ }
+        × RestsAt (now words) (now path) r v minute i (now z) ⌝ }
     ensures { λ s. ⌜ Rode (now (words .entry)) (now (path .entry)) r v first i at (now (rides .entry))
-        (now (rides .exit)) s
-        × Spans minute v (now (z .exit))
-        × Spans minute v (now (old .exit)) ⌝ }
-    ensures { λ _. ⌜ (length (now (rides .exit)) ≡ length (now (rides .entry)))
-        × (length (now (z .exit)) ≡ length (now (z .entry)))
-        × (length (now (old .exit)) ≡ length (now (old .entry))) ⌝ }
+        (now (rides .exit)) s ⌝ }
+    ensures { λ _. ⌜ length (now (rides .exit)) ≡ length (now (rides .entry)) ⌝ }
 {
     let from = boarded(path, i, first, at.alighted);
     let way = query_rides::way_between(words, at.alighted, from);
-    let ride = take_ride(
-        words,
-        lines,
-        minute,
-        path,
-        i,
-        r,
-        v,
-        at,
-        first,
-        from,
-        way,
-        z,
-        old,
-    );
+    let ride = take_ride(words, lines, minute, path, i, r, v, at, first, from, way, z);
     if ride.trip == NO_TRIP {
         return Next {
             found: false,

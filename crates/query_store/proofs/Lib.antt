@@ -1,3 +1,4 @@
 pub mod EntryLaws
 pub mod TestLaws
 pub mod ReadLaws
+pub mod RepeatLaws

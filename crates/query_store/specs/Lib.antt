@@ -1,5 +1,6 @@
 pub mod Entries
 pub mod Paths
+pub mod Repeats
 pub mod Depths
 pub mod Tests
 pub mod Made

@@ -1,6 +1,6 @@
 // Question 13: is a store well made? And the sequences of a well-made store, by number.
 ghost use mathlib.Core.Path.{_≡_};
-ghost use mathlib.Core.Bool.{true};
+ghost use mathlib.Core.Bool.{true, false};
 ghost use Prim.Native.Nat.{_+_, _*_, _≤_, _<_};
 ghost use lib.ListN.{length, take};
 ghost use Rattle.stores.specs.Words.{isStation, wellMade};
@@ -14,6 +14,7 @@ ghost use Rattle.query_store.specs.Entries.{
   arcBefore,
 };
 ghost use Rattle.query_store.specs.Paths.{nodePath, arcPath};
+ghost use Rattle.query_store.specs.Repeats.{Repeats, Idle};
 ghost use Rattle.query_store.specs.Depths.{Depths};
 ghost use Rattle.query_store.specs.Tests.{presentTest, nodesTest, arcTest, risesTest, arcsTest};
 ghost use Rattle.query_store.specs.Made.{Made};
@@ -67,7 +68,7 @@ fn node_parent(store: &[u16], v: usize) -> usize
 }
 
 // The target of arc k, counted from 0.
-pub fn arc_target(store: &[u16], k: usize) -> usize
+fn arc_target(store: &[u16], k: usize) -> usize
     requires { ⌜ (2 + 3 * nodeCount (now store) + 2 * arcCount (now store) ≤ length (now store))
         × (k < arcCount (now store)) ⌝ }
     ensures { λ r. ⌜ (r ≡ arcTarget (now (store .entry)) k) × (r < 65536) ⌝ }
@@ -76,7 +77,7 @@ pub fn arc_target(store: &[u16], k: usize) -> usize
 }
 
 // The predecessor of arc k: a node, or 0 for the root.
-pub fn arc_before(store: &[u16], k: usize) -> usize
+fn arc_before(store: &[u16], k: usize) -> usize
     requires { ⌜ (2 + 3 * nodeCount (now store) + 2 * arcCount (now store) ≤ length (now store))
         × (k < arcCount (now store)) ⌝ }
     ensures { λ r. ⌜ (r ≡ arcBefore (now (store .entry)) k) × (r < 65536) ⌝ }
@@ -223,7 +224,7 @@ pub fn is_well_made(store: &[u16], stations: usize, work: &mut [u32]) -> bool
 
 // Writes the stations of a node, for each change where one alights and where one boards, from the root's child to its
 // own, and returns how many; none for 0, the root.
-pub fn read_pattern(store: &[u16], node: usize, path: &mut [u16]) -> usize
+fn read_pattern(store: &[u16], node: usize, path: &mut [u16]) -> usize
     requires { ⌜ Made (now store) ⌝ }
     requires { ⌜ (node ≤ nodeCount (now store)) × (length (nodePath (now store) node) ≤ length (now path)) ⌝ }
     ensures { λ r. ⌜ take r (now (path .exit)) ≡ nodePath (now (store .entry)) node ⌝ }
@@ -250,4 +251,57 @@ pub fn arc_pattern(store: &[u16], k: usize, path: &mut [u16]) -> usize
     let depth = read_pattern(store, arc_before(store, k), path);
     path[depth] = arc_target(store, k) as u16;
     depth + 1
+}
+
+// Whether two nodes have the same stations, from the root to their own. Where nodes were doubled, their parents are
+// soon the same.
+fn same_stations(store: &[u16], first: usize, second: usize) -> bool
+    requires { ⌜ Made (now store) × (first ≤ nodeCount (now store)) × (second ≤ nodeCount (now store)) ⌝ }
+    ensures { λ r. ⌜ (r ≡ true → nodePath (now (store .entry)) first ≡ nodePath (now (store .entry)) second) ⌝ }
+{
+    let mut u = first;
+    let mut v = second;
+    while u != v {
+        if u == 0 {
+            return false;
+        }
+        if v == 0 {
+            return false;
+        }
+        if node_alighted(store, u) != node_alighted(store, v) {
+            return false;
+        }
+        if node_boarded(store, u) != node_boarded(store, v) {
+            return false;
+        }
+        u = node_parent(store, u);
+        v = node_parent(store, v);
+    }
+    true
+}
+
+// Whether arc k reads the sequence of the arc before it.
+fn repeats(store: &[u16], k: usize) -> bool
+    requires { ⌜ Made (now store) × (k < arcCount (now store)) ⌝ }
+    ensures { λ r. ⌜ (r ≡ true → Repeats (now (store .entry)) k) ⌝ }
+{
+    if k == 0 {
+        return false;
+    }
+    if arc_target(store, k - 1) != arc_target(store, k) {
+        return false;
+    }
+    same_stations(store, arc_before(store, k), arc_before(store, k - 1))
+}
+
+// Whether arc k counts for a target: it leads there, and does not read the sequence of the arc before it once more.
+pub fn counts(store: &[u16], k: usize, target: usize) -> bool
+    requires { ⌜ Made (now store) × (k < arcCount (now store)) ⌝ }
+    ensures { λ r. ⌜ (r ≡ true → arcTarget (now (store .entry)) k ≡ target)
+        × (r ≡ false → Idle (now (store .entry)) target k) ⌝ }
+{
+    if arc_target(store, k) != target {
+        return false;
+    }
+    !repeats(store, k)
 }

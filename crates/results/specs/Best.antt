@@ -13,6 +13,17 @@ use Rattle.results.specs.Results.{Measure, pair, over, Undominated}
 use Rattle.results.specs.Domination.{dominates-in, dominates-out}
 use Rattle.results.specs.Picks.{lead}
 
+-- by minute m one arrives for at most p points: so much is kept for that minute or for one before it
+pub record ByThen (best : ℕ → ℕ) (m p : ℕ) : Type 0 where
+  pub minute : ℕ
+  pub until : minute ≤ m
+  pub low : best minute ≤ p
+
+-- where no value is more than it was, this stays so
+pub by-lower : (old new : ℕ → ℕ) → ((k : ℕ) → new k ≤ old k) → (m p : ℕ) → ByThen old m p → ByThen new m p
+by-lower old new lower m p b =
+    record { minute = b .minute; until = b .until; low = omega (arith, lower (b .minute), b .low) }
+
 module _ {X : Type 0} (m : Measure X) (l : List X) (best : ℕ → ℕ) (inf : ℕ) where
   -- one on the list has this cost
   pub record Has (d p : ℕ) : Type 0 where
@@ -21,10 +32,11 @@ module _ {X : Type 0} (m : Measure X) (l : List X) (best : ℕ → ℕ) (inf : �
     pub minutes : (m .cost one) .minutes ≡ d
     pub points : (m .cost one) .points ≡ p
 
-  -- best d is the least penalty of those of duration d, and inf where there is none
+  -- best d is the penalty of one of duration d, or inf; for each one on the list there is one kept that is no slower
+  -- and no dearer
   pub record LeastPoints : Type 0 where
     pub attained : (d : ℕ) → best d < inf → Has d (best d)
-    pub below : (c : X) → c ∈ l → best ((m .cost c) .minutes) ≤ (m .cost c) .points
+    pub below : (c : X) → c ∈ l → ByThen best ((m .cost c) .minutes) ((m .cost c) .points)
     pub small : (c : X) → c ∈ l → (m .cost c) .points < inf
 
   -- the cost of d and p is below all that are quicker
@@ -43,9 +55,6 @@ module _ {X : Type 0} (m : Measure X) (l : List X) (best : ℕ → ℕ) (inf : �
         p : ℕ
         p = (m .cost c) .points
 
-        low : best d ≤ p
-        low = b .below c (u .listed)
-
         -- what is quicker and no dearer, or as quick and cheaper, dominates
         beaten : (e : ℕ) → e ≤ d → best e < inf → best e ≤ p → e + best e < d + p → ⊥
         beaten e h f g k =
@@ -54,6 +63,19 @@ module _ {X : Type 0} (m : Measure X) (l : List X) (best : ℕ → ℕ) (inf : �
             let i = o .minutes in
             let j = o .points in
             u .free (o .one) (o .listed) (dominates-in x (m .cost c) (omega arith))
+
+        -- so the one that is no dearer is as quick
+        low : best d ≤ p
+        low = go (b .below c (u .listed))
+          where
+            go : ByThen best d p → best d ≤ p
+            go k =
+                let s = b .small c (u .listed) in
+                let e = k .minute in
+                let small : best e < inf = omega (arith, k .low) in
+                let late = by-contra d e (λ h. beaten e (k .until) small (k .low) (omega (arith, k .low))) in
+                let same : e ≡ d = omega (arith, k .until) in
+                omega (arith, k .low, ap best same)
 
         is : best d ≡ p
         is =
@@ -70,21 +92,18 @@ module _ {X : Type 0} (m : Measure X) (l : List X) (best : ℕ → ℕ) (inf : �
     -- nothing on the list is better than what leads
     none-better : (d p : ℕ) → Leads d p → (e : X) → e ∈ l → (m .cost e) .minutes ≤ d → (m .cost e) .points ≤ p
         → (m .cost e) .minutes + (m .cost e) .points < d + p → ⊥
-    none-better d p k e i h g s = either (ltb minutes d) quicker as-quick
+    none-better d p k e i h g s = either (ltb (o .minute) d) quicker as-quick
       where
-        minutes : ℕ
-        minutes = (m .cost e) .minutes
+        o : ByThen best ((m .cost e) .minutes) ((m .cost e) .points)
+        o = b .below e i
 
-        low : best minutes ≤ (m .cost e) .points
-        low = b .below e i
+        quicker : T (ltb (o .minute) d) → ⊥
+        quicker q = omega (arith, o .low, k .first (o .minute) (ltb→lt (o .minute) d q))
 
-        quicker : T (ltb minutes d) → ⊥
-        quicker q = omega (arith, low, k .first minutes (ltb→lt minutes d q))
-
-        as-quick : T (not (ltb minutes d)) → ⊥
+        as-quick : T (not (ltb (o .minute) d)) → ⊥
         as-quick q =
-            let same : minutes ≡ d = omega (arith, nltb→le minutes d q) in
-            omega (arith, low, ap best same, k .is)
+            let same : o .minute ≡ d = omega (arith, nltb→le (o .minute) d q, o .until) in
+            omega (arith, o .low, o .until, ap best same, k .is)
 
     leads-undominated : (d p : ℕ) → Leads d p → (c : X) × Undominated m l c × (pair m c ≡ d ∷ p ∷ [])
     leads-undominated d p k =

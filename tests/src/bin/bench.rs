@@ -1,10 +1,12 @@
 //! Times the calls on the largest timetable, beside the reference, in one run: `cargo run --release --bin bench`. With
-//! words after it, `-- direct 2,044`, it runs the cases that have all of them in their names.
+//! words after it, `-- direct 2,044`, it runs the cases that have all of them in their names; what those of `-- growth`
+//! print, `docs/speed.py` draws.
 //!
 //! It is a program and no test: a time says nothing on a machine that is busy with something else.
 
 use std::env;
 use std::hint::black_box;
+use std::iter;
 use std::time::{Duration, Instant};
 
 use dairyepoch_tests::connections;
@@ -14,7 +16,8 @@ use dairyepoch_tests::ffi::{
     times_by_stop, times_by_trip, Reply, Tables,
 };
 use dairyepoch_tests::generate::{
-    largest, long_lines, most_rows, one_way, overtaking, rural, with_trips, with_walks, Diamonds, DIRECT_ROWS_MOST,
+    diamonds_behind_shuttles, largest, long_lines, most_rows, one_way, overtaking, rows_without_changes, rural,
+    with_trips, with_walks, Diamonds, DIRECT_ROWS_MOST,
 };
 use dairyepoch_tests::lines::{self, LINE_WORDS, WORK_WORDS};
 use dairyepoch_tests::random::Random;
@@ -29,6 +32,8 @@ const ROUNDS_MOST: usize = 1_001;
 const ROUNDS_LEAST: usize = 5;
 /// After this time there are no further rounds, but for the least number.
 const ENOUGH: Duration = Duration::from_secs(5);
+/// The same for a call of a case that is one point of a picture, of which there are many.
+const ENOUGH_FOR_A_POINT: Duration = Duration::from_millis(50);
 
 fn main() {
     reading();
@@ -89,7 +94,34 @@ fn main() {
     asking_stores("queries of 256 lines of one trip", &overtaking());
     asking_stores("queries in up to 507 rows of one trip of 2,044 stops", &most_rows());
     asking_stores("queries along one trip of 2,044 stops", &dear);
-    asking_stores("queries of 12 diamonds", &Diamonds { count: 12, late: false, beyond: false, chain: 3 }.timetable());
+    let diamonds = Diamonds { count: 12, ..Diamonds::default() }.timetable();
+    asking_once("12 diamonds", &diamonds, Query { from: 1, to: 37, minute: 0 });
+    for departures in [10, 100, 300] {
+        let what = format!("12 diamonds behind two shuttles of {departures} departures");
+        asking_once(&what, &diamonds_behind_shuttles(departures), Query { from: 1, to: 39, minute: 0 });
+    }
+    for arcs in [1, 10, 16_322] {
+        asking_useless(arcs);
+    }
+    growing();
+}
+
+/// Timetables of one kind and rising size. Those of one trip have as many rows as so many stops allow, since answers of
+/// many rows are slow ones. Each diamond doubles the arcs to the last junction.
+fn growing() {
+    for rounds in [1, 2, 4, 8] {
+        let timetable = rural(&mut Random::new(1), rounds);
+        growth("growth by trips", timetable.trips.len(), &timetable, answered);
+    }
+    for rows in [64, 119, 203, 325, DIRECT_ROWS_MOST] {
+        let timetable = rows_without_changes(rows);
+        growth("growth by stops", timetable.stops(), &timetable, |_| vec![Query { from: 1, to: 2, minute: 0 }]);
+    }
+    for count in [2, 4, 6, 8, 10, 12] {
+        let timetable = Diamonds { count, ..Diamonds::default() }.timetable();
+        let last = 1 + 3 * count as u32;
+        growth("growth by arcs", 1 << count, &timetable, |_| vec![Query { from: 1, to: last, minute: 0 }]);
+    }
 }
 
 /// A rural timetable with so many walks.
@@ -134,6 +166,29 @@ fn reading() {
     report("question 9 on its words", question, reference_question);
 }
 
+/// Up to 32 queries that have a row, from stations that have a store.
+fn answered(network: &Network) -> Vec<Query> {
+    let mut random = Random::new(5);
+    let mut queries = Vec::new();
+    for _ in 0..1_000 {
+        let [from, to] = [0, 1].map(|_| random.within(1..=network.stations()) as u32);
+        let query = Query { from, to, minute: random.below(1_200) as u32 };
+        if from == to || search::patterns(network, from).is_none() || search::whole(network, query).is_empty() {
+            continue;
+        }
+        queries.push(query);
+        if queries.len() == 32 {
+            break;
+        }
+    }
+    queries
+}
+
+/// The words of a source's store, as the reference makes it.
+fn store_of(network: &Network, source: u32) -> Vec<u16> {
+    search::patterns(network, source).expect("few enough patterns").to_words()
+}
+
 /// A query with its store, and with the same store without the arcs to the query's target.
 struct Asked {
     query: Query,
@@ -149,23 +204,13 @@ fn asking_stores(what: &str, timetable: &Timetable) {
     }
     let [table, lines] = lent(timetable);
     let network = Network::new(timetable);
-    let mut random = Random::new(5);
-    let mut queries = Vec::new();
-    for _ in 0..1_000 {
-        let [from, to] = [0, 1].map(|_| random.within(1..=timetable.stations.len()) as u32);
-        let query = Query { from, to, minute: random.below(1_200) as u32 };
-        let Some(patterns) = (from != to).then(|| search::patterns(&network, from)).flatten() else { continue };
-        if search::whole(&network, query).is_empty() {
-            continue;
-        }
-        let store = patterns.to_words();
+    let asked = |query: Query| {
+        let store = store_of(&network, query.from);
         let mut struck = Store::from_words(&store).expect("all its words");
-        struck.arcs.retain(|&(target, _)| u32::from(target) != to);
-        queries.push(Asked { query, store, struck: struck.to_words() });
-        if queries.len() == 32 {
-            break;
-        }
-    }
+        struck.arcs.retain(|&(target, _)| u32::from(target) != query.to);
+        Asked { query, store, struck: struck.to_words() }
+    };
+    let queries: Vec<Asked> = answered(&network).into_iter().map(asked).collect();
     let (mut work, mut struck_work, mut asked_work) = (vec![0; WORK_WORDS], vec![0; WORK_WORDS], vec![0; WORK_WORDS]);
     let (mut answer, mut struck_answer) = (vec![0; 65_536], vec![0; 65_536]);
     let mut worst = (Duration::ZERO, Duration::ZERO);
@@ -212,6 +257,111 @@ fn asking_stores(what: &str, timetable: &Timetable) {
     println!("  of these questions 9 and 10 {until_10:.1?}, all questions to 13 {until_13:.1?}");
     report("  the rest, against the search", library.saturating_sub(until_13), reference);
     report("  the worst whole query", worst.0, worst.1);
+}
+
+/// Times one store and one query from it, which may take seconds: the store once, the query a few times.
+fn asking_once(what: &str, timetable: &Timetable, query: Query) {
+    if !wanted(what) {
+        return;
+    }
+    let [table, lines] = lent(timetable);
+    let network = Network::new(timetable);
+    let (mut store, mut work, mut answer) = (vec![0; STORE_WORDS_MOST], vec![0; WORK_WORDS], vec![0; 65_536]);
+    let began = Instant::now();
+    let made = make_store(&table, &lines, &mut work, query.from, &mut store);
+    let library = began.elapsed();
+    let began = Instant::now();
+    let words = search::patterns(&network, query.from).expect("few enough patterns").to_words();
+    println!("{what}: a store of {} words", words.len());
+    report("  the store", library, began.elapsed());
+    assert_eq!((made.number, &store[..made.beside as usize]), (0, &words[..]));
+    let tables = Tables { timetable: &table, lines: &lines, store: &store };
+    let rows = connections::to_words(&search::whole(&network, query), query.minute);
+    assert_eq!(ffi::query(tables, &mut work, query, &mut answer).number, 0);
+    assert_eq!(answer[..rows.len()], rows[..]);
+    let [library, reference] = medians_within(
+        [
+            &mut || {
+                black_box(ffi::query(black_box(tables), &mut work, query, &mut answer));
+            },
+            &mut || {
+                black_box(search::whole(black_box(&network), query));
+            },
+        ],
+        Duration::ZERO,
+    );
+    report("  the query, against a search of the whole timetable", library, reference);
+}
+
+/// Times one query on a trip that shuttles between two stations, from a store that is well made and useless: so many
+/// arcs that all read the same pattern, with as many rides as a pattern can have to get to the other station.
+fn asking_useless(arcs: usize) {
+    let what = format!("a useless store of {arcs} arcs of 63 rides on a shuttle of 2,000 stops");
+    if !wanted(&what) {
+        return;
+    }
+    let [table, lines] = lent(&one_way(2_000, 1, &[]));
+    let change = |node: usize| 2 - (node % 2) as u16;
+    let chain = (0..61).map(|node| (change(node), change(node), node as u16));
+    let nodes = chain.chain(iter::repeat_n((change(61), change(61), 61), arcs)).collect();
+    let store = Store { nodes, arcs: (0..arcs).map(|arc| (2, 62 + arc as u16)).collect() }.to_words();
+    let (mut work, mut answer) = (vec![0; WORK_WORDS], vec![0; 65_536]);
+    let began = Instant::now();
+    let tables = Tables { timetable: &table, lines: &lines, store: &store };
+    let reply = ffi::query(tables, &mut work, Query { from: 1, to: 2, minute: 0 }, &mut answer);
+    println!("{what}: {:.1?}, {} rows", began.elapsed(), reply.beside);
+    assert_eq!(reply.number, 0);
+}
+
+/// Times each call, and both searches of the reference, in the mean of some queries that have a row. One line tells
+/// all, in a form that `docs/speed.py` reads. Direct queries are left out where none of them has a row.
+///
+/// Each is timed alone: in turn with a query of 60 ms and the making of a large store, a search of 3 µs took 70.
+fn growth(what: &str, size: usize, timetable: &Timetable, queries: impl Fn(&Network) -> Vec<Query>) {
+    if !wanted(what) {
+        return;
+    }
+    let [table, lines] = lent(timetable);
+    let network = Network::new(timetable);
+    let with_store = |query: Query| (query, store_of(&network, query.from));
+    let queries: Vec<(Query, Vec<u16>)> = queries(&network).into_iter().map(with_store).collect();
+    let (mut work, mut answer, mut made) = (vec![0; WORK_WORDS], vec![0; 65_536], vec![0; STORE_WORDS_MOST]);
+    let mut rides = vec![0; ROW_WORDS * DIRECT_ROWS_MOST as usize];
+    let mut ridden = false;
+    for (query, store) in &queries {
+        let tables = Tables { timetable: &table, lines: &lines, store };
+        let rows = connections::to_words(&search::whole(&network, *query), query.minute);
+        assert_eq!(ffi::query(tables, &mut work, *query, &mut answer).number, 0, "{query:?}");
+        assert_eq!(answer[..rows.len()], rows[..], "{query:?}");
+        assert_eq!(make_store(&table, &lines, &mut work, query.from, &mut made).number, 0, "{query:?}");
+        assert_eq!(made[..store.len()], store[..], "{query:?}");
+        ridden |= ffi::direct(&table, &lines, &mut work, *query, &mut rides).number == 0;
+    }
+    let tell = |call: &str, ask: &mut dyn FnMut(Query, &[u16])| {
+        let mut ask_all = || queries.iter().for_each(|(query, store)| ask(*query, store));
+        let [time] = medians_within([&mut ask_all], ENOUGH_FOR_A_POINT);
+        print!(", {call} {:.2} µs", time.as_secs_f64() * 1e6 / queries.len() as f64);
+    };
+    print!("{what}: {size}");
+    tell("query", &mut |query, store| {
+        let tables = Tables { timetable: black_box(&table), lines: &lines, store };
+        black_box(ffi::query(tables, &mut work, query, &mut answer));
+    });
+    tell("search", &mut |query, _| {
+        black_box(search::whole(black_box(&network), query));
+    });
+    if ridden {
+        tell("direct query", &mut |query, _| {
+            black_box(ffi::direct(black_box(&table), &lines, &mut work, query, &mut rides));
+        });
+    }
+    tell("store call", &mut |query, _| {
+        black_box(make_store(black_box(&table), &lines, &mut work, query.from, &mut made));
+    });
+    tell("store search", &mut |query, _| {
+        black_box(store_of(black_box(&network), query.from));
+    });
+    println!();
 }
 
 /// Times the stores of all sources, each against the search of the reference, which asks no question.

@@ -4,8 +4,8 @@ use mathlib.Core.Path.{_≡_}
 use Prim.Native.Nat.{_≤_}
 use lib.ListN.{length}
 use borrow.Author.Needs.{needs}
-use Rattle.query_places.specs.Candidates.{allRead}
-use Rattle.query_rides.specs.Riding.{Good, left, left-falls}
+use Rattle.query_places.specs.Candidates.{nearRead}
+use Rattle.query_rides.specs.Riding.{Good, nearLeft, near-falls}
 use Rattle.query_costs.specs.Spans.{Within}
 use Rattle.query_costs.specs.Layering.{takenAll}
 use Rattle.query_costs.specs.Fitting.{Fitting}
@@ -17,16 +17,16 @@ use Rattle.query_costs.proofs.note_rides.Tie as tie
 abbrev Inv-loop : tie.InvT-loop
 Inv-loop lines from to earliest p change best₀ noted₀ c₀ best noted c =
     Good lines c
-    × Fitting p (left lines earliest c)
+    × Fitting p (nearLeft lines earliest c)
     × (length best₀ ≡ 2880)
     × (length best ≡ length best₀)
     × Within noted best₀ best
     × (noted .from ≤ 2880)
-    × (takenAll p (change .minutes .0) (change .points .0) best₀ (allRead lines from earliest to)
-    ≡ takenAll p (change .minutes .0) (change .points .0) best (left lines earliest c))
+    × (takenAll p (change .minutes .0) (change .points .0) best₀ (nearRead lines from earliest to)
+    ≡ takenAll p (change .minutes .0) (change .points .0) best (nearLeft lines earliest c))
 
 abbrev μ-loop : tie.MeasureT-loop
-μ-loop lines from to earliest p change best₀ noted₀ c₀ best noted c = length (left lines earliest c)
+μ-loop lines from to earliest p change best₀ noted₀ c₀ best noted c = length (nearLeft lines earliest c)
 
 loop-holds : tie.Need-loop-holds Inv-loop μ-loop
 loop-holds c = (
@@ -43,7 +43,7 @@ note-ride-requires : tie.Need-note-ride-requires Inv-loop μ-loop
 note-ride-requires c κs = (search needs, search fits-here, search needs, search needs)
 
 loop-less : tie.Need-loop-less Inv-loop μ-loop
-loop-less c = search left-falls
+loop-less c = search near-falls
 
 loop-again : tie.Need-loop-again Inv-loop μ-loop
 loop-again c = (

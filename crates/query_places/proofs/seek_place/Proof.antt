@@ -9,10 +9,10 @@ use Rattle.query_places.proofs.seek_place.Statement.{statement}
 use Rattle.query_places.proofs.seek_place.Tie as tie
 
 abbrev Inv-loop : tie.InvT-loop
-Inv-loop v g at end k₀ k = (k ≤ 65536) × (rest v g at ≡ rest v g k)
+Inv-loop v g end k₀ k = (k ≤ 65536) × (rest v g (g .rest .from) ≡ rest v g k)
 
 abbrev μ-loop : tie.MeasureT-loop
-μ-loop v g at end k₀ k = end - k
+μ-loop v g end k₀ k = end - k
 
 pub seek-place-spec : {M : Type 1} → statement M
 seek-place-spec =
@@ -24,13 +24,12 @@ seek-place-spec =
     (λ c. search needs)
     (λ c. search needs)
     (λ c. search needs)
-    (λ c. (search place-other, search needs, search needs))
+    (λ c. (search place-other, search needs))
     (λ c. search needs)
     (λ c. search needs)
-    (λ c. search needs)
-    (λ c. (search place-found, search needs, search needs))
+    (λ c. (search place-found, search needs))
     (λ c. search needs)
     (λ c. search needs)
     (λ c. (search needs, search place-closed))
     (λ c. search needs)
-    (λ c. (search place-none, search needs, search needs)))
+    (λ c. (search place-none, search needs)))

@@ -2,35 +2,36 @@
 use mathlib.Core.Path.{_≡_}
 use Prim.Native.Nat.{_≤_, _-_}
 use lib.ListN.{length}
-use Rattle.query_rows.specs.Arcs.{store-words, store-present}
-use Rattle.query_rows.specs.Trying.{Sized, Tried, first-sized, tried-first, tried-skip, target-of}
+use Rattle.query_rows.specs.Arcs.{store-words, store-made}
+use Rattle.query_rows.specs.Trying.{Sized, Tried, first-sized, tried-first, tried-idle, counted-target}
 use Rattle.query_rows.specs.Leader.{tried-leader}
 use borrow.Author.Needs.{needs}
 use Rattle.query_rows.proofs.choose.Statement.{statement}
 use Rattle.query_rows.proofs.choose.Tie as tie
 
 abbrev Inv-loop : tie.InvT-loop
-Inv-loop words lines store from to minute arrive points tried₀ shown₀ x₀ arcs k₀ tried shown x k =
+Inv-loop words lines store from to minute arrive points work₀ tried₀ shown₀ x₀ arcs k₀ work tried shown x k =
     (k ≤ arcs)
     × (length tried ≡ 192)
     × (length shown ≡ 192)
+    × (length work ≡ length work₀)
     × Sized x
     × Tried words store from to minute arrive (points .0) k x shown
 
 abbrev μ-loop : tie.MeasureT-loop
-μ-loop words lines store from to minute arrive points tried₀ shown₀ x₀ arcs k₀ tried shown x k = arcs - k
+μ-loop words lines store from to minute arrive points work₀ tried₀ shown₀ x₀ arcs k₀ work tried shown x k = arcs - k
 
 arc-count-requires : tie.Need-arc-count-requires Inv-loop μ-loop
 arc-count-requires c κs = search store-words
 
 loop-holds : tie.Need-loop-holds Inv-loop μ-loop
-loop-holds c = (search needs, search needs, search needs, search first-sized, search tried-first)
+loop-holds c = (search needs, search needs, search needs, search needs, search first-sized, search tried-first)
 
-arc-target-requires : tie.Need-arc-target-requires Inv-loop μ-loop
-arc-target-requires c κs = (search store-present, search needs)
+counts-requires : tie.Need-counts-requires Inv-loop μ-loop
+counts-requires c κs = (search store-made, search needs)
 
 loop-again : tie.Need-loop-again Inv-loop μ-loop
-loop-again c = (search needs, search needs, search needs, search needs, search tried-skip)
+loop-again c = (search needs, search needs, search needs, search needs, search needs, search tried-idle)
 
 try-arc-requires : tie.Need-try-arc-requires Inv-loop μ-loop
 try-arc-requires c κs = (
@@ -38,7 +39,8 @@ try-arc-requires c κs = (
   search needs,
   search needs,
   search needs,
-  search target-of,
+  search counted-target,
+  search needs,
   search needs,
   search needs,
   search needs,
@@ -46,10 +48,10 @@ try-arc-requires c κs = (
 )
 
 loop-again-2 : tie.Need-loop-again-2 Inv-loop μ-loop
-loop-again-2 c = (search needs, search needs, search needs, search needs, search needs)
+loop-again-2 c = (search needs, search needs, search needs, search needs, search needs, search needs)
 
 returns : tie.Need-returns Inv-loop μ-loop
-returns c = search tried-leader
+returns c = (search tried-leader, search needs)
 
 pub choose-spec : {M : Type 1} → statement M
 choose-spec =
@@ -60,7 +62,7 @@ choose-spec =
     arc-count-requires
     loop-holds
     (λ c. search needs)
-    arc-target-requires
+    counts-requires
     (λ c. search needs)
     loop-again
     (λ c. search needs)
@@ -68,4 +70,5 @@ choose-spec =
     try-arc-requires
     (λ c. search needs)
     loop-again-2
+    (λ c. search needs)
     returns)

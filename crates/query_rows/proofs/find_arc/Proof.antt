@@ -9,10 +9,11 @@ read-arc-requires : tie.Need-read-arc-requires
 read-arc-requires c κs = (search store-made, search needs, search needs)
 
 first-of-pattern-requires : tie.Need-first-of-pattern-requires
-first-of-pattern-requires c κs = (search path-given, search needs, search needs, search needs, search needs)
+first-of-pattern-requires c κs =
+    (search path-given, search needs, search needs, search needs, search needs, search needs)
 
 returns : tie.Need-returns
-returns c = ((search found-arc, search found-sized), search needs)
+returns c = ((search found-arc, search found-sized), (search needs, search needs))
 
 pub find-arc-spec : {M : Type 1} → statement M
 find-arc-spec =
@@ -22,5 +23,6 @@ find-arc-spec =
     read-arc-requires
     (λ c. search needs)
     first-of-pattern-requires
+    (λ c. search needs)
     (λ c. search needs)
     returns)

@@ -5,10 +5,11 @@ use Rattle.query_rows.proofs.find_shown.Statement.{statement}
 use Rattle.query_rows.proofs.find_shown.Tie as tie
 
 find-arc-requires : tie.Need-find-arc-requires
-find-arc-requires c κs = (search needs, search needs, search needs, search needs, search needs, search needs)
+find-arc-requires c κs =
+    (search needs, search needs, search needs, search needs, search needs, search needs, search needs)
 
 returns : tie.Need-returns
-returns c = search leader-winning
+returns c = (search leader-winning, search needs)
 
 pub find-shown-spec : {M : Type 1} → statement M
-find-shown-spec = tie.close (tie.spec find-arc-requires (λ c. search needs) returns)
+find-shown-spec = tie.close (tie.spec find-arc-requires (λ c. search needs) (λ c. search needs) returns)

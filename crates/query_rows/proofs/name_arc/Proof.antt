@@ -6,13 +6,13 @@ use Rattle.query_rows.proofs.name_arc.Statement.{statement}
 use Rattle.query_rows.proofs.name_arc.Tie as tie
 
 leading-arc-requires : tie.Need-leading-arc-requires
-leading-arc-requires c κs = (search needs, search needs, search named-read, search needs, search needs)
+leading-arc-requires c κs = (search needs, search needs, search named-read, search needs, search needs, search needs)
 
 row-length-requires : tie.Need-row-length-requires
 row-length-requires c κs = (search store-made, search needs)
 
 returns : tie.Need-returns
-returns c = ((search leader-named, search needs), search needs)
+returns c = ((search leader-named, search needs), (search needs, search needs))
 
 pub name-arc-spec : {M : Type 1} → statement M
 name-arc-spec =
@@ -26,5 +26,6 @@ name-arc-spec =
     (λ c. search needs)
     (λ c. search needs)
     row-length-requires
+    (λ c. search needs)
     (λ c. search needs)
     returns)

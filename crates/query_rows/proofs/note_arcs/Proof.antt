@@ -6,9 +6,9 @@ use lib.ListN.{length}
 use Rattle.query_store.specs.Entries.{arcCount}
 use Rattle.query_minutes.specs.Minutes.{blank}
 use Rattle.query_rows.specs.Merged.{Bound, bound-first}
-use Rattle.query_rows.specs.Arcs.{NotedAll, noted-first, noted-skip, noted-all}
-use Rattle.query_rows.specs.Arcs.{store-words, store-present}
-use Rattle.query_rows.specs.Trying.{target-of}
+use Rattle.query_rows.specs.Arcs.{NotedAll, noted-first, noted-idle, noted-all}
+use Rattle.query_rows.specs.Arcs.{store-words, store-made}
+use Rattle.query_rows.specs.Trying.{counted-target}
 use Rattle.query_rows.specs.Leader.{noted-named}
 use borrow.Author.Needs.{needs}
 use Rattle.query_rows.proofs.note_arcs.Statement.{statement}
@@ -43,8 +43,8 @@ loop-holds c = (
   search noted-first,
 )
 
-arc-target-requires : tie.Need-arc-target-requires Inv-loop μ-loop
-arc-target-requires c κs = (search store-present, search needs)
+counts-requires : tie.Need-counts-requires Inv-loop μ-loop
+counts-requires c κs = (search store-made, search needs)
 
 loop-again : tie.Need-loop-again Inv-loop μ-loop
 loop-again c = (
@@ -55,14 +55,14 @@ loop-again c = (
   search needs,
   search needs,
   search needs,
-  search noted-skip,
+  search noted-idle,
 )
 
 note-arc-requires : tie.Need-note-arc-requires Inv-loop μ-loop
 note-arc-requires c κs = (
   search needs,
   search needs,
-  search target-of,
+  search counted-target,
   search needs,
   search needs,
   search needs,
@@ -92,11 +92,10 @@ note-arcs-spec =
     (tie.spec
     Inv-loop
     μ-loop
-    (λ c. search needs)
     arc-count-requires
     loop-holds
     (λ c. search needs)
-    arc-target-requires
+    counts-requires
     (λ c. search needs)
     loop-again
     (λ c. search needs)

@@ -5,10 +5,17 @@ use Rattle.query_rows.proofs.try_arc.Statement.{statement}
 use Rattle.query_rows.proofs.try_arc.Tie as tie
 
 returns : tie.Need-returns
-returns c = ((search tried-keep, search needs), (search needs, search needs))
+returns c =
+    let won = c .before in
+    let found = won .before .before .before .before .before .before .before in
+    let entry = found .before .before .before .before .before .before .before .before .before in
+    let tried = found .find-arc .ensures .0 .0 in (
+      (search (tried-keep, entry .pre .6, entry .pre .3, tried, won .wins .ensures), search needs),
+      (search needs, search needs, search needs),
+    )
 
 returns-2 : tie.Need-returns-2
-returns-2 c = ((search tried-turn, search needs), (search needs, search needs))
+returns-2 c = ((search tried-turn, search needs), (search needs, search needs, search needs))
 
 pub try-arc-spec : {M : Type 1} → statement M
 try-arc-spec =
@@ -18,7 +25,9 @@ try-arc-spec =
     (λ c κs. search needs)
     (λ c. search needs)
     (λ c. search needs)
+    (λ c. search needs)
     returns
+    (λ c. search needs)
     (λ c. search needs)
     (λ c. search needs)
     (λ c. search needs)

@@ -16,6 +16,7 @@ first-in-time-requires c κs = (
   search needs,
   search needs,
   search needs,
+  search needs,
   search spans-blank,
   search spans-blank,
 )
@@ -28,5 +29,6 @@ first-of-pattern-spec =
     (λ c. search needs)
     (λ c. search needs)
     first-in-time-requires
+    (λ c. search needs)
     (λ c. search needs)
     (λ c. search needs))

@@ -5,16 +5,9 @@ use Rattle.query_shown.proofs.rides.take_ride.Statement.{statement}
 use Rattle.query_shown.proofs.rides.take_ride.Tie as tie
 
 returns : tie.Need-returns
-returns c = ((search head-taken, search needs, search needs, search needs), search needs)
+returns c = (search head-taken, search needs)
 
 pub take-ride-spec : {M : Type 1} → statement M
 take-ride-spec =
     tie.close
-    (tie.spec
-    (λ c. search needs)
-    (λ c. search needs)
-    (λ c. search needs)
-    (λ c. search needs)
-    (λ c. search needs)
-    (λ c. search needs)
-    returns)
+    (tie.spec (λ c. search needs) (λ c κs. search needs) (λ c. search needs) returns)
