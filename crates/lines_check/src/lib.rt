@@ -1,8 +1,9 @@
 // The questions that are put to a query before it is looked at: 8 to 12. Question 10 here is about line tables lent
 // with a timetable: are they its own?
 ghost use mathlib.Core.Path.{_≡_};
-ghost use mathlib.Core.Bool.{true};
+ghost use mathlib.Core.Bool.{true, cond};
 ghost use Prim.Native.Nat.{_≤_};
+ghost use lib.Dec.{eqb};
 ghost use lib.ListN.{length, take};
 ghost use Rattle.lists.specs.Lists.{same};
 ghost use Rattle.timetable.specs.Words.{isTimetable};
@@ -13,19 +14,29 @@ ghost use Rattle.timetable.specs.Words.{timetableOf};
 // The last minute of the two days that a timetable has.
 const LAST_MINUTE: u32 = timetable::LAST_MINUTE;
 
-// Whether the first count words of both are the same.
+// 1 if the words differ, else 0.
+fn differ(a: u32, b: u32) -> u32
+    ensures { λ r. ⌜ (r ≡ cond (eqb a b) 0 1) × (r ≤ 1) ⌝ }
+{
+    if a != b {
+        return 1;
+    }
+    0
+}
+
+// Whether the first count words of both are the same. Those that differ are counted to the end: without a way out in
+// between, several are compared at a time.
 fn same_words(lines: &[u16], work: &[u32], count: usize) -> bool
-    requires { ⌜ (count ≤ length (now lines)) × (count ≤ length (now work)) ⌝ }
+    requires { ⌜ (count ≤ length (now lines)) × (count ≤ length (now work)) × (length (now work) ≡ 16384) ⌝ }
     ensures { λ r. ⌜ r ≡ same (take count (now (work .entry))) (take count (now (lines .entry))) ⌝ }
 {
+    let mut others = 0u32;
     let mut i = 0;
     while i < count {
-        if work[i] != words::word(lines, i) {
-            return false;
-        }
+        others += differ(work[i], words::word(lines, i));
         i += 1;
     }
-    true
+    others == 0
 }
 
 // Whether the line tables are those of the timetable. Working space may hold any words afterwards.

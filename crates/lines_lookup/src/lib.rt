@@ -1,6 +1,6 @@
 // Line tables by their words: the lines, their courses, trips and times, and the lists of stations.
 ghost use mathlib.Core.Path.{_≡_};
-ghost use Prim.Native.Nat.{_+_, _-_, _≤_, _<_};
+ghost use Prim.Native.Nat.{_-_, _≤_, _<_};
 ghost use lib.ListN.{getD};
 ghost use Rattle.lines_lookup.specs.First.{firstTrip};
 ghost use Rattle.lines_lookup.specs.Calls.{callAt, callsOf, callsIn, Inside, later, after, BoardsAt, Within};
@@ -237,7 +237,7 @@ fn is_later(c: Call, d: Call) -> bool
 }
 
 // What is left of a list of calls after call c.
-pub fn calls_after(v: &[u16], c: Call, list: Piece) -> Piece
+fn calls_after(v: &[u16], c: Call, list: Piece) -> Piece
     requires { ⌜ Inside (now v) list ⌝ }
     ensures { λ r. ⌜ (callsIn (now (v .entry)) r ≡ after c (callsIn (now (v .entry)) list))
         × Inside (now (v .entry)) r ⌝ }

@@ -1,7 +1,7 @@
 // Reading a timetable text into the lent words of a timetable: questions 8 and 1 to 7; and reading the lines of an
 // extra trip, for which questions 2 to 7 are put to the lines after those that run already.
 ghost use mathlib.Core.Path.{_≡_};
-ghost use Prim.Native.Nat.{_+_, _*_, _≤_, _<_};
+ghost use Prim.Native.Nat.{_+_, _≤_, _<_};
 ghost use mathlib.Core.Bool.{cond};
 ghost use lib.ListN.{length, set};
 ghost use Rattle.text_shapes.specs.Shape.{shapeOf};

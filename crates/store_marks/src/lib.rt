@@ -4,7 +4,7 @@
 ghost use mathlib.Core.Path.{_≡_};
 ghost use mathlib.Core.Bool.{true};
 ghost use mathlib.Core.List.{[]};
-ghost use Prim.Native.Nat.{_+_, _-_, _≤_, _<_};
+ghost use Prim.Native.Nat.{_-_, _≤_, _<_};
 ghost use lib.Dec.{ltb};
 ghost use lib.ListN.{length, getD};
 ghost use lib.Seq.{slice};
@@ -74,14 +74,7 @@ fn root_label(words: &[u16], g: usize, d: usize) -> Points
 }
 
 // The labels of the source, where riders start from minute d on.
-pub fn label_root(
-    words: &[u16],
-    chain: &[u16],
-    first: &[u32],
-    source: usize,
-    d: usize,
-    x: &mut [u32],
-)
+fn label_root(words: &[u16], chain: &[u16], first: &[u32], source: usize, d: usize, x: &mut [u32])
     requires { ⌜ (16384 ≤ length (now words)) × (isTimetable (now words) ≡ true) ⌝ }
     requires { ⌜ Departures (now words) (now chain) (now first) ⌝ }
     requires { ⌜ (source ≤ stationCount (now words)) × (length (now x) ≡ 2048) ⌝ }

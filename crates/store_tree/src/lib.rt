@@ -18,7 +18,7 @@ ghost use Rattle.store_tree.specs.Taking.{Next, Takes, Taken, Whole};
 const ENTRIES_MOST: usize = stores::ENTRIES_MOST;
 
 // The word of a node that has not been taken: the slot of its change and its parent's number.
-pub fn node_word(slot: u32, parent: u32) -> u32
+fn node_word(slot: u32, parent: u32) -> u32
     requires { ⌜ (slot < 512) × (parent < 16384) ⌝ }
     ensures { λ r. ⌜ r ≡ nodeWord slot parent 0 ⌝ }
 {
@@ -37,7 +37,7 @@ pub fn node_parent(x: u32) -> u32
     x / 512 % 16384
 }
 
-pub fn node_arcs(x: u32) -> u32
+fn node_arcs(x: u32) -> u32
     ensures { λ r. ⌜ (r ≡ arcsIn x) × (r < 512) ⌝ }
 {
     x / 8388608

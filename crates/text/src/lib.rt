@@ -18,7 +18,7 @@ const COLON: u8 = 58;
 // The value of an empty field and of a field that is no number: both above every number.
 pub const EMPTY: u32 = 10000;
 
-pub const NO_NUMBER: u32 = 10001;
+const NO_NUMBER: u32 = 10001;
 
 pub const NUMBER_MOST: u32 = 9999;
 

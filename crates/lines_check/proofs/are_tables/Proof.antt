@@ -6,7 +6,7 @@ use Rattle.lines_check.proofs.are_tables.Statement.{statement}
 use Rattle.lines_check.proofs.are_tables.Tie as tie
 
 same-words-requires : tie.Need-same-words-requires
-same-words-requires c κs = (search lines-room, search work-room)
+same-words-requires c κs = (search lines-room, search work-room, search needs)
 
 returns : tie.Need-returns
 returns c = search compared

@@ -1,32 +1,24 @@
--- The words before index i agree, so all depends on those from i on.
-use mathlib.Core.Path.{_≡_, refl}
+-- So many of the words before index i differ.
 use Prim.Native.Nat.{_≤_, _-_}
-use lib.ListN.{take, drop}
 use borrow.Author.Needs.{needs}
-use Rattle.lists.specs.Lists.{same}
-use Rattle.lines_check.proofs.SameLaws.{differs, agrees, all-agree}
+use Rattle.lines_check.proofs.SameLaws.{Counted, counted-none, counted-more, counted-all}
 use Rattle.lines_check.proofs.same_words.Statement.{statement}
 use Rattle.lines_check.proofs.same_words.Tie as tie
 
 abbrev Inv-loop : tie.InvT-loop
-Inv-loop lines work count i₀ i =
-    (i ≤ count)
-    × (same (take count work) (take count lines) ≡ same (drop i (take count work)) (drop i (take count lines)))
+Inv-loop lines work count others₀ i₀ others i = (i ≤ count) × (others ≤ i) × Counted work lines count i others
 
 abbrev μ-loop : tie.MeasureT-loop
-μ-loop lines work count i₀ i = count - i
+μ-loop lines work count others₀ i₀ others i = count - i
 
 loop-holds : tie.Need-loop-holds Inv-loop μ-loop
-loop-holds c = (search needs, refl)
-
-returns : tie.Need-returns Inv-loop μ-loop
-returns c = search differs
+loop-holds c = (search needs, search needs, search counted-none)
 
 loop-again : tie.Need-loop-again Inv-loop μ-loop
-loop-again c = (search needs, search agrees)
+loop-again c = (search needs, search needs, search counted-more)
 
-returns-2 : tie.Need-returns-2 Inv-loop μ-loop
-returns-2 c = search all-agree
+returns : tie.Need-returns Inv-loop μ-loop
+returns c = search counted-all
 
 pub same-words-spec : {M : Type 1} → statement M
 same-words-spec =
@@ -37,9 +29,10 @@ same-words-spec =
     loop-holds
     (λ c. search needs)
     (λ c. search needs)
+    (λ c κs. search needs)
+    (λ c κs. search needs)
     (λ c. search needs)
-    returns
     (λ c. search needs)
     (λ c. search needs)
     loop-again
-    returns-2)
+    returns)
