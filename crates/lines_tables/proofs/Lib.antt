@@ -1,5 +1,6 @@
 pub mod RowLaws
 pub mod TimesLaws
+pub mod AloneLaws
 pub mod CourseLaws
 pub mod BlockLaws
 pub mod HoldLaws
