@@ -1,7 +1,7 @@
 pub mod RowLaws
 pub mod TimesLaws
-pub mod AloneLaws
 pub mod CourseLaws
+pub mod AloneLaws
 pub mod BlockLaws
 pub mod HoldLaws
 pub mod SectionLaws
