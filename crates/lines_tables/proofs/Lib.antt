@@ -1,6 +1,7 @@
 pub mod RowLaws
 pub mod TimesLaws
 pub mod CourseLaws
+pub mod AloneLaws
 pub mod BlockLaws
 pub mod HoldLaws
 pub mod SectionLaws

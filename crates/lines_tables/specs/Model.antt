@@ -30,6 +30,13 @@ callsOf w z = startAt w (z + 1) - startAt w z
 unfoldable pub rowAt : List ℕ → (departs : Bool) (p : ℕ) (line : List ℕ) → List ℕ
 rowAt w departs p line = map (λ z. timeOf departs (callAt w z p)) line
 
+-- where the trips of a line begin, and the times at place p of trips that begin there
+unfoldable pub startsAt : List ℕ → (line : List ℕ) → List ℕ
+startsAt w line = map (startAt w) line
+
+unfoldable pub rowFrom : List ℕ → (departs : Bool) (p : ℕ) (starts : List ℕ) → List ℕ
+rowFrom w departs p starts = map (λ a. timeOf departs (stopAt w (a + p))) starts
+
 -- both, for n places from k on
 unfoldable pub timesAt : List ℕ → (line : List ℕ) (k n : ℕ) → List ℕ
 timesAt w line k n = concatMap (λ p. rowAt w false p line ++ rowAt w true p line) (range k n)
@@ -56,10 +63,13 @@ blockAt w line =
     ++ courseAt w (headOf line) 0 (callsOf w (headOf line))
     ++ timesAt w line 0 (callsOf w (headOf line)))
 
--- every trip of the line is a trip of the timetable and has a stop at place p
-pub record Calls (w line : List ℕ) (p : ℕ) : Type 0 where
-  pub trips : (j : ℕ) → j < length line → getD line j 0 < tripCount w
-  pub stops : (j : ℕ) → j < length line → startAt w (getD line j 0) + p < startAt w (getD line j 0 + 1)
+-- every trip of the line is a trip of the timetable
+pub record TripsOf (w line : List ℕ) : Type 0 where
+  pub listed : (j : ℕ) → j < length line → getD line j 0 < tripCount w
+
+-- from each of these places on there can be a stop p places further
+pub record Near (starts : List ℕ) (p : ℕ) : Type 0 where
+  pub near : (j : ℕ) → j < length starts → getD starts j 0 + p < 2048
 
 -- every trip of the line is a trip of the timetable and has n stops at least
 pub record Reaches (w line : List ℕ) (n : ℕ) : Type 0 where
