@@ -112,7 +112,6 @@ fn mark_minute(
     requires { ⌜ Routes (now words) (now order) n (now catch)
         × Arrivals (now words) (now arrivals) (now begins)
         × Departures (now words) (now chain) (now first)
-        × (1 ≤ source)
         × (source ≤ stationCount (now words))
         × StandingTo (now words) source (now work) hi
         × (lo ≤ hi)
@@ -199,7 +198,6 @@ fn mark_departure(
     requires { ⌜ Routes (now words) (now order) n (now catch)
         × Arrivals (now words) (now arrivals) (now begins)
         × Departures (now words) (now chain) (now first)
-        × (1 ≤ source)
         × (source ≤ stationCount (now words))
         × StandingTo (now words) source (now work) hi
         × (lo ≤ hi)
@@ -290,7 +288,6 @@ fn mark_departures(
     requires { ⌜ Routes (now words) (now order) n (now catch)
         × Arrivals (now words) (now arrivals) (now begins)
         × Departures (now words) (now chain) (now first)
-        × (1 ≤ source)
         × (source ≤ stationCount (now words))
         × StandingTo (now words) source (now work) hi
         × (lo ≤ hi)
@@ -361,7 +358,6 @@ pub fn mark_chunk(
     requires { ⌜ Routes (now words) (now order) n (now catch)
         × Arrivals (now words) (now arrivals) (now begins)
         × Departures (now words) (now chain) (now first)
-        × (1 ≤ source)
         × (source ≤ stationCount (now words))
         × StandingTo (now words) source (now work) hi
         × (lo ≤ hi)

@@ -18,7 +18,6 @@ mark-departures-requires c κs = (
   search needs,
   search needs,
   search needs,
-  search needs,
   search sought-none,
 )
 

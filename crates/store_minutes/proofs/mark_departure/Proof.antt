@@ -25,7 +25,6 @@ mark-minute-requires c κs = (
   search needs,
   search needs,
   search needs,
-  search needs,
 )
 
 returns-2 : tie.Need-returns-2

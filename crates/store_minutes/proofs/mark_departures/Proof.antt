@@ -25,7 +25,6 @@ Inv-loop words order n chain first arrivals begins catch work lo hi source _ _ _
     Routes words order n catch
     × Arrivals words arrivals begins
     × Departures words chain first
-    × (1 ≤ source)
     × (source ≤ stationCount words)
     × StandingTo words source work hi
     × (lo ≤ hi)
@@ -61,7 +60,6 @@ loop-holds c = (
   search needs,
   search needs,
   search needs,
-  search needs,
   search begins-before,
   search needs,
   search needs,
@@ -73,7 +71,6 @@ loop-holds c = (
 
 mark-departure-requires : tie.Need-mark-departure-requires Inv-loop μ-loop
 mark-departure-requires c κs = (
-  search needs,
   search needs,
   search needs,
   search needs,
@@ -109,14 +106,13 @@ loop-again c = (
   search needs,
   search needs,
   search needs,
-  search needs,
 )
 
 returns : tie.Need-returns Inv-loop μ-loop
 returns c = (
   let b = c .before .loop in
       let i = b .inv in
-      chunked _ _ _ _ (i .0) _ _ (i .2) _ (i .4) (b .p) (b .last) _ _ _ _ (i .10) _ (i .8) (c .loop-test .left) (i .16),
+      chunked _ _ _ _ (i .0) _ _ (i .2) _ (i .3) (b .p) (b .last) _ _ _ _ (i .9) _ (i .7) (c .loop-test .left) (i .15),
   search needs,
   search needs,
   search needs,

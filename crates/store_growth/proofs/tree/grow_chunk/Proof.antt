@@ -10,7 +10,6 @@ mark-chunk-requires c κs = (
   search needs,
   search needs,
   search needs,
-  search needs,
   search standing-to,
   search needs,
   search needs,

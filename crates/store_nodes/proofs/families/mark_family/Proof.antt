@@ -12,8 +12,9 @@ mark-at-requires c κs = (
   search needs,
   search needs,
   search needs,
-  search needs,
   search standing,
+  search needs,
+  search needs,
   search needs,
   search needs,
   search needs,
@@ -33,10 +34,13 @@ returns c = (
   search needs,
   search needs,
   search needs,
+  search needs,
+  search needs,
 )
 
 mark-siblings-requires : tie.Need-mark-siblings-requires
 mark-siblings-requires c κs = (
+  search needs,
   search needs,
   search needs,
   search needs,
@@ -65,8 +69,10 @@ mark-family-spec =
     (λ c. search needs)
     (λ c. search needs)
     (λ c. search needs)
+    (λ c. search needs)
     returns
     mark-siblings-requires
+    (λ c. search needs)
     (λ c. search needs)
     (λ c. search needs)
     (λ c. search needs)

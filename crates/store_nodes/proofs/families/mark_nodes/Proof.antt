@@ -1,25 +1,28 @@
--- The nodes below the one at hand have been marked.
+-- The nodes below the one at hand have been marked, and what is noted is at hand.
 use mathlib.Core.Path.{_≡_}
 use Prim.Native.Nat.{_≤_, _-_}
 use lib.ListN.{length}
 use Rattle.store_nodes.specs.Standing.{ArcsAt, KidsAt}
+use Rattle.store_nodes.specs.Hand.{AtHand, hand-none}
 use Rattle.store_nodes.specs.Chunk.{Raised, raised-none, on-all, raised-all}
 use borrow.Author.Needs.{needs}
 use Rattle.store_nodes.proofs.families.mark_nodes.Statement.{statement}
 use Rattle.store_nodes.proofs.families.mark_nodes.Tie as tie
 
 abbrev Inv-loop : tie.InvT-loop
-Inv-loop words chain first catch work lo hi source d allowed q x₀ arcs₀ kids₀ node₀ x arcs kids node =
+Inv-loop words chain first catch work lo hi source d allowed q x₀ arcs₀ kids₀ hand₀ node₀ x arcs kids hand node =
     (lo ≤ node)
     × (node ≤ hi)
     × (length x ≡ 2048)
+    × (length hand ≡ 65)
     × (length arcs ≡ 6144)
     × (length kids ≡ 30720)
+    × AtHand words source d hand x
     × Raised 64 (ArcsAt words source d) lo node arcs₀ arcs
     × Raised 320 (KidsAt words source d) lo node kids₀ kids
 
 abbrev μ-loop : tie.MeasureT-loop
-μ-loop words chain first catch work lo hi source d allowed q x₀ arcs₀ kids₀ node₀ x arcs kids node =
+μ-loop words chain first catch work lo hi source d allowed q x₀ arcs₀ kids₀ hand₀ node₀ x arcs kids hand node =
     hi - node
 
 loop-holds : tie.Need-loop-holds Inv-loop μ-loop
@@ -29,12 +32,15 @@ loop-holds c = (
   search needs,
   search needs,
   search needs,
+  search needs,
+  search hand-none,
   search raised-none,
   search raised-none,
 )
 
 mark-family-requires : tie.Need-mark-family-requires Inv-loop μ-loop
 mark-family-requires c κs = (
+  search needs,
   search needs,
   search needs,
   search needs,
@@ -60,6 +66,8 @@ loop-again c = (
   search needs,
   search needs,
   search needs,
+  search needs,
+  search needs,
   search on-all,
   search on-all,
 )
@@ -74,6 +82,7 @@ mark-nodes-spec =
     Inv-loop
     μ-loop
     loop-holds
+    (λ c. search needs)
     mark-family-requires
     (λ c. search needs)
     loop-again
