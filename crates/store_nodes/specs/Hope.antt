@@ -10,13 +10,14 @@ use native.Mathlib.Omega.{arith}
 use borrow.Author.Tests.{eqb-true, not-false}
 use lib.Dec.{eqb}
 use lib.ListN.{length, getD}
+use Rattle.lists.specs.Lists.{_∈_}
 use Rattle.timetable.specs.Words.{isTimetable}
 use Rattle.connections.specs.Connections.{Transfer}
 use Rattle.optimality.specs.Ways.{Way}
 use Rattle.stores.specs.Stored.{sequences}
 use Rattle.store_stops.specs.RideStops.{netOf}
-use Rattle.store_slots.specs.Slots.{transferAt}
-use Rattle.store_slots.specs.SlotLaws.{slot-small, slot-stations}
+use Rattle.store_slots.specs.Slots.{transferAt, slots}
+use Rattle.store_slots.specs.SlotLaws.{slot-small}
 use Rattle.store_marks.specs.Reaching.{boardsAt}
 use Rattle.store_marks.specs.Stepping.{Onward}
 use Rattle.store_marks.specs.Marking.{Marked, ArcsMarked, KidsMarked}
@@ -26,7 +27,8 @@ use Rattle.store_tree.specs.StoredTree.{stored-made}
 use Rattle.store_nodes.specs.Minutes.{KidAt, backwards}
 use Rattle.store_nodes.specs.Standing.{Standing, StandingTo, standing, NodeLabels, Judged, ArcsAt, KidsAt}
 use Rattle.store_nodes.specs.Standing.{arcs-at, kids-at}
-use Rattle.store_nodes.specs.Hand.{AtHand, Below, LabelledKid, station-place, next-labels, kid-at-hand}
+use Rattle.store_nodes.specs.Hand.{AtHand, Below, LabelledKid, Quiet, QuietOn, top, next-labels, kid-at-hand}
+use Rattle.store_nodes.specs.Hand.{quiet-none, quiet-one, quiet-still, quiet-then, quiet-later}
 use Rattle.store_nodes.specs.Hand.{parent-stands, below-parent, parent-onward}
 use Rattle.store_nodes.specs.Chunk.{Down, MarkedAt, RaisedOn, on-none, on-alone, on-then, partOf, putPart}
 use Rattle.store_nodes.specs.Chunk.{marked-at-64, marked-at-320}
@@ -44,10 +46,11 @@ pub record Told (n : ℕ) (At : (a d v k : ℕ) → Type 0) (w : List ℕ) (lo v
   pub told : (a d p : ℕ) → Ahead w a d p c x hope → Below w a p s v → Judged w a d allowed q
       → MarkedAt n (At a d v) lo v old new
 
--- and y is as good as x for the next one, and what is noted then is at hand
+-- and y is as good as x for the next one, what is noted then is at hand, and a node that is not is quiet
 pub record Stays (w : List ℕ) (c s v : ℕ) (hope x y hand hand′ : List ℕ) : Type 0 where
   pub kept : (a d p : ℕ) → Ahead w a d p c x hope → Ahead w a d p c y hope
   pub at-hand : (a d p : ℕ) → Below w a p s v → Ahead w a d p c x hope → AtHand w a d hand x → AtHand w a d hand′ y
+  pub quiet : (a d p : ℕ) → Below w a p s v → Ahead w a d p c x hope → QuietOn w a d v (v + 1) hand hand′
 
 -- ---- what the parent says
 -- who has the sequence of the kid and then more begins with that of the parent and goes on with the kid's change
@@ -103,6 +106,14 @@ nobody n Told lo v old none =
       above = λ i h. refl;
     }
 
+-- a kid of a quiet node is quiet, and so is one with which its parent does not go on
+pub quiet-below : (w : List ℕ) (a d p s v : ℕ) → Below w a p s v → s ∈ slots w → Quiet w a d p → Quiet w a d v
+quiet-below w a d p s v below listed q =
+    record {
+      arcs = λ k h. q .kids s (record { listed = listed; holds = arc-hoped w a d p s v below k h });
+      kids = λ k h. q .kids s (record { listed = listed; holds = kid-hoped w a d p s v below k h });
+    }
+
 module _ (w : List ℕ) (lo v c s : ℕ) (x hope allowed q old : List ℕ) (onward : Onward w c s) (few : s < 320)
     (down : getD hope s 0 ≡ 1 → ⊥) where
   none-told : (n : ℕ) (At : (a d v k : ℕ) → Type 0)
@@ -131,8 +142,21 @@ hope-inside hope s z slot few long = omega arith
 pub not-hoped : (hope : List ℕ) (s z : ℕ) → z ≡ s → (getD hope z 0 ≡ 1 → ⊥) → getD hope s 0 ≡ 1 → ⊥
 not-hoped hope s z slot down up = down (ap (λ z. getD hope z 0) slot ∙ up)
 
-pub stays-same : (w : List ℕ) (c s v : ℕ) (hope x hand : List ℕ) → Stays w c s v hope x x hand hand
-stays-same w c s v hope x hand = record { kept = (λ a d p from. from); at-hand = (λ a d p below from at. at) }
+pub stays-same : (w : List ℕ) (c s v : ℕ) (hope x hand : List ℕ) → Onward w c s → s < 320 → (getD hope s 0 ≡ 1 → ⊥)
+    → Stays w c s v hope x x hand hand
+stays-same w c s v hope x hand onward few down =
+    record {
+      kept = (λ a d p from. from);
+      at-hand = (λ a d p below from at. at);
+      quiet = λ a d p below from.
+          let up : KidAt w a d (nodeAt (sequences w a) p) (transferAt w s) → ⊥ =
+          (λ h. down (from .kids s few .1 (record { listed = onward .listed; holds = h }))) in
+          quiet-still w a d v hand
+          (record {
+            arcs = (λ k h. up (arc-hoped w a d p s v below k h));
+            kids = (λ k h. up (kid-hoped w a d p s v below k h));
+          });
+    }
 
 -- ---- one with which it goes on
 -- the labels behind the change of slot s, noted as those of node v, and the marks that they tell
@@ -152,11 +176,10 @@ marked-kid w c s v e x y hand hand′ allowed q arcs arcs′ kids kids′ kid by
       kids-marked = subst (λ e. KidsMarked w e y allowed q kids kids′) there by-kids;
     }
 
-pub stays : (w : List ℕ) → isTimetable w ≡ true → (c s v : ℕ) → Onward w c s
-    → (x y hand hand′ allowed q arcs arcs′ kids kids′ : List ℕ)
-    → MarkedKid w c s v x y hand hand′ allowed q arcs arcs′ kids kids′ → length hand ≡ 65 → (hope : List ℕ)
+pub stays : (w : List ℕ) (c s v : ℕ) → Onward w c s → (x y hand hand′ allowed q arcs arcs′ kids kids′ : List ℕ)
+    → MarkedKid w c s v x y hand hand′ allowed q arcs arcs′ kids kids′ → (hope : List ℕ)
     → Stays w c s v hope x y hand hand′
-stays w ok c s v onward x y hand hand′ allowed q arcs arcs′ kids kids′ marked long hope =
+stays w c s v onward x y hand hand′ allowed q arcs arcs′ kids kids′ marked hope =
     record {
       kept = λ a d p from.
           record {
@@ -172,8 +195,9 @@ stays w ok c s v onward x y hand hand′ allowed q arcs arcs′ kids kids′ mar
           };
       at-hand = λ a d p below from at.
           let e = (transferAt w s) .boarded in
-          kid-at-hand w a d p s v below c x y (from .labels) e hand hand′ (marked .labelled) at
-          (station-place w e hand ok (slot-stations w ok s (onward .listed) .boarded-last) long);
+          kid-at-hand w a d p s v below c x y (from .labels) e hand hand′ (marked .labelled) at;
+      quiet = λ a d p below from.
+          quiet-one w a d v hand hand′ (marked .labelled .noted .rises) (marked .labelled .noted .reaches);
     }
 
 module _ (w : List ℕ) (c s : ℕ) (x y hand hand′ allowed q : List ℕ) (ok : isTimetable w ≡ true) (lo v : ℕ)
@@ -286,11 +310,13 @@ pub record ToldOn (n : ℕ) (At : (a d v k : ℕ) → Type 0) (w work : List ℕ
     (x hope allowed q old new : List ℕ) : Type 0 where
   pub on : (a d : ℕ) → Family w a d work p c x hope allowed q → RaisedOn n (At a d) lo v u old new
 
--- and so far y is as good as x, and what is noted is at hand
-pub record StaysOn (w work : List ℕ) (p c : ℕ) (hope x y hand hand′ : List ℕ) : Type 0 where
+-- and then y is as good as x, what is noted is at hand, and those that are not are quiet
+pub record StaysOn (w work : List ℕ) (p c v u : ℕ) (hope x y hand hand′ : List ℕ) : Type 0 where
   pub kept : (a d p : ℕ) → Ahead w a d p c x hope → Ahead w a d p c y hope
   pub at-hand : (a d : ℕ) → (transferAt w (slotIn (getD work 0 0))) .boarded ≡ a → Ahead w a d p c x hope
       → AtHand w a d hand x → AtHand w a d hand′ y
+  pub quiet : (a d : ℕ) → (transferAt w (slotIn (getD work 0 0))) .boarded ≡ a → Ahead w a d p c x hope
+      → QuietOn w a d v u hand hand′
 
 module _ (n : ℕ) (At : (a d v k : ℕ) → Type 0) (w work : List ℕ) (p lo v c : ℕ) (x hope allowed q old : List ℕ) where
   pub told-none : ToldOn n At w work p lo v v c x hope allowed q old old
@@ -307,7 +333,7 @@ module _ (n : ℕ) (At : (a d v k : ℕ) → Type 0) (w work : List ℕ) (p lo v
       }
 
   pub told-then : (u t : ℕ) (y hand hand′ mid new : List ℕ) → ToldOn n At w work p lo v u c x hope allowed q old mid
-      → StaysOn w work p c hope x y hand hand′ → ToldOn n At w work p lo u t c y hope allowed q mid new
+      → StaysOn w work p c v u hope x y hand hand′ → ToldOn n At w work p lo u t c y hope allowed q mid new
       → ToldOn n At w work p lo v t c x hope allowed q old new
   told-then u t y hand hand′ mid new before stays next =
       record {
@@ -321,26 +347,35 @@ module _ (n : ℕ) (At : (a d v k : ℕ) → Type 0) (w work : List ℕ) (p lo v
             }));
       }
 
-module _ (w work : List ℕ) (p c : ℕ) (hope x hand : List ℕ) where
-  pub stays-none : StaysOn w work p c hope x x hand hand
-  stays-none = record { kept = (λ a d p from. from); at-hand = (λ a d root from at. at) }
-
-  pub stays-one : (hi v : ℕ) (y hand′ : List ℕ) → Siblings w c work p hi → isTimetable w ≡ true
-      → Stays w c (slotIn (getD work v 0)) v hope x y hand hand′ → 1 ≤ v → v < hi → p ≡ parentIn (getD work v 0)
-      → StaysOn w work p c hope x y hand hand′
-  stays-one hi v y hand′ s ok stays some under from =
+module _ (w work : List ℕ) (p c v : ℕ) (hope x hand : List ℕ) where
+  pub stays-none : StaysOn w work p c v v hope x x hand hand
+  stays-none =
       record {
-        kept = stays .kept;
-        at-hand = λ a d root from-p at.
-            stays .at-hand a d p (sibling-below w c work p hi s v under ok some from a root) from-p at;
+        kept = (λ a d p from. from);
+        at-hand = (λ a d root from at. at);
+        quiet = (λ a d root from. quiet-none w a d v hand);
       }
 
-  pub stays-then : (y z hand′ hand″ : List ℕ) → StaysOn w work p c hope x y hand hand′
-      → StaysOn w work p c hope y z hand′ hand″ → StaysOn w work p c hope x z hand hand″
-  stays-then y z hand′ hand″ s t =
+  pub stays-one : (hi : ℕ) (y hand′ : List ℕ) → Siblings w c work p hi → isTimetable w ≡ true
+      → Stays w c (slotIn (getD work v 0)) v hope x y hand hand′ → 1 ≤ v → v < hi → p ≡ parentIn (getD work v 0)
+      → StaysOn w work p c v (v + 1) hope x y hand hand′
+  stays-one hi y hand′ s ok stays some under from =
+      let below = sibling-below w c work p hi s v under ok some from in
       record {
-        kept = (λ a d p from. t .kept a d p (s .kept a d p from));
-        at-hand = (λ a d root from at. t .at-hand a d root (s .kept a d p from) (s .at-hand a d root from at));
+        kept = stays .kept;
+        at-hand = (λ a d root from-p at. stays .at-hand a d p (below a root) from-p at);
+        quiet = (λ a d root from-p. stays .quiet a d p (below a root) from-p);
+      }
+
+  pub stays-then : (u t : ℕ) (y z hand′ hand″ : List ℕ) → StaysOn w work p c v u hope x y hand hand′
+      → StaysOn w work p c u t hope y z hand′ hand″ → StaysOn w work p c v t hope x z hand hand″
+  stays-then u t y z hand′ hand″ r s =
+      record {
+        kept = (λ a d p from. s .kept a d p (r .kept a d p from));
+        at-hand = (λ a d root from at. s .at-hand a d root (r .kept a d p from) (r .at-hand a d root from at));
+        quiet = λ a d root from.
+            quiet-then w a d v u t hand hand′ hand″ (r .quiet a d root from)
+            (s .quiet a d root (r .kept a d p from));
       }
 
 pub family : (w : List ℕ) → isTimetable w ≡ true → (a d : ℕ) (work : List ℕ) (p c : ℕ)
@@ -363,10 +398,14 @@ module _ (w work : List ℕ) (p lo v u c : ℕ) (x hope allowed q old new : List
       → RaisedOn 320 (KidsAt w a d) lo v u old new
   kids-raised t = t .on a d f
 
-pub family-at-hand : (w work : List ℕ) (p c : ℕ) (x y hand hand′ hope allowed q : List ℕ) (a d : ℕ)
-    → Family w a d work p c x hope allowed q → AtHand w a d hand x → StaysOn w work p c hope x y hand hand′
-    → AtHand w a d hand′ y
-family-at-hand w work p c x y hand hand′ hope allowed q a d f at stays = stays .at-hand a d (f .root) (f .ahead) at
+module _ (w work : List ℕ) (p c v u : ℕ) (x y hand hand′ hope allowed q : List ℕ) (a d : ℕ)
+    (f : Family w a d work p c x hope allowed q) (stays : StaysOn w work p c v u hope x y hand hand′) where
+  pub family-at-hand : AtHand w a d hand x → AtHand w a d hand′ y
+  family-at-hand at = stays .at-hand a d (f .root) (f .ahead) at
+
+  pub family-quiet : (before : List ℕ) → top before ≤ top hand → QuietOn w a d v u before hand′
+  family-quiet before rises =
+      quiet-later w a d v u before hand hand′ rises (stays .quiet a d (f .root) (f .ahead))
 
 -- ---- the next sibling
 -- p has node v for a kid as well, below hi

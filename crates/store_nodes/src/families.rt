@@ -9,7 +9,7 @@ ghost use Rattle.store_marks.specs.Held.{Changes};
 ghost use Rattle.store_marks.specs.Stepping.{Onward};
 ghost use Rattle.store_nodes.specs.Standing.{Standing, StandingTo, Judged, ArcsAt, KidsAt};
 ghost use Rattle.store_nodes.specs.Chunk.{Down, Raised, RaisedOn};
-ghost use Rattle.store_nodes.specs.Hand.{AtHand};
+ghost use Rattle.store_nodes.specs.Hand.{AtHand, QuietOn, QuietFrom, top};
 ghost use Rattle.store_nodes.specs.Hope.{Stationed, Family, MarkedKid, Told, Stays, Siblings, ToldOn, StaysOn};
 ghost use Rattle.store_nodes.specs.Hope.{Sure};
 ghost use Rattle.store_tree.specs.Tree.{slotIn, parentIn};
@@ -54,7 +54,7 @@ fn look_ahead(
         × Standing (now words) source (now work) parent
         × AtHand (now words) source d (now hand) (now x)
         × (length (now x) ≡ 2048)
-        × (length (now hand) ≡ 65)
+        × (length (now hand) ≡ 66)
         × Judged (now words) source d (now allowed) (now q)
         × (length (now allowed) ≡ 2048)
         × (length (now q) ≡ 2048)
@@ -64,9 +64,10 @@ fn look_ahead(
         (now (hope .exit)) (now (allowed .entry)) (now (q .entry))
         × Stationed (now (words .entry)) source parent r
         × AtHand (now (words .entry)) source d (now (hand .exit)) (now (x .exit))
+        × (top (now (hand .entry)) ≤ top (now (hand .exit)))
         × (r ≤ stationCount (now (words .entry)))
         × (length (now (x .exit)) ≡ 2048)
-        × (length (now (hand .exit)) ≡ 65)
+        × (length (now (hand .exit)) ≡ 66)
         × (length (now (hope .exit)) ≡ 320) ⌝ }
 {
     // The node was taken before its kids, so nobody reads its arcs again.
@@ -114,7 +115,7 @@ fn mark_kid(
         × (node < 16384)
         × Onward (now words) c (slotIn (getD (now work) node 0))
         × (length (now x) ≡ 2048)
-        × (length (now hand) ≡ 65)
+        × (length (now hand) ≡ 66)
         × (length (now allowed) ≡ 2048)
         × (length (now q) ≡ 2048)
         × (length (now arcs) ≡ 64)
@@ -123,7 +124,7 @@ fn mark_kid(
         (now (x .entry)) (now (x .exit)) (now (hand .entry)) (now (hand .exit)) (now (allowed .entry))
         (now (q .entry)) (now (arcs .entry)) (now (arcs .exit)) (now (kids .entry)) (now (kids .exit))
         × (length (now (x .exit)) ≡ 2048)
-        × (length (now (hand .exit)) ≡ 65)
+        × (length (now (hand .exit)) ≡ 66)
         × (length (now (arcs .exit)) ≡ 64)
         × (length (now (kids .exit)) ≡ 320) ⌝ }
 {
@@ -162,7 +163,7 @@ fn mark_hoped(
         × (slotIn (getD (now work) node 0) < 320)
         × (length (now hope) ≡ 320)
         × (length (now x) ≡ 2048)
-        × (length (now hand) ≡ 65)
+        × (length (now hand) ≡ 66)
         × (length (now allowed) ≡ 2048)
         × (length (now q) ≡ 2048)
         × (length (now arcs) ≡ 6144)
@@ -178,7 +179,7 @@ fn mark_hoped(
         × Stays (now (words .entry)) c (slotIn (getD (now (work .entry)) node 0)) node (now (hope .entry))
         (now (x .entry)) (now (x .exit)) (now (hand .entry)) (now (hand .exit))
         × (length (now (x .exit)) ≡ 2048)
-        × (length (now (hand .exit)) ≡ 65)
+        × (length (now (hand .exit)) ≡ 66)
         × (length (now (arcs .exit)) ≡ 6144)
         × (length (now (kids .exit)) ≡ 30720) ⌝ }
 {
@@ -234,7 +235,7 @@ fn mark_sibling(
         × (parent ≡ parentIn (getD (now work) node 0))
         × (length (now hope) ≡ 320)
         × (length (now x) ≡ 2048)
-        × (length (now hand) ≡ 65)
+        × (length (now hand) ≡ 66)
         × (length (now allowed) ≡ 2048)
         × (length (now q) ≡ 2048)
         × (length (now arcs) ≡ 6144)
@@ -249,11 +250,11 @@ fn mark_sibling(
         × ToldOn 320 (KidsAt (now (words .entry))) (now (words .entry)) (now (work .entry)) parent lo node
         (node + 1) c (now (x .entry)) (now (hope .entry)) (now (allowed .entry)) (now (q .entry))
         (now (kids .entry)) (now (kids .exit))
-        × StaysOn (now (words .entry)) (now (work .entry)) parent c (now (hope .entry))
+        × StaysOn (now (words .entry)) (now (work .entry)) parent c node (node + 1) (now (hope .entry))
         (now (x .entry)) (now (x .exit)) (now (hand .entry)) (now (hand .exit))
         × Sure (now (work .entry)) parent hi (node + 1) r
         × (length (now (x .exit)) ≡ 2048)
-        × (length (now (hand .exit)) ≡ 65)
+        × (length (now (hand .exit)) ≡ 66)
         × (length (now (arcs .exit)) ≡ 6144)
         × (length (now (kids .exit)) ≡ 30720) ⌝ }
 {
@@ -307,7 +308,7 @@ fn mark_kids(
         × (parent ≡ parentIn (getD (now work) node 0))
         × (length (now hope) ≡ 320)
         × (length (now x) ≡ 2048)
-        × (length (now hand) ≡ 65)
+        × (length (now hand) ≡ 66)
         × (length (now allowed) ≡ 2048)
         × (length (now q) ≡ 2048)
         × (length (now arcs) ≡ 6144)
@@ -322,12 +323,12 @@ fn mark_kids(
         × ToldOn 320 (KidsAt (now (words .entry))) (now (words .entry)) (now (work .entry)) parent lo node r c
         (now (x .entry)) (now (hope .entry)) (now (allowed .entry)) (now (q .entry))
         (now (kids .entry)) (now (kids .exit))
-        × StaysOn (now (words .entry)) (now (work .entry)) parent c (now (hope .entry))
+        × StaysOn (now (words .entry)) (now (work .entry)) parent c node r (now (hope .entry))
         (now (x .entry)) (now (x .exit)) (now (hand .entry)) (now (hand .exit))
         × (node < r)
         × (r ≤ hi)
         × (length (now (x .exit)) ≡ 2048)
-        × (length (now (hand .exit)) ≡ 65)
+        × (length (now (hand .exit)) ≡ 66)
         × (length (now (arcs .exit)) ≡ 6144)
         × (length (now (kids .exit)) ≡ 30720) ⌝ }
 {
@@ -387,7 +388,7 @@ fn mark_siblings(
         × StandingTo (now words) source (now work) hi
         × AtHand (now words) source d (now hand) (now x)
         × (length (now x) ≡ 2048)
-        × (length (now hand) ≡ 65)
+        × (length (now hand) ≡ 66)
         × Judged (now words) source d (now allowed) (now q)
         × (length (now allowed) ≡ 2048)
         × (length (now q) ≡ 2048)
@@ -400,10 +401,11 @@ fn mark_siblings(
     ensures { λ r. ⌜ RaisedOn 64 (ArcsAt (now (words .entry)) source d) lo node r (now (arcs .entry)) (now (arcs .exit))
         × RaisedOn 320 (KidsAt (now (words .entry)) source d) lo node r (now (kids .entry)) (now (kids .exit))
         × AtHand (now (words .entry)) source d (now (hand .exit)) (now (x .exit))
+        × QuietOn (now (words .entry)) source d node r (now (hand .entry)) (now (hand .exit))
         × (node < r)
         × (r ≤ hi)
         × (length (now (x .exit)) ≡ 2048)
-        × (length (now (hand .exit)) ≡ 65)
+        × (length (now (hand .exit)) ≡ 66)
         × (length (now (arcs .exit)) ≡ 6144)
         × (length (now (kids .exit)) ≡ 30720) ⌝ }
 {
@@ -473,7 +475,7 @@ fn mark_family(
         × StandingTo (now words) source (now work) hi
         × AtHand (now words) source d (now hand) (now x)
         × (length (now x) ≡ 2048)
-        × (length (now hand) ≡ 65)
+        × (length (now hand) ≡ 66)
         × Judged (now words) source d (now allowed) (now q)
         × (length (now allowed) ≡ 2048)
         × (length (now q) ≡ 2048)
@@ -485,10 +487,11 @@ fn mark_family(
     ensures { λ r. ⌜ RaisedOn 64 (ArcsAt (now (words .entry)) source d) lo node r (now (arcs .entry)) (now (arcs .exit))
         × RaisedOn 320 (KidsAt (now (words .entry)) source d) lo node r (now (kids .entry)) (now (kids .exit))
         × AtHand (now (words .entry)) source d (now (hand .exit)) (now (x .exit))
+        × QuietOn (now (words .entry)) source d node r (now (hand .entry)) (now (hand .exit))
         × (node < r)
         × (r ≤ hi)
         × (length (now (x .exit)) ≡ 2048)
-        × (length (now (hand .exit)) ≡ 65)
+        × (length (now (hand .exit)) ≡ 66)
         × (length (now (arcs .exit)) ≡ 6144)
         × (length (now (kids .exit)) ≡ 30720) ⌝ }
 {
@@ -532,7 +535,8 @@ fn mark_family(
     )
 }
 
-// Raises the flags of all nodes from lo up to hi. What x holds is of no further use.
+// Raises the flags of all nodes from lo up to hi. Returns a number up to which nodes were looked at: of these nodes
+// those from there on are on no optimal connection at minute d. What x holds is of no further use.
 pub fn mark_nodes(
     words: &[u16],
     chain: &[u16],
@@ -548,7 +552,7 @@ pub fn mark_nodes(
     x: &mut [u32],
     arcs: &mut [u8],
     kids: &mut [u8],
-)
+) -> u16
     requires { ⌜ (16384 ≤ length (now words))
         × (isTimetable (now words) ≡ true)
         × Departures (now words) (now chain) (now first)
@@ -563,8 +567,9 @@ pub fn mark_nodes(
         × (length (now kids) ≡ 30720)
         × (lo ≤ hi)
         × (hi ≤ lo + 96) ⌝ }
-    ensures { λ _. ⌜ Raised 64 (ArcsAt (now (words .entry)) source d) lo hi (now (arcs .entry)) (now (arcs .exit))
+    ensures { λ r. ⌜ Raised 64 (ArcsAt (now (words .entry)) source d) lo hi (now (arcs .entry)) (now (arcs .exit))
         × Raised 320 (KidsAt (now (words .entry)) source d) lo hi (now (kids .entry)) (now (kids .exit))
+        × QuietFrom (now (words .entry)) source d lo hi r
         × (length (now (x .exit)) ≡ 2048)
         × (length (now (arcs .exit)) ≡ 6144)
         × (length (now (kids .exit)) ≡ 30720) ⌝ }
@@ -591,4 +596,5 @@ pub fn mark_nodes(
             kids,
         );
     }
+    nodes::last_noted(&hand)
 }

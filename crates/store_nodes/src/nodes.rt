@@ -3,9 +3,9 @@
 // hand at once: for each station it is noted, one more than its number, which node's they are.
 ghost use mathlib.Core.Path.{_≡_};
 ghost use mathlib.Core.Bool.{true};
-ghost use Prim.Native.Nat.{_+_, _≤_, _<_};
+ghost use Prim.Native.Nat.{_+_, _≤_, _<_, max};
 ghost use lib.Dec.{eqb};
-ghost use lib.ListN.{length, getD, set};
+ghost use lib.ListN.{length, getD};
 ghost use Rattle.timetable.specs.Words.{stationCount, isTimetable};
 ghost use Rattle.store_slots.specs.Slots.{transferAt};
 ghost use Rattle.store_departures.specs.Held.{Departures};
@@ -14,7 +14,7 @@ ghost use Rattle.store_marks.specs.Stepping.{Onward};
 ghost use Rattle.store_marks.specs.Marking.{Marked};
 ghost use Rattle.store_tree.specs.Tree.{slotIn, parentIn};
 ghost use Rattle.store_nodes.specs.Standing.{Standing, NodeLabels, Judged, ArcsAt, KidsAt};
-ghost use Rattle.store_nodes.specs.Hand.{AtHand, LabelledKid};
+ghost use Rattle.store_nodes.specs.Hand.{AtHand, LabelledKid, Noted, top};
 ghost use Rattle.store_nodes.specs.Chunk.{MarkedAt};
 
 // Each node has a flag for each station that there can be, and one for each slot.
@@ -22,8 +22,10 @@ pub const ARC_FLAGS: usize = 64;
 
 pub const KID_FLAGS: usize = 320;
 
-// For each station, from 0 on, which node's labels stand there.
-pub const HAND_WORDS: usize = 65;
+// For each station, from 0 on, which node's labels stand there, and behind these places the last node that was noted.
+const LAST: usize = 65;
+
+pub const HAND_WORDS: usize = LAST + 1;
 
 // The number of a node's parent.
 pub fn parent_of(work: &[u32], node: usize) -> usize
@@ -54,19 +56,40 @@ fn boards_at(words: &[u16], work: &[u32], node: usize) -> usize
 
 // Whether the labels at station c are those of the node.
 fn is_at_hand(hand: &[u16], c: usize, node: usize) -> bool
-    requires { ⌜ (c < length (now hand)) × (node < 16384) ⌝ }
+    requires { ⌜ (c < 65) × (node < 16384) × (length (now hand) ≡ 66) ⌝ }
     ensures { λ r. ⌜ r ≡ eqb (getD (now (hand .entry)) c 0) (node + 1) ⌝ }
 {
     words::word(hand, c) as usize == node + 1
 }
 
+// The larger of two numbers.
+fn larger(a: u16, b: u16) -> u16
+    ensures { λ r. ⌜ r ≡ max a b ⌝ }
+{
+    if a < b {
+        return b;
+    }
+    a
+}
+
 // Notes that the labels at station c are those of the node.
 fn note(hand: &mut [u16], c: usize, node: usize)
-    requires { ⌜ (c < length (now hand)) × (node < 16384) ⌝ }
-    ensures { λ _. ⌜ now (hand .exit) ≡ set (now (hand .entry)) c (node + 1) ⌝ }
+    requires { ⌜ (c < 65) × (node < 16384) × (length (now hand) ≡ 66) ⌝ }
+    ensures { λ _. ⌜ Noted c node (now (hand .entry)) (now (hand .exit)) ⌝ }
     ensures { λ _. ⌜ length (now (hand .exit)) ≡ length (now (hand .entry)) ⌝ }
 {
-    hand[c] = (node + 1) as u16;
+    let number = (node + 1) as u16;
+    let last = hand[LAST];
+    hand[c] = number;
+    hand[LAST] = larger(last, number);
+}
+
+// One more than the last node that was noted.
+pub fn last_noted(hand: &[u16]) -> u16
+    requires { ⌜ length (now hand) ≡ 66 ⌝ }
+    ensures { λ r. ⌜ r ≡ top (now (hand .entry)) ⌝ }
+{
+    hand[LAST]
 }
 
 // Finds the labels of the root, for those who start at minute d or later. Returns the source, where they board.
@@ -85,12 +108,14 @@ fn label_start(
         × (source ≤ stationCount (now words))
         × AtHand (now words) source d (now hand) (now x)
         × (length (now x) ≡ 2048)
-        × (length (now hand) ≡ 65) ⌝ }
+        × (length (now hand) ≡ 66) ⌝ }
     ensures { λ r. ⌜ NodeLabels (now (words .entry)) source d 0 r (now (x .exit))
         × AtHand (now (words .entry)) source d (now (hand .exit)) (now (x .exit))
+        × (top (now (hand .entry)) ≤ top (now (hand .exit)))
+        × (0 < top (now (hand .exit)))
         × (r ≤ stationCount (now (words .entry)))
         × (length (now (x .exit)) ≡ 2048)
-        × (length (now (hand .exit)) ≡ 65) ⌝ }
+        × (length (now (hand .exit)) ≡ 66) ⌝ }
 {
     store_marks::label_root(words, chain, first, source, d, x);
     note(hand, source, 0);
@@ -118,12 +143,12 @@ pub fn label_kid(
         × (node < 16384)
         × Onward (now words) c (slotIn (getD (now work) node 0))
         × (length (now x) ≡ 2048)
-        × (length (now hand) ≡ 65) ⌝ }
+        × (length (now hand) ≡ 66) ⌝ }
     ensures { λ r. ⌜ LabelledKid (now (words .entry)) c (slotIn (getD (now (work .entry)) node 0)) node r
         (now (x .entry)) (now (x .exit)) (now (hand .entry)) (now (hand .exit))
         × (r ≤ stationCount (now (words .entry)))
         × (length (now (x .exit)) ≡ 2048)
-        × (length (now (hand .exit)) ≡ 65) ⌝ }
+        × (length (now (hand .exit)) ≡ 66) ⌝ }
 {
     let e = store_marks::label_step(words, chain, first, catch, c, slot_of(work, node), x);
     note(hand, e, node);
@@ -152,12 +177,14 @@ fn label_node(
         × Standing (now words) source (now work) node
         × AtHand (now words) source d (now hand) (now x)
         × (length (now x) ≡ 2048)
-        × (length (now hand) ≡ 65) ⌝ }
+        × (length (now hand) ≡ 66) ⌝ }
     ensures { λ r. ⌜ NodeLabels (now (words .entry)) source d node r (now (x .exit))
         × AtHand (now (words .entry)) source d (now (hand .exit)) (now (x .exit))
+        × (top (now (hand .entry)) ≤ top (now (hand .exit)))
+        × (node < top (now (hand .exit)))
         × (r ≤ stationCount (now (words .entry)))
         × (length (now (x .exit)) ≡ 2048)
-        × (length (now (hand .exit)) ≡ 65) ⌝ }
+        × (length (now (hand .exit)) ≡ 66) ⌝ }
 {
     let c = boards_at(words, work, node);
     if is_at_hand(hand, c, node) {
@@ -198,7 +225,7 @@ pub fn mark_node(
         × Standing (now words) source (now work) node
         × AtHand (now words) source d (now hand) (now x)
         × (length (now x) ≡ 2048)
-        × (length (now hand) ≡ 65)
+        × (length (now hand) ≡ 66)
         × Judged (now words) source d (now allowed) (now q)
         × (length (now allowed) ≡ 2048)
         × (length (now q) ≡ 2048)
@@ -211,7 +238,9 @@ pub fn mark_node(
         × (length (now (kids .exit)) ≡ 320)
         × NodeLabels (now (words .entry)) source d node r (now (x .exit))
         × AtHand (now (words .entry)) source d (now (hand .exit)) (now (x .exit))
-        × (length (now (hand .exit)) ≡ 65)
+        × (top (now (hand .entry)) ≤ top (now (hand .exit)))
+        × (node < top (now (hand .exit)))
+        × (length (now (hand .exit)) ≡ 66)
         × (r ≤ stationCount (now (words .entry))) ⌝ }
 {
     let c = label_node(words, chain, first, catch, work, node, source, d, x, hand);
@@ -245,7 +274,7 @@ pub fn mark_at(
         × Standing (now words) source (now work) node
         × AtHand (now words) source d (now hand) (now x)
         × (length (now x) ≡ 2048)
-        × (length (now hand) ≡ 65)
+        × (length (now hand) ≡ 66)
         × Judged (now words) source d (now allowed) (now q)
         × (length (now allowed) ≡ 2048)
         × (length (now q) ≡ 2048)
@@ -257,8 +286,10 @@ pub fn mark_at(
         (now (arcs .entry)) (now (arcs .exit))
         × MarkedAt 320 (KidsAt (now (words .entry)) source d node) lo node (now (kids .entry)) (now (kids .exit))
         × AtHand (now (words .entry)) source d (now (hand .exit)) (now (x .exit))
+        × (top (now (hand .entry)) ≤ top (now (hand .exit)))
+        × (node < top (now (hand .exit)))
         × (length (now (x .exit)) ≡ 2048)
-        × (length (now (hand .exit)) ≡ 65)
+        × (length (now (hand .exit)) ≡ 66)
         × (length (now (arcs .exit)) ≡ 6144)
         × (length (now (kids .exit)) ≡ 30720) ⌝ }
 {

@@ -13,6 +13,7 @@ returns c = (
   search needs,
   search needs,
   search needs,
+  search needs,
 )
 
 mark-node-requires : tie.Need-mark-node-requires

@@ -1,6 +1,7 @@
 -- The root by itself, or the siblings of the node.
 use Rattle.store_nodes.specs.Standing.{standing}
 use Rattle.store_nodes.specs.Chunk.{on-alone}
+use Rattle.store_nodes.specs.Hand.{quiet-one}
 use borrow.Author.Needs.{needs}
 use Rattle.store_nodes.proofs.families.mark_family.Statement.{statement}
 use Rattle.store_nodes.proofs.families.mark_family.Tie as tie
@@ -30,6 +31,7 @@ returns c = (
   search on-alone,
   search on-alone,
   search needs,
+  search quiet-one,
   search needs,
   search needs,
   search needs,

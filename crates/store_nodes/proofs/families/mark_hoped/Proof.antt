@@ -10,7 +10,7 @@ returns : tie.Need-returns
 returns c = (
   search (arcs-none, not-hoped),
   search (kids-none, not-hoped),
-  search stays-same,
+  search (stays-same, not-hoped),
   search needs,
   search needs,
   search needs,

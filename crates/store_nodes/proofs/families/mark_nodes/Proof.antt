@@ -3,7 +3,7 @@ use mathlib.Core.Path.{_≡_}
 use Prim.Native.Nat.{_≤_, _-_}
 use lib.ListN.{length}
 use Rattle.store_nodes.specs.Standing.{ArcsAt, KidsAt}
-use Rattle.store_nodes.specs.Hand.{AtHand, hand-none}
+use Rattle.store_nodes.specs.Hand.{AtHand, QuietOn, hand-none, quiet-none, quiet-then, quiet-all}
 use Rattle.store_nodes.specs.Chunk.{Raised, raised-none, on-all, raised-all}
 use borrow.Author.Needs.{needs}
 use Rattle.store_nodes.proofs.families.mark_nodes.Statement.{statement}
@@ -14,10 +14,11 @@ Inv-loop words chain first catch work lo hi source d allowed q x₀ arcs₀ kids
     (lo ≤ node)
     × (node ≤ hi)
     × (length x ≡ 2048)
-    × (length hand ≡ 65)
+    × (length hand ≡ 66)
     × (length arcs ≡ 6144)
     × (length kids ≡ 30720)
     × AtHand words source d hand x
+    × QuietOn words source d lo node hand₀ hand
     × Raised 64 (ArcsAt words source d) lo node arcs₀ arcs
     × Raised 320 (KidsAt words source d) lo node kids₀ kids
 
@@ -34,6 +35,7 @@ loop-holds c = (
   search needs,
   search needs,
   search hand-none,
+  search quiet-none,
   search raised-none,
   search raised-none,
 )
@@ -68,12 +70,13 @@ loop-again c = (
   search needs,
   search needs,
   search needs,
+  search quiet-then,
   search on-all,
   search on-all,
 )
 
 returns : tie.Need-returns Inv-loop μ-loop
-returns c = (search raised-all, search raised-all, search needs, search needs, search needs)
+returns c = (search raised-all, search raised-all, search quiet-all, search needs, search needs, search needs)
 
 pub mark-nodes-spec : {M : Type 1} → statement M
 mark-nodes-spec =
@@ -86,6 +89,8 @@ mark-nodes-spec =
     mark-family-requires
     (λ c. search needs)
     loop-again
+    (λ c. search needs)
+    (λ c κs. search needs)
     (λ c. search needs)
     (λ c. search needs)
     (λ c. search needs)

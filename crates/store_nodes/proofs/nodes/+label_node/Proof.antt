@@ -5,7 +5,8 @@ use borrow.Author.Needs.{needs}
 use borrow.Fn.Kinds.{In}
 use borrow.Fn.PlainCycle.{Measures, is, falls, and}
 use Rattle.store_nodes.specs.Standing.{node-inside, node-few, node-slot, node-station}
-use Rattle.store_nodes.specs.Hand.{hand-there, node-place, root-there, parent-under, parent-stands}
+use Rattle.store_nodes.specs.Hand.{hand-there, hand-under, node-place, root-there, root-under}
+use Rattle.store_nodes.specs.Hand.{parent-under, parent-stands}
 use Rattle.store_nodes.specs.Hand.{node-onward-from, node-labelled, node-at-hand}
 use Rattle.store_nodes.proofs.nodes.label_node.Reads as label-node
 use Rattle.store_nodes.proofs.nodes.label_node.Kinds as label-node-kinds
@@ -59,7 +60,7 @@ label-node-is-at-hand-requires : (t : ℕ) → label-node-lts.Need-is-at-hand-re
   label-kid-reads.Learnt,
 ) (label-node-at t) label-node.Post
 label-node-is-at-hand-requires t c κs =
-    (search node-place, search node-few)
+    (search node-place, search node-few, search needs)
 
 label-node-returns : (t : ℕ) → label-node-lts.Need-returns (
   boards-at-reads.Asked,
@@ -75,8 +76,15 @@ label-node-returns : (t : ℕ) → label-node-lts.Need-returns (
   label-kid-reads.Asked,
   label-kid-reads.Learnt,
 ) (label-node-at t) label-node.Post
-label-node-returns t c =
-    (search hand-there, search needs, search node-station, search needs, search needs)
+label-node-returns t c = (
+  search (hand-there, node-place),
+  search needs,
+  search needs,
+  search (hand-under, node-place),
+  search node-station,
+  search needs,
+  search needs,
+)
 
 label-node-returns-2 : (t : ℕ) → label-node-lts.Need-returns-2 (
   boards-at-reads.Asked,
@@ -92,8 +100,15 @@ label-node-returns-2 : (t : ℕ) → label-node-lts.Need-returns-2 (
   label-kid-reads.Asked,
   label-kid-reads.Learnt,
 ) (label-node-at t) label-node.Post
-label-node-returns-2 t c =
-    (search root-there, search needs, search needs, search needs, search needs)
+label-node-returns-2 t c = (
+  search root-there,
+  search needs,
+  search needs,
+  search root-under,
+  search needs,
+  search needs,
+  search needs,
+)
 
 label-node-parent-of-requires : (t : ℕ) → label-node-lts.Need-parent-of-requires (
   boards-at-reads.Asked,
@@ -200,8 +215,9 @@ label-node-returns-3 t c =
       node-labelled _ (entry .1) _ _ _ (entry .5) (called .before .if2 .left) _ (called .parent-of .ensures) _ _ _
           (labelled .label-node .ensures .0) _ _ _ _ (kid .label-kid .ensures .0),
       node-at-hand _ (entry .1) _ _ _ (entry .5) (called .before .if2 .left) _ (called .parent-of .ensures) _ _ _
-          (labelled .label-node .ensures .0) _ _ _ _ (kid .label-kid .ensures .0) (labelled .label-node .ensures .1)
-          (kid .label-kid .ensures .1) (labelled .label-node .ensures .4),
+          (labelled .label-node .ensures .0) _ _ _ _ (kid .label-kid .ensures .0) (labelled .label-node .ensures .1),
+      omega (arith, labelled .label-node .ensures .2, kid .label-kid .ensures .0 .noted .rises),
+      kid .label-kid .ensures .0 .noted .reaches,
       search needs,
       search needs,
       search needs,

@@ -17,7 +17,7 @@ label-kid-spec =
     (tie.spec
     (λ c κs. search needs)
     label-step-requires
-    (λ c κs. (search station-place, search needs))
+    (λ c κs. (search station-place, search needs, search needs))
     (λ c. search needs)
     (λ c. search needs)
     returns)

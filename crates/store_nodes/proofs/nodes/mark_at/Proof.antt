@@ -30,6 +30,8 @@ returns c = (
   search needs,
   search needs,
   search needs,
+  search needs,
+  search needs,
   search marked-long-64,
   search marked-long-320,
 )

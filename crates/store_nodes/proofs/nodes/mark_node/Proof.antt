@@ -24,6 +24,8 @@ returns c = (
   search needs,
   search needs,
   search needs,
+  search needs,
+  search needs,
 )
 
 pub mark-node-spec : {M : Type 1} → statement M
