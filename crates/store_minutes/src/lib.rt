@@ -197,16 +197,6 @@ fn is_quiet(reach: &[u16], d: usize, chunk: Chunk) -> bool
     words::word(reach, d) as usize <= chunk.least
 }
 
-// The larger of two numbers.
-fn larger(a: u16, b: u16) -> u16
-    ensures { λ r. ⌜ r ≡ max a b ⌝ }
-{
-    if a < b {
-        return b;
-    }
-    a
-}
-
 // Notes up to which node some were looked at for minute d.
 fn note_reach(reach: &mut [u16], d: usize, node: u16)
     requires { ⌜ (d < 2880) × (length (now reach) ≡ 2880) ⌝ }
@@ -214,7 +204,7 @@ fn note_reach(reach: &mut [u16], d: usize, node: u16)
     ensures { λ _. ⌜ length (now (reach .exit)) ≡ length (now (reach .entry)) ⌝ }
 {
     let old = reach[d];
-    reach[d] = larger(old, node);
+    reach[d] = store_nodes::larger(old, node);
 }
 
 // Raises the flags for the departure at place p, unless it is at the minute of the last one, or no node of the chunk is

@@ -63,7 +63,7 @@ fn is_at_hand(hand: &[u16], c: usize, node: usize) -> bool
 }
 
 // The larger of two numbers.
-fn larger(a: u16, b: u16) -> u16
+pub fn larger(a: u16, b: u16) -> u16
     ensures { λ r. ⌜ r ≡ max a b ⌝ }
 {
     if a < b {
