@@ -2,10 +2,12 @@
 // the arcs and kids that its marks tell. The list is that of all slots.
 ghost use mathlib.Core.Path.{_≡_};
 ghost use Prim.Native.Nat.{_+_, _≤_, _<_};
+ghost use lib.ListN.{length};
 ghost use Rattle.timetable.specs.Words.{stationCount};
 ghost use Rattle.store_departures.specs.Held.{Departures};
 ghost use Rattle.store_frontier.specs.Routes.{Routes};
 ghost use Rattle.store_frontier.specs.Arrivals.{Arrivals};
+ghost use Rattle.store_minutes.specs.Looking.{LookedTo};
 ghost use Rattle.store_growth.specs.Chunks.{SomeChunk, AllReached, Reached, Whole};
 ghost use Rattle.store_tree.specs.Tree.{Grown};
 ghost use Rattle.stores.specs.Stored.{sequences};
@@ -22,6 +24,9 @@ const CHUNK: usize = 96;
 const ARC_FLAGS: usize = 6144;
 
 const KID_FLAGS: usize = 30720;
+
+// The minutes of the two days, for each of which it is noted up to which node some were looked at.
+const MINUTES: usize = 2880;
 
 // Takes the nodes from lo up to hi by their flags. Returns the numbers of nodes and arcs then, if they fit.
 fn take_chunk(
@@ -80,6 +85,7 @@ fn grow_chunk(
     source: usize,
     work: &mut [u32],
     targets: &mut [u8],
+    reach: &mut [u16],
     lo: usize,
     hi: usize,
     nodes: usize,
@@ -94,9 +100,13 @@ fn grow_chunk(
         × (lo ≤ hi)
         × (hi ≤ nodes + 1)
         × (hi ≤ lo + 96)
-        × (now list ≡ slots (now words)) ⌝ }
+        × (now list ≡ slots (now words))
+        × LookedTo (now words) source lo (now reach)
+        × (length (now reach) ≡ 2880) ⌝ }
     ensures { λ r. ⌜ Reached (now (words .entry)) (sequences (now (words .entry)) source) source (now (work .exit))
-        (now (targets .exit)) hi r ⌝ }
+        (now (targets .exit)) hi r
+        × LookedTo (now (words .entry)) source hi (now (reach .exit))
+        × (length (now (reach .exit)) ≡ 2880) ⌝ }
 {
     let mut v = [0u32; STOPS_MOST];
     let mut q = [0u32; STOPS_MOST];
@@ -116,6 +126,7 @@ fn grow_chunk(
         lo,
         hi,
         source,
+        reach,
         &mut v,
         &mut q,
         &mut x,
@@ -161,6 +172,7 @@ pub fn grow(
     ensures { λ r. ⌜ Whole (now (words .entry)) (sequences (now (words .entry)) source) source (now (work .exit))
         (now (targets .exit)) r ⌝ }
 {
+    let mut reach = [0u16; MINUTES];
     let mut n = 0;
     let mut m = 0;
     let mut lo = 0;
@@ -179,6 +191,7 @@ pub fn grow(
             source,
             work,
             targets,
+            &mut reach,
             lo,
             hi,
             n,

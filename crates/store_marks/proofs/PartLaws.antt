@@ -18,7 +18,7 @@ use Rattle.store_departures.specs.Held.{Departures, goes-few, part-ordered, par
 use Rattle.store_marks.specs.Arrays.{fill, fall}
 use Rattle.store_marks.specs.Riding.{rootLabel}
 use Rattle.store_marks.specs.Held.{Inside}
-use Rattle.store_marks.specs.Stepping.{root-labelled}
+use Rattle.store_marks.specs.Stepping.{Keeps, root-labelled, root-keeps}
 
 -- ---- the places of a station's departures
 module _
@@ -111,6 +111,11 @@ module _ (whole l x : List ℕ) (k end : ℕ) where
         → length x₀ ≡ 2048 → isTimetable w ≡ true → Labelled w a d [] a x
     root-done h g x₀ a is long ok =
         subst (Labelled w a d [] a) (sym (fill-done (rootLabel w d) left h g ∙ is)) (root-labelled w ok x₀ long a d)
+
+    pub root-kept : k ≤ end → end ≤ k → (x₀ : List ℕ) (a : ℕ) → whole ≡ fill (rootLabel w d) (waiting w a) x₀
+        → length x₀ ≡ 2048 → isTimetable w ≡ true → Keeps w a x₀ x
+    root-kept h g x₀ a is long ok =
+        subst (Keeps w a x₀) (sym (fill-done (rootLabel w d) left h g ∙ is)) (root-keeps w ok x₀ long a d)
 
 pub root-start : (w chain first : List ℕ) → isTimetable w ≡ true → Departures w chain first → (c : ℕ)
     → c ≤ stationCount w → (begin end : ℕ) → begin ≡ getD first c 0 → end ≡ getD first (c + 1) 0 → (d : ℕ) (x : List ℕ)

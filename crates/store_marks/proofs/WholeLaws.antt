@@ -1,5 +1,5 @@
--- All who board at a station, one after the other, and what comes of it: the labels behind one change more, those
--- behind a path of changes, and the marks of a node.
+-- All who board at a station, one after the other, and what comes of it: the labels behind one change more, and the
+-- marks of a node.
 use mathlib.Core.Path.{_≡_, sym, ap, subst, _∙_}
 use mathlib.Core.Bool.{true, false, false≢true}
 use mathlib.Core.List.{List, [], _∷_, _++_}
@@ -28,19 +28,9 @@ use Rattle.store_marks.specs.Riding.{Visit, boarding, boardings, run, of
 use Rattle.store_marks.specs.Riding.{staying, stays, foots, flagArc, flagKids}
 use Rattle.store_marks.specs.Held.{Way}
 use Rattle.store_marks.specs.Ways.{RidesBetween, between}
-use Rattle.store_marks.specs.Stepping.{pair, pair-same, Leads, Steps, Stepped, run-append}
-use Rattle.store_marks.specs.Stepping.{step-labelled, step-kept}
+use Rattle.store_marks.specs.Stepping.{pair, pair-same, Leads, Onward, Steps, Stepped, run-append}
+use Rattle.store_marks.specs.Stepping.{Keeps, step-labelled, step-keeps}
 use Rattle.store_marks.specs.Marking.{Marked, Slotted, ArcsMarked, KidsMarked, arcs-marked, kids-marked}
-use Rattle.store_marks.specs.Paths.{
-  changed,
-  reached,
-  Path,
-  changed-none,
-  changed-more,
-  reached-none,
-  reached-more,
-}
-use Rattle.store_marks.specs.Paths.{Onward, LabelledTo, boards-reached}
 use Rattle.store_marks.proofs.PartLaws.{part}
 
 next : (l : List ℕ) (k end g : ℕ) → g ≡ getD l k 0 → k < end → end ≤ length l
@@ -224,9 +214,9 @@ module _
           next = λ a d rev there-c labels.
               subst (Labelled w a d (pair y e ∷ rev) e) (sym is-stepped)
               (step-labelled w ok c (pair y e) (leads .apart) ways ways-are x₀ long a d rev there-c labels);
-          kept = λ a d rev labels.
-              subst (Labelled w a d rev c) (sym is-stepped)
-              (step-kept w ok c (pair y e) (leads .apart) ways ways-are x₀ long a d rev labels);
+          keeps =
+              subst (Keeps w e x₀) (sym is-stepped)
+              (step-keeps w ok c (pair y e) (leads .apart) ways ways-are x₀ long);
         }
 
 -- ---- the change of a slot
@@ -253,52 +243,3 @@ pub slot-stepped : (w : List ℕ) (c s y e : ℕ) (x x′ : List ℕ) → y ≡ 
 slot-stepped w c s y e x x′ alights boards step =
     let same : pair y e ≡ transferAt w s = pair-same alights boards in
     record { steps = subst (λ t. Steps w c t x x′) same step; boards = boards }
-
--- the word read is the slot
-module _ (w : List ℕ) (c : ℕ) (path : List ℕ) (m s : ℕ) (slot : s ≡ getD path m 0) where
-  pub slot-onward : Onward w c (getD path m 0) → Onward w c s
-  slot-onward h = subst (Onward w c) (sym slot) h
-
-  pub slot-read : (e : ℕ) (x x′ : List ℕ) → Stepped w c s e x x′ → Stepped w c (getD path m 0) e x x′
-  slot-read e x x′ h = subst (λ z. Stepped w c z e x x′) slot h
-
--- ---- a path of changes
-module _ (w : List ℕ) (a d : ℕ) (path : List ℕ) where
-  pub path-start : (x : List ℕ) → Labelled w a d [] a x → LabelledTo w a d path 0 a x
-  path-start x labels =
-      record {
-        there = sym (reached-none w path a);
-        labels = subst (λ rev. Labelled w a d rev a x) (sym (changed-none w path)) labels;
-      }
-
-  pub path-done : (m k c : ℕ) (x : List ℕ) → m ≤ k → k ≤ m → LabelledTo w a d path m c x
-      → Labelled w a d (changed w k path) (reached w a path k) x
-  path-done m k c x h g at =
-      let e : m ≡ k = omega arith in
-      subst (λ i. Labelled w a d (changed w i path) (reached w a path i) x) e
-      (subst (λ z. Labelled w a d (changed w m path) z x) (at .there) (at .labels))
-
-  module _ (m c : ℕ) (x : List ℕ) (at : LabelledTo w a d path m c x) (k : ℕ) (is : Path w a path k) (more : m < k) where
-    inside : m < length path
-    inside = omega (arith, is .long)
-
-    pub path-onward : Onward w c (getD path m 0)
-    path-onward = subst (λ z. Onward w z (getD path m 0)) (sym (at .there)) (is .onward m more)
-
-    pub path-on : (e : ℕ) (x′ : List ℕ) → Stepped w c (getD path m 0) e x x′ → LabelledTo w a d path (m + 1) e x′
-    path-on e x′ step =
-        let t = transferAt w (getD path m 0) in
-        let rev : t ∷ changed w m path ≡ changed w (m + 1) path =
-        sym (changed-more w path m inside) ∙ ap (λ i. changed w i path) (sym (add-one m)) in
-        record {
-          there = step .boards ∙ sym (reached-more w path a m) ∙ ap (reached w a path) (sym (add-one m));
-          labels =
-              subst (λ z. Labelled w a d (changed w (m + 1) path) z x′) (sym (step .boards))
-              (subst (λ r. Labelled w a d r (t .boarded) x′) rev
-              (step .steps .next a d (changed w m path)
-              (boards-reached w path a m (omega (arith, inside)) ∙ sym (at .there))
-              (at .labels)));
-        }
-
-pub path-inside : (w : List ℕ) (a : ℕ) (path : List ℕ) (k m : ℕ) → Path w a path k → m < k → m < length path
-path-inside w a path k m is more = omega (arith, is .long)

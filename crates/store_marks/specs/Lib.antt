@@ -5,4 +5,3 @@ pub mod Reaching
 pub mod Stepping
 pub mod Ways
 pub mod Marking
-pub mod Paths

@@ -18,7 +18,7 @@ use Rattle.connections.specs.Rides.{mayAlight}
 use Rattle.connections.specs.Connections.{Change, Transfer, transfer}
 use Rattle.store_stops.specs.Stopwise.{station, depart, unreached, nowhere, ready, waysOf, Goes, Boards, CatchesBy}
 use Rattle.store_stops.specs.Paid.{Paid, Labelled}
-use Rattle.store_slots.specs.Slots.{transferAt}
+use Rattle.store_slots.specs.Slots.{transferAt, slots}
 use Rattle.store_departures.specs.Order.{firstOr, waiting, catchBy, Waits}
 use Rattle.store_departures.specs.InOrderLaws.{caught-there}
 use Rattle.store_departures.specs.Parts.{waiting-in, waiting-out, waiting-behind, waiting-distinct}
@@ -52,12 +52,21 @@ pub record Leads (w : List ℕ) (c y e : ℕ) : Type 0 where
   pub listed : e ≤ stationCount w
   pub apart : c ≢ e
 
+-- a change of the timetable to board at another station than c
+pub record Onward (w : List ℕ) (c slot : ℕ) : Type 0 where
+  pub listed : slot ∈ slots w
+  pub apart : c ≢ (transferAt w slot) .boarded
+
+-- y has the labels that x has, but for those at station e
+pub record Keeps (w : List ℕ) (e : ℕ) (x y : List ℕ) : Type 0 where
+  pub kept : (b : ℕ) → b ≢ e → (a d : ℕ) (rev : List Transfer) → Labelled w a d rev b x → Labelled w a d rev b y
+
 -- from labels at station c to labels behind a change: whatever the changes before were, if x has the labels at c behind
--- them, y has those behind them and this one, where it boards, and still those at c
+-- them, y has those behind them and this one, where it boards, and elsewhere those of x
 pub record Steps (w : List ℕ) (c : ℕ) (t : Transfer) (x y : List ℕ) : Type 0 where
   pub next : (a d : ℕ) (rev : List Transfer) → boardsAt a rev ≡ c → Labelled w a d rev c x
       → Labelled w a d (t ∷ rev) (t .boarded) y
-  pub kept : (a d : ℕ) (rev : List Transfer) → Labelled w a d rev c x → Labelled w a d rev c y
+  pub keeps : Keeps w (t .boarded) x y
 
 -- where the change is that of a slot, and one boards at station e then
 pub record Stepped (w : List ℕ) (c slot e : ℕ) (x y : List ℕ) : Type 0 where
@@ -309,6 +318,18 @@ module _ (w : List ℕ) (ok : isTimetable w ≡ true) where
       (λ e. omega (arith, ap (depart w) e))
       (waiting-behind w s (b .front) (b .back) f g (b .whole))
 
+-- labels at a station are those of its departures
+labelled-same : (w : List ℕ) (a d : ℕ) (rev : List Transfer) (c : ℕ) (x y : List ℕ)
+    → ((g : ℕ) → Goes w g → station w g ≡ c → getD y g 0 ≡ getD x g 0) → Labelled w a d rev c x → Labelled w a d rev c y
+labelled-same w a d rev c x y same labels =
+    record {
+      attained = λ g boards at h.
+          let e = same g (boards .goes) at in
+          subst (Paid w a d rev g) (sym e) (labels .attained g boards at (omega arith));
+      below = λ g p boards at b. omega (arith, same g (boards .goes) at, labels .below g p boards at b);
+      capped = λ g boards at. omega (arith, same g (boards .goes) at, labels .capped g boards at);
+    }
+
 -- ---- the labels of the source
 module _ (w : List ℕ) (ok : isTimetable w ≡ true) (x : List ℕ) (long : length x ≡ 2048) where
   waiting-within : (s : ℕ) → Within (waiting w s) x
@@ -348,18 +369,17 @@ module _ (w : List ℕ) (ok : isTimetable w ≡ true) (x : List ℕ) (long : len
             (λ t. omega (arith, is, root-late d g (nltb→le (depart w g) d t)));
       }
 
--- ---- the labels of the next station
-labelled-same : (w : List ℕ) (a d : ℕ) (rev : List Transfer) (c : ℕ) (x y : List ℕ)
-    → ((g : ℕ) → Goes w g → station w g ≡ c → getD y g 0 ≡ getD x g 0) → Labelled w a d rev c x → Labelled w a d rev c y
-labelled-same w a d rev c x y same labels =
-    record {
-      attained = λ g boards at h.
-          let e = same g (boards .goes) at in
-          subst (Paid w a d rev g) (sym e) (labels .attained g boards at (omega arith));
-      below = λ g p boards at b. omega (arith, same g (boards .goes) at, labels .below g p boards at b);
-      capped = λ g boards at. omega (arith, same g (boards .goes) at, labels .capped g boards at);
-    }
+  pub root-keeps : (a d : ℕ) → Keeps w a x (fill (rootLabel w d) (waiting w a) x)
+  root-keeps a d =
+      record {
+        kept = λ b apart f m rev labels.
+            labelled-same w f m rev b x (fill (rootLabel w d) (waiting w a) x)
+            (λ g goes at.
+            fill-out (rootLabel w d) (waiting w a) x g (λ i. apart (sym at ∙ waiting-out w a g i .1)))
+            labels;
+      }
 
+-- ---- the labels of the next station
 boardings-same : (w : List ℕ) (c : ℕ) (x y l : List ℕ) → ((i : ℕ) → i ∈ l → getD y i 0 ≡ getD x i 0)
     → boardings w c y l ≡ boardings w c x l
 unfolding labelAt boarding boardings
@@ -370,7 +390,7 @@ boardings-same w c x y (i ∷ l) h =
 pub pair-same : {y z x u : ℕ} → y ≡ z → x ≡ u → pair y x ≡ pair z u
 pair-same e f = cc (e, f)
 
-module _ (w : List ℕ) (ok : isTimetable w ≡ true) (c : ℕ) where
+module _ (w : List ℕ) (ok : isTimetable w ≡ true) where
   -- after an arrival that offers departure g one can wait for it
   offers-wait : (way : Change) (v : Visit) (g : ℕ) → Goes w g → Offers w way v g → Waits w way (v .stop) g
   offers-wait way v g goes o =
@@ -378,14 +398,27 @@ module _ (w : List ℕ) (ok : isTimetable w ≡ true) (c : ℕ) where
       let is = o .is in
       subst (Waits w way (v .stop)) is (caught-there w ok way (v .stop) (omega arith))
 
-  -- the labels at c stand while those who board there make offers elsewhere
-  module _ (way : Change) (apart : c ≢ way .to) where
-    run-kept : (l : List Visit) (x : List ℕ) (g : ℕ) → Goes w g → station w g ≡ c
+  -- the labels at station b stand while offers are made elsewhere
+  module _ (b : ℕ) where
+    abbrev Elsewhere : List Change → Type 0
+    Elsewhere ways = (way : Change) → way ∈ ways → b ≢ way .to
+
+    run-kept : (way : Change) → b ≢ way .to → (l : List Visit) (x : List ℕ) (g : ℕ) → Goes w g → station w g ≡ b
         → getD (run (offer w way) l x) g 0 ≡ getD x g 0
-    run-kept l x g goes at =
+    run-kept way apart l x g goes at =
         run-other w way l x g (λ v m o. apart (sym at ∙ offers-wait way v g goes o .there))
 
-    -- so all ride at once
+    by-kept : (ways : List Change) → Elsewhere ways → (l : List Visit) (x : List ℕ) (g : ℕ) → Goes w g
+        → station w g ≡ b → getD (offersBy w l ways x) g 0 ≡ getD x g 0
+    unfolding offersBy
+    by-kept [] h l x g goes at = refl
+    by-kept (way ∷ ways) h l x g goes at =
+        by-kept ways (λ u m. h u (there m)) l (run (offer w way) l x) g goes at
+        ∙ run-kept way (h way (here refl)) l x g goes at
+
+module _ (w : List ℕ) (ok : isTimetable w ≡ true) (c : ℕ) where
+  -- so all who board at c ride at once
+  module _ (way : Change) (apart : c ≢ way .to) where
     rides-run : (l x : List ℕ) → ((i : ℕ) → i ∈ l → Goes w i × (station w i ≡ c))
         → rides w c way l x ≡ run (offer w way) (boardings w c x l) x
     unfolding rides run boardings
@@ -394,23 +427,12 @@ module _ (w : List ℕ) (ok : isTimetable w ≡ true) (c : ℕ) where
         let act = offer w way in
         let x′ = run act (boarding w c x i) x in
         let kept : (k : ℕ) → k ∈ l → getD x′ k 0 ≡ getD x k 0 =
-        (λ k m. run-kept (boarding w c x i) x k (h k (there m) .0) (h k (there m) .1)) in
+        (λ k m. run-kept w ok c way apart (boarding w c x i) x k (h k (there m) .0) (h k (there m) .1)) in
         rides-run l x′ (λ k m. h k (there m))
         ∙ ap (λ r. run act r x′) (boardings-same w c x x′ l kept)
         ∙ sym (run-append act (boarding w c x i) (boardings w c x l) x)
 
-  abbrev Elsewhere : List Change → Type 0
-  Elsewhere ways = (way : Change) → way ∈ ways → c ≢ way .to
-
-  by-kept : (ways : List Change) → Elsewhere ways → (l : List Visit) (x : List ℕ) (g : ℕ) → Goes w g → station w g ≡ c
-      → getD (offersBy w l ways x) g 0 ≡ getD x g 0
-  unfolding offersBy
-  by-kept [] h l x g goes at = refl
-  by-kept (way ∷ ways) h l x g goes at =
-      by-kept ways (λ u m. h u (there m)) l (run (offer w way) l x) g goes at
-      ∙ run-kept way (h way (here refl)) l x g goes at
-
-  by-run : (ways : List Change) → Elsewhere ways → (x : List ℕ)
+  by-run : (ways : List Change) → Elsewhere w ok c ways → (x : List ℕ)
       → ridesBy w c ways x ≡ offersBy w (boardings w c x (waiting w c)) ways x
   unfolding ridesBy offersBy
   by-run [] h x = refl
@@ -422,7 +444,7 @@ module _ (w : List ℕ) (ok : isTimetable w ≡ true) (c : ℕ) where
       ∙ by-run ways (λ u m. h u (there m)) x′
       ∙ ap (λ l. offersBy w l ways x′)
       (boardings-same w c x x′ (waiting w c)
-      (λ k m. run-kept way (h way (here refl)) all x k (out k m .0) (out k m .1)))
+      (λ k m. run-kept w ok c way (h way (here refl)) all x k (out k m .0) (out k m .1)))
 
   module _
       (t : Transfer)
@@ -441,8 +463,8 @@ module _ (w : List ℕ) (ok : isTimetable w ≡ true) (c : ℕ) where
       leads-to : (way : Change) → way ∈ ways → way .to ≡ e
       leads-to way m = ap (λ (z : Transfer). z .boarded) (between .only way m .1)
 
-      elsewhere : Elsewhere ways
-      elsewhere way m q = apart (q ∙ leads-to way m)
+      elsewhere : (b : ℕ) → b ≢ e → Elsewhere w ok b ways
+      elsewhere b other way m q = other (q ∙ leads-to way m)
 
       abbrev start : List ℕ
       start = fill (λ g. unreached) (waiting w e) x₀
@@ -455,7 +477,7 @@ module _ (w : List ℕ) (ok : isTimetable w ≡ true) (c : ℕ) where
 
       stepped-is : stepped w c ways e x₀ ≡ fall unreached (waiting w e) offered
       unfolding stepped
-      stepped-is = ap (fall unreached (waiting w e)) (by-run ways elsewhere start)
+      stepped-is = ap (fall unreached (waiting w e)) (by-run ways (elsewhere c apart) start)
 
       start-long : length start ≡ 2048
       start-long = fill-length (λ g. unreached) (waiting w e) x₀ ∙ long₀
@@ -466,28 +488,32 @@ module _ (w : List ℕ) (ok : isTimetable w ≡ true) (c : ℕ) where
       start-word : (f : ℕ) → f ∈ waiting w e → getD start f 0 ≡ unreached
       start-word f m = fill-in (λ g. unreached) (waiting w e) x₀ f (waiting-within w ok x₀ long₀ e f m) m
 
-      start-kept : (g : ℕ) → Goes w g → station w g ≡ c → getD start g 0 ≡ getD x₀ g 0
-      start-kept g goes at =
-          fill-out (λ g. unreached) (waiting w e) x₀ g (λ m. apart (sym at ∙ waiting-out w e g m .1))
+      -- only departures of e get other labels
+      module _ (b : ℕ) (other : b ≢ e) where
+        start-kept : (g : ℕ) → Goes w g → station w g ≡ b → getD start g 0 ≡ getD x₀ g 0
+        start-kept g goes at =
+            fill-out (λ g. unreached) (waiting w e) x₀ g (λ m. other (sym at ∙ waiting-out w e g m .1))
 
-      -- only departures of e have got other labels
-      stepped-kept : (g : ℕ) → Goes w g → station w g ≡ c → getD (stepped w c ways e x₀) g 0 ≡ getD x₀ g 0
-      stepped-kept g goes at =
-          ap (λ l. getD l g 0) stepped-is
-          ∙ fall-out (waiting w e) unreached offered g (λ m. apart (sym at ∙ waiting-out w e g m .1))
-          ∙ by-kept ways elsewhere all start g goes at
-          ∙ start-kept g goes at
+        stepped-kept : (g : ℕ) → Goes w g → station w g ≡ b → getD (stepped w c ways e x₀) g 0 ≡ getD x₀ g 0
+        stepped-kept g goes at =
+            ap (λ l. getD l g 0) stepped-is
+            ∙ fall-out (waiting w e) unreached offered g (λ m. other (sym at ∙ waiting-out w e g m .1))
+            ∙ by-kept w ok b ways (elsewhere b other) all start g goes at
+            ∙ start-kept g goes at
 
-      pub step-kept : (a d : ℕ) (rev : List Transfer) → Labelled w a d rev c x₀
-          → Labelled w a d rev c (stepped w c ways e x₀)
-      step-kept a d rev labels = labelled-same w a d rev c x₀ (stepped w c ways e x₀) stepped-kept labels
+      pub step-keeps : Keeps w e x₀ (stepped w c ways e x₀)
+      step-keeps =
+          record {
+            kept = λ b other a d rev labels.
+                labelled-same w a d rev b x₀ (stepped w c ways e x₀) (stepped-kept b other) labels;
+          }
 
       within : Within (waiting w e) offered
       within = waiting-within w ok offered offered-long e
 
       module _ (a d : ℕ) (rev : List Transfer) (there-c : boardsAt a rev ≡ c) (labels₀ : Labelled w a d rev c x₀) where
         labels : Labelled w a d rev c start
-        labels = labelled-same w a d rev c x₀ start start-kept labels₀
+        labels = labelled-same w a d rev c x₀ start (start-kept c apart) labels₀
 
         abbrev last : ℕ → ℕ
         last g = getD (fall unreached (waiting w e) offered) g 0
@@ -504,7 +530,7 @@ module _ (w : List ℕ) (ok : isTimetable w ≡ true) (c : ℕ) where
             let v = o .v in
             let rode = boardings-arrived w ok c start a d rev labels v (o .listed) in
             let f-goes = waiting-out w e f (behind-in (waiting w e) f g b) .0 in
-            let k = offers-wait way v f f-goes (o .offers) in
+            let k = offers-wait w ok way v f f-goes (o .offers) in
             let late = behind-departs w ok e f g b in
             record {
               at = v .stop;

@@ -41,9 +41,8 @@ ghost use Rattle.store_marks.specs.Riding.{
 };
 ghost use Rattle.store_marks.specs.Held.{Changes, Inside, Way};
 ghost use Rattle.store_marks.specs.Ways.{RidesBetween};
-ghost use Rattle.store_marks.specs.Stepping.{pair, Leads, Steps, Stepped};
+ghost use Rattle.store_marks.specs.Stepping.{pair, Leads, Onward, Keeps, Steps, Stepped};
 ghost use Rattle.store_marks.specs.Marking.{ArcsMarked, KidsMarked};
-ghost use Rattle.store_marks.specs.Paths.{Onward, changed, reached, Path};
 use results::Points;
 use store_points::UNREACHED;
 use timetable::Stop;
@@ -73,12 +72,20 @@ fn root_label(words: &[u16], g: usize, d: usize) -> Points
     Points(0)
 }
 
-// The labels of the source, where riders start from minute d on.
-fn label_root(words: &[u16], chain: &[u16], first: &[u32], source: usize, d: usize, x: &mut [u32])
+// The labels of the source, where riders start from minute d on; those of other stations stay.
+pub fn label_root(
+    words: &[u16],
+    chain: &[u16],
+    first: &[u32],
+    source: usize,
+    d: usize,
+    x: &mut [u32],
+)
     requires { ⌜ (16384 ≤ length (now words)) × (isTimetable (now words) ≡ true) ⌝ }
     requires { ⌜ Departures (now words) (now chain) (now first) ⌝ }
     requires { ⌜ (source ≤ stationCount (now words)) × (length (now x) ≡ 2048) ⌝ }
     ensures { λ _. ⌜ Labelled (now (words .entry)) source d [] source (now (x .exit)) ⌝ }
+    ensures { λ _. ⌜ Keeps (now (words .entry)) source (now (x .entry)) (now (x .exit)) ⌝ }
     ensures { λ _. ⌜ length (now (x .exit)) ≡ 2048 ⌝ }
 {
     let mut k = begin_of(first, source);
@@ -440,7 +447,8 @@ fn settle(chain: &[u16], begin: usize, end: usize, x: &mut [u32])
     }
 }
 
-// From the labels at station c to those at station e, behind one change more, from station y to e; those at c stay.
+// From the labels at station c to those at station e, behind one change more, from station y to e; those of other
+// stations stay.
 fn step_between(
     words: &[u16],
     chain: &[u16],
@@ -465,8 +473,8 @@ fn step_between(
     settle(chain, begin, end, x);
 }
 
-// From the labels at station c to those behind one change more, that of the slot; those at c stay. Returns the station
-// where one boards after the change.
+// From the labels at station c to those behind one change more, that of the slot; those of other stations than the one
+// where one boards then stay. Returns that station.
 pub fn label_step(
     words: &[u16],
     chain: &[u16],
@@ -487,58 +495,6 @@ pub fn label_step(
     let e = t.boarded as usize;
     step_between(words, chain, first, catch, c, t.alighted as usize, e, x);
     e
-}
-
-// The same for the change at place m of a path, which has the slots of its changes.
-fn step_along(
-    words: &[u16],
-    chain: &[u16],
-    first: &[u32],
-    catch: &[u16],
-    path: &[u16],
-    m: usize,
-    c: usize,
-    x: &mut [u32],
-) -> usize
-    requires { ⌜ (16384 ≤ length (now words)) × (isTimetable (now words) ≡ true) ⌝ }
-    requires { ⌜ Departures (now words) (now chain) (now first) × Changes (now words) (now catch) ⌝ }
-    requires { ⌜ (c ≤ stationCount (now words)) × Onward (now words) c (getD (now path) m 0) ⌝ }
-    requires { ⌜ (m < length (now path)) × (length (now x) ≡ 2048) ⌝ }
-    ensures { λ r. ⌜ Stepped (now (words .entry)) c (getD (now (path .entry)) m 0) r
-        (now (x .entry)) (now (x .exit)) ⌝ }
-    ensures { λ r. ⌜ (r ≤ stationCount (now (words .entry))) × (length (now (x .exit)) ≡ 2048) ⌝ }
-{
-    let slot = words::word(path, m) as usize;
-    label_step(words, chain, first, catch, c, slot, x)
-}
-
-// The labels after the first k changes of a path.
-pub fn label_path(
-    words: &[u16],
-    chain: &[u16],
-    first: &[u32],
-    catch: &[u16],
-    source: usize,
-    d: usize,
-    path: &[u16],
-    k: usize,
-    x: &mut [u32],
-)
-    requires { ⌜ (16384 ≤ length (now words)) × (isTimetable (now words) ≡ true) ⌝ }
-    requires { ⌜ Departures (now words) (now chain) (now first) × Changes (now words) (now catch) ⌝ }
-    requires { ⌜ (source ≤ stationCount (now words)) × Path (now words) source (now path) k ⌝ }
-    requires { ⌜ length (now x) ≡ 2048 ⌝ }
-    ensures { λ _. ⌜ Labelled (now (words .entry)) source d (changed (now (words .entry)) k (now (path .entry)))
-        (reached (now (words .entry)) source (now (path .entry)) k) (now (x .exit)) ⌝ }
-    ensures { λ _. ⌜ length (now (x .exit)) ≡ 2048 ⌝ }
-{
-    label_root(words, chain, first, source, d, x);
-    let mut c = source;
-    let mut m = 0;
-    while m < k {
-        c = step_along(words, chain, first, catch, path, m, c, x);
-        m += 1;
-    }
 }
 
 // ---- the marks of a node

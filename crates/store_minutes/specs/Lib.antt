@@ -1,3 +1,4 @@
 pub mod Prepared
 pub mod Allowed
 pub mod Seeking
+pub mod Looking

@@ -61,7 +61,7 @@ module _ (w chained : List ℕ) (from p : ℕ) where
   seen-weaken : (At : ℕ → Type 0) → Seen w chained from p At → Seen w chained from (p + 1) At
   seen-weaken At s = record { r = s .r; begun = s .begun; inside = omega (arith, s .inside); at = s .at }
 
-  seen-cases : (At : ℕ → Type 0) → Seen w chained from (p + 1) At
+  pub seen-cases : (At : ℕ → Type 0) → Seen w chained from (p + 1) At
       → Seen w chained from p At ⊎ At (depart w (getD chained p 0))
   seen-cases At s =
       either
@@ -154,7 +154,7 @@ module _ (w order : List ℕ) (n : ℕ) (caught : List ℕ) (routes : Routes w o
   few = omega (arith, stations-few w yes)
 
   module _ (p : ℕ) (begun : getD first a 0 ≤ p) (inside : p < getD first (a + 1) 0) where
-    departs : Goes w (getD chained p 0) × (station w (getD chained p 0) ≡ a)
+    pub departs : Goes w (getD chained p 0) × (station w (getD chained p 0) ≡ a)
     departs = waiting-out w a (getD chained p 0) (part-in w yes chained first held a few p begun inside)
 
     pub place-inside : p < length chained
@@ -227,7 +227,7 @@ module _ (w order : List ℕ) (n : ℕ) (caught : List ℕ) (routes : Routes w o
         at = s .at;
       }
 
-  once-seen : (At : ℕ → Type 0) → Once w a At → Seen w chained from end At
+  pub once-seen : (At : ℕ → Type 0) → Once w a At → Seen w chained from end At
   once-seen At o =
       let g = o .source .g in
       let there : g ∈ waiting w a =

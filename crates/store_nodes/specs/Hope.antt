@@ -5,29 +5,31 @@ use mathlib.Core.Path.{_≡_, refl, sym, ap, subst, _∙_}
 use mathlib.Core.Bool.{Bool, true, false, not, false≢true}
 use mathlib.Core.Logic.{_≢_, inl, inr, _↔_}
 use mathlib.Core.List.{List, [], _∷_, _++_, append-assoc}
-use Prim.Native.Nat.{ℕ, suc, _+_, _-_, _*_, _≤_, _<_}
+use Prim.Native.Nat.{ℕ, suc, _+_, _-_, _*_, _^_, _≤_, _<_}
 use native.Mathlib.Omega.{arith}
 use borrow.Author.Tests.{eqb-true, not-false}
 use lib.Dec.{eqb}
 use lib.ListN.{length, getD}
+use Rattle.lists.specs.Lists.{_∈_}
 use Rattle.timetable.specs.Words.{isTimetable}
 use Rattle.connections.specs.Connections.{Transfer}
 use Rattle.optimality.specs.Ways.{Way}
 use Rattle.stores.specs.Stored.{sequences}
-use Rattle.store_stops.specs.Paid.{Labelled}
 use Rattle.store_stops.specs.RideStops.{netOf}
-use Rattle.store_slots.specs.Slots.{transferAt}
+use Rattle.store_slots.specs.Slots.{transferAt, slots}
 use Rattle.store_slots.specs.SlotLaws.{slot-small}
 use Rattle.store_marks.specs.Reaching.{boardsAt}
-use Rattle.store_marks.specs.Stepping.{Steps, Stepped}
+use Rattle.store_marks.specs.Stepping.{Onward}
 use Rattle.store_marks.specs.Marking.{Marked, ArcsMarked, KidsMarked}
-use Rattle.store_marks.specs.Paths.{Onward}
-use Rattle.store_tree.specs.Tree.{changing, rooted, nodeAt, slotIn, parentIn}
-use Rattle.store_tree.specs.Says.{says-below, says-node, says-slot}
+use Rattle.store_tree.specs.Tree.{rooted, nodeAt, slotIn, parentIn}
+use Rattle.store_tree.specs.Says.{says-slot}
 use Rattle.store_tree.specs.StoredTree.{stored-made}
-use Rattle.store_nodes.specs.Minutes.{KidAt, backwards, backwards-more, node-even}
+use Rattle.store_nodes.specs.Minutes.{KidAt, backwards}
 use Rattle.store_nodes.specs.Standing.{Standing, StandingTo, standing, NodeLabels, Judged, ArcsAt, KidsAt}
-use Rattle.store_nodes.specs.Standing.{node-onward, arcs-at, kids-at}
+use Rattle.store_nodes.specs.Standing.{arcs-at, kids-at}
+use Rattle.store_nodes.specs.Hand.{AtHand, Below, LabelledKid, Quiet, QuietOn, top, next-labels, kid-at-hand}
+use Rattle.store_nodes.specs.Hand.{quiet-none, quiet-one, quiet-still, quiet-then, quiet-later}
+use Rattle.store_nodes.specs.Hand.{parent-stands, below-parent, parent-onward}
 use Rattle.store_nodes.specs.Chunk.{Down, MarkedAt, RaisedOn, on-none, on-alone, on-then, partOf, putPart}
 use Rattle.store_nodes.specs.Chunk.{marked-at-64, marked-at-320}
 
@@ -37,10 +39,6 @@ pub record Ahead (w : List ℕ) (a d p c : ℕ) (x hope : List ℕ) : Type 0 whe
   pub labels : NodeLabels w a d p c x
   pub kids : (s : ℕ) → s < 320 → (getD hope s 0 ≡ 1) ↔ KidsAt w a d p s
 
--- node v is node p with the change of slot s behind it
-pub record Below (w : List ℕ) (a p s v : ℕ) : Type 0 where
-  pub is : changing (nodeAt (sequences w a) p) (transferAt w s) ≡ nodeAt (sequences w a) v
-
 -- whatever the start, the minute and the node were of which x and hope are: node v, which has the change of slot s
 -- behind that one, gets those of its n flags that are told of its arcs, or its kids
 pub record Told (n : ℕ) (At : (a d v k : ℕ) → Type 0) (w : List ℕ) (lo v c s : ℕ)
@@ -48,9 +46,11 @@ pub record Told (n : ℕ) (At : (a d v k : ℕ) → Type 0) (w : List ℕ) (lo v
   pub told : (a d p : ℕ) → Ahead w a d p c x hope → Below w a p s v → Judged w a d allowed q
       → MarkedAt n (At a d v) lo v old new
 
--- and y is as good as x for the next one
-pub record Stays (w : List ℕ) (c : ℕ) (hope x y : List ℕ) : Type 0 where
+-- and y is as good as x for the next one, what is noted then is at hand, and a node that is not is quiet
+pub record Stays (w : List ℕ) (c s v : ℕ) (hope x y hand hand′ : List ℕ) : Type 0 where
   pub kept : (a d p : ℕ) → Ahead w a d p c x hope → Ahead w a d p c y hope
+  pub at-hand : (a d p : ℕ) → Below w a p s v → Ahead w a d p c x hope → AtHand w a d hand x → AtHand w a d hand′ y
+  pub quiet : (a d p : ℕ) → Below w a p s v → Ahead w a d p c x hope → QuietOn w a d v (v + 1) hand hand′
 
 -- ---- what the parent says
 -- who has the sequence of the kid and then more begins with that of the parent and goes on with the kid's change
@@ -106,6 +106,14 @@ nobody n Told lo v old none =
       above = λ i h. refl;
     }
 
+-- a kid of a quiet node is quiet, and so is one with which its parent does not go on
+pub quiet-below : (w : List ℕ) (a d p s v : ℕ) → Below w a p s v → s ∈ slots w → Quiet w a d p → Quiet w a d v
+quiet-below w a d p s v below listed q =
+    record {
+      arcs = λ k h. q .kids s (record { listed = listed; holds = arc-hoped w a d p s v below k h });
+      kids = λ k h. q .kids s (record { listed = listed; holds = kid-hoped w a d p s v below k h });
+    }
+
 module _ (w : List ℕ) (lo v c s : ℕ) (x hope allowed q old : List ℕ) (onward : Onward w c s) (few : s < 320)
     (down : getD hope s 0 ≡ 1 → ⊥) where
   none-told : (n : ℕ) (At : (a d v k : ℕ) → Type 0)
@@ -127,81 +135,93 @@ module _ (w : List ℕ) (lo v c s : ℕ) (x hope allowed q old : List ℕ) (onwa
   pub kids-none : Told 320 (KidsAt w) w lo v c s x hope allowed q old old
   kids-none = none-told 320 (KidsAt w) (λ a d p below. kid-hoped w a d p s v below)
 
-pub stays-same : (w : List ℕ) (c : ℕ) (hope x : List ℕ) → Stays w c hope x x
-stays-same w c hope x = record { kept = λ a d p from. from }
+-- the flag of a slot that is read
+pub hope-inside : (hope : List ℕ) (s z : ℕ) → z ≡ s → s < 320 → length hope ≡ 320 → z < length hope
+hope-inside hope s z slot few long = omega arith
 
-pub stays-more : (w : List ℕ) (c : ℕ) (hope x y z : List ℕ) → Stays w c hope x y → Stays w c hope y z
-    → Stays w c hope x z
-stays-more w c hope x y z s t = record { kept = λ a d p from. t .kept a d p (s .kept a d p from) }
+pub not-hoped : (hope : List ℕ) (s z : ℕ) → z ≡ s → (getD hope z 0 ≡ 1 → ⊥) → getD hope s 0 ≡ 1 → ⊥
+not-hoped hope s z slot down up = down (ap (λ z. getD hope z 0) slot ∙ up)
+
+pub stays-same : (w : List ℕ) (c s v : ℕ) (hope x hand : List ℕ) → Onward w c s → s < 320 → (getD hope s 0 ≡ 1 → ⊥)
+    → Stays w c s v hope x x hand hand
+stays-same w c s v hope x hand onward few down =
+    record {
+      kept = (λ a d p from. from);
+      at-hand = (λ a d p below from at. at);
+      quiet = λ a d p below from.
+          let up : KidAt w a d (nodeAt (sequences w a) p) (transferAt w s) → ⊥ =
+          (λ h. down (from .kids s few .1 (record { listed = onward .listed; holds = h }))) in
+          quiet-still w a d v hand
+          (record {
+            arcs = (λ k h. up (arc-hoped w a d p s v below k h));
+            kids = (λ k h. up (kid-hoped w a d p s v below k h));
+          });
+    }
 
 -- ---- one with which it goes on
--- the labels behind the change of slot s, and the marks that they tell
-pub record MarkedKid (w : List ℕ) (c s : ℕ) (x y allowed q arcs arcs′ kids kids′ : List ℕ) : Type 0 where
-  pub steps : Steps w c (transferAt w s) x y
+-- the labels behind the change of slot s, noted as those of node v, and the marks that they tell
+pub record MarkedKid (w : List ℕ) (c s v : ℕ) (x y hand hand′ allowed q arcs arcs′ kids kids′ : List ℕ) : Type 0 where
+  pub labelled : LabelledKid w c s v ((transferAt w s) .boarded) x y hand hand′
   pub arcs-marked : ArcsMarked w ((transferAt w s) .boarded) y allowed arcs arcs′
   pub kids-marked : KidsMarked w ((transferAt w s) .boarded) y allowed q kids kids′
 
-pub marked-kid : (w : List ℕ) (c s e : ℕ) (x y allowed q arcs arcs′ kids kids′ : List ℕ) → Stepped w c s e x y
-    → ArcsMarked w e y allowed arcs arcs′ → KidsMarked w e y allowed q kids kids′
-    → MarkedKid w c s x y allowed q arcs arcs′ kids kids′
-marked-kid w c s e x y allowed q arcs arcs′ kids kids′ step by-arcs by-kids =
+pub marked-kid : (w : List ℕ) (c s v e : ℕ) (x y hand hand′ allowed q arcs arcs′ kids kids′ : List ℕ)
+    → LabelledKid w c s v e x y hand hand′ → ArcsMarked w e y allowed arcs arcs′ → KidsMarked w e y allowed q kids kids′
+    → MarkedKid w c s v x y hand hand′ allowed q arcs arcs′ kids kids′
+marked-kid w c s v e x y hand hand′ allowed q arcs arcs′ kids kids′ kid by-arcs by-kids =
+    let there = kid .stepped .boards in
     record {
-      steps = step .steps;
-      arcs-marked = subst (λ e. ArcsMarked w e y allowed arcs arcs′) (step .boards) by-arcs;
-      kids-marked = subst (λ e. KidsMarked w e y allowed q kids kids′) (step .boards) by-kids;
+      labelled = subst (λ e. LabelledKid w c s v e x y hand hand′) there kid;
+      arcs-marked = subst (λ e. ArcsMarked w e y allowed arcs arcs′) there by-arcs;
+      kids-marked = subst (λ e. KidsMarked w e y allowed q kids kids′) there by-kids;
     }
 
-module _ (w : List ℕ) (c s : ℕ) (x y allowed q arcs arcs′ kids kids′ : List ℕ)
-    (marked : MarkedKid w c s x y allowed q arcs arcs′ kids kids′) where
-  next-labels : (a d p v : ℕ) → Below w a p s v → NodeLabels w a d p c x
-      → NodeLabels w a d v ((transferAt w s) .boarded) y
-  next-labels a d p v below l =
-      let changes : transferAt w s ∷ backwards (nodeAt (sequences w a) p) ≡ backwards (nodeAt (sequences w a) v) =
-      sym (backwards-more (nodeAt (sequences w a) p) (transferAt w s) (node-even (sequences w a) p))
-      ∙ ap backwards (below .is) in
-      record {
-        boards = ap (boardsAt a) (sym changes);
-        labels =
-            subst (λ r. Labelled w a d r ((transferAt w s) .boarded) y) changes
-            (marked .steps .next a d (backwards (nodeAt (sequences w a) p)) (l .boards) (l .labels));
-      }
+pub stays : (w : List ℕ) (c s v : ℕ) → Onward w c s → (x y hand hand′ allowed q arcs arcs′ kids kids′ : List ℕ)
+    → MarkedKid w c s v x y hand hand′ allowed q arcs arcs′ kids kids′ → (hope : List ℕ)
+    → Stays w c s v hope x y hand hand′
+stays w c s v onward x y hand hand′ allowed q arcs arcs′ kids kids′ marked hope =
+    record {
+      kept = λ a d p from.
+          record {
+            labels =
+                record {
+                  boards = from .labels .boards;
+                  labels =
+                      marked .labelled .stepped .steps .keeps .kept c (onward .apart) a d
+                      (backwards (nodeAt (sequences w a) p))
+                      (from .labels .labels);
+                };
+            kids = from .kids;
+          };
+      at-hand = λ a d p below from at.
+          let e = (transferAt w s) .boarded in
+          kid-at-hand w a d p s v below c x y (from .labels) e hand hand′ (marked .labelled) at;
+      quiet = λ a d p below from.
+          quiet-one w a d v hand hand′ (marked .labelled .noted .rises) (marked .labelled .noted .reaches);
+    }
 
-  pub stays : (hope : List ℕ) → Stays w c hope x y
-  stays hope =
-      record {
-        kept = λ a d p from.
-            record {
-              labels =
-                  record {
-                    boards = from .labels .boards;
-                    labels = marked .steps .kept a d (backwards (nodeAt (sequences w a) p)) (from .labels .labels);
-                  };
-              kids = from .kids;
-            };
-      }
-
-module _ (w : List ℕ) (c s : ℕ) (x y allowed q : List ℕ) (ok : isTimetable w ≡ true) (lo v : ℕ) (hope old part : List ℕ)
-    (low : lo ≤ v) (few : v < lo + 96) where
+module _ (w : List ℕ) (c s : ℕ) (x y hand hand′ allowed q : List ℕ) (ok : isTimetable w ≡ true) (lo v : ℕ)
+    (hope old part : List ℕ) (low : lo ≤ v) (few : v < lo + 96) where
   pub arcs-told : (kids kids′ : List ℕ) → length old ≡ 6144 → length part ≡ 64
-      → MarkedKid w c s x y allowed q (partOf 64 (64 * (v - lo)) old) part kids kids′
+      → MarkedKid w c s v x y hand hand′ allowed q (partOf 64 (64 * (v - lo)) old) part kids kids′
       → Told 64 (ArcsAt w) w lo v c s x hope allowed q old (putPart 64 (64 * (v - lo)) old part)
   arcs-told kids kids′ long part-is h =
       let lent = partOf 64 (64 * (v - lo)) old in
       record {
         told = λ a d p from below judged.
-            let labels = next-labels w c s x y allowed q lent part kids kids′ h a d p v below (from .labels) in
+            let labels = next-labels w a d p s v below c x y (from .labels) (h .labelled .stepped .steps) in
             marked-at-64 lo v old part low few (ArcsAt w a d v) long part-is
             (arcs-at w ok a d v ((transferAt w s) .boarded) y allowed q labels judged lent part (h .arcs-marked));
       }
 
   pub kids-told : (arcs arcs′ : List ℕ) → length old ≡ 30720 → length part ≡ 320
-      → MarkedKid w c s x y allowed q arcs arcs′ (partOf 320 (320 * (v - lo)) old) part
+      → MarkedKid w c s v x y hand hand′ allowed q arcs arcs′ (partOf 320 (320 * (v - lo)) old) part
       → Told 320 (KidsAt w) w lo v c s x hope allowed q old (putPart 320 (320 * (v - lo)) old part)
   kids-told arcs arcs′ long part-is h =
       let lent = partOf 320 (320 * (v - lo)) old in
       record {
         told = λ a d p from below judged.
-            let labels = next-labels w c s x y allowed q arcs arcs′ lent part h a d p v below (from .labels) in
+            let labels = next-labels w a d p s v below c x y (from .labels) (h .labelled .stepped .steps) in
             marked-at-320 lo v old part low few (KidsAt w a d v) long part-is
             (kids-at w ok a d v ((transferAt w s) .boarded) y allowed q labels judged lent part (h .kids-marked));
       }
@@ -228,33 +248,20 @@ root-source w ok a work v s =
 
 module _ (w : List ℕ) (ok : isTimetable w ≡ true) (a : ℕ) (work : List ℕ) (hi : ℕ) (s : StandingTo w a work hi)
     (v : ℕ) (some : 1 ≤ v) (under : v < hi) (p : ℕ) (from : p ≡ parentIn (getD work v 0)) where
-  on : v ≤ s .n
-  on = omega (arith, s .on)
+  this : Standing w a work v
+  this = standing w a work hi v s under
+
+  more : v ≡ 0 → ⊥
+  more e = omega arith
 
   pub parent-standing : Standing w a work p
-  parent-standing =
-      standing w a work hi p s
-      (omega (
-        arith,
-        says-below w (sequences w a) (stored-made w ok a) a work (s .targets) (s .n) (s .m) (s .lo) (s .grown) v on
-            some,
-      ))
+  parent-standing = parent-stands w ok a work v this more p from
 
-  below-parent : Below w a p (slotIn (getD work v 0)) v
-  below-parent =
-      record {
-        is =
-            ap (λ p. changing (nodeAt (sequences w a) p) (transferAt w (slotIn (getD work v 0)))) from
-            ∙ says-node w (sequences w a) (stored-made w ok a) a work (s .targets) (s .n) (s .m) (s .lo) (s .grown) v on
-            some;
-      }
+  parent-below : Below w a p (slotIn (getD work v 0)) v
+  parent-below = below-parent w ok a work v this more p from
 
   onward : (c : ℕ) → boardsAt a (backwards (nodeAt (sequences w a) p)) ≡ c → Onward w c (slotIn (getD work v 0))
-  onward c boards =
-      let this = standing w a work hi v s under in
-      subst (λ c. Onward w c (slotIn (getD work v 0)))
-      (ap (λ p. boardsAt a (backwards (nodeAt (sequences w a) p))) (sym from) ∙ boards)
-      (node-onward w ok a work v this v (this .on) some)
+  onward c boards = parent-onward w ok a work v this more p from c boards
 
 pub stationed : (w : List ℕ) (a d p c : ℕ) (x : List ℕ) → NodeLabels w a d p c x → Stationed w a p c
 stationed w a d p c x labels = record { boards = labels .boards }
@@ -270,6 +277,12 @@ module _ (w : List ℕ) (c : ℕ) (work : List ℕ) (p hi : ℕ) (s : Siblings w
     pub sibling-inside : v < length work
     sibling-inside = omega (arith, kids-inside)
 
+    pub sibling-number : v < 16384
+    sibling-number = omega (arith, s .standing .on, s .standing .grown .few-nodes)
+
+    pub sibling-fits : v + 1 < 2 ^ 64
+    sibling-fits = omega (arith, sibling-number)
+
     module _ (ok : isTimetable w ≡ true) (o : 1 ≤ v) (from : p ≡ parentIn (getD work v 0)) where
       sibling-below : (a : ℕ) → (transferAt w (slotIn (getD work 0 0))) .boarded ≡ a
           → Below w a p (slotIn (getD work v 0)) v
@@ -277,16 +290,13 @@ module _ (w : List ℕ) (c : ℕ) (work : List ℕ) (p hi : ℕ) (s : Siblings w
           let same : s .source ≡ a =
           sym (root-source w ok (s .source) work v (standing w (s .source) work hi v (s .standing) under)) ∙ root in
           subst (λ a. Below w a p (slotIn (getD work v 0)) v) same
-          (below-parent w ok (s .source) work hi (s .standing) v o under p from)
+          (parent-below w ok (s .source) work hi (s .standing) v o under p from)
 
-      module _ (slot : ℕ) (at : slot ≡ slotIn (getD work v 0)) where
-        pub sibling-onward : Onward w c slot
-        sibling-onward =
-            subst (Onward w c) (sym at)
-            (onward w ok (s .source) work hi (s .standing) v o under p from c (s .at .boards))
+      pub sibling-onward : Onward w c (slotIn (getD work v 0))
+      sibling-onward = onward w ok (s .source) work hi (s .standing) v o under p from c (s .at .boards)
 
-        pub sibling-few : slot < 320
-        sibling-few = slot-small w ok slot (sibling-onward .listed)
+      pub sibling-few : slotIn (getD work v 0) < 320
+      sibling-few = slot-small w ok (slotIn (getD work v 0)) (sibling-onward .listed)
 
 -- ---- one sibling after the other
 -- the tree is that of source a, and this is what is known of node p at minute d
@@ -300,27 +310,32 @@ pub record ToldOn (n : ℕ) (At : (a d v k : ℕ) → Type 0) (w work : List ℕ
     (x hope allowed q old new : List ℕ) : Type 0 where
   pub on : (a d : ℕ) → Family w a d work p c x hope allowed q → RaisedOn n (At a d) lo v u old new
 
+-- and then y is as good as x, what is noted is at hand, and those that are not are quiet
+pub record StaysOn (w work : List ℕ) (p c v u : ℕ) (hope x y hand hand′ : List ℕ) : Type 0 where
+  pub kept : (a d p : ℕ) → Ahead w a d p c x hope → Ahead w a d p c y hope
+  pub at-hand : (a d : ℕ) → (transferAt w (slotIn (getD work 0 0))) .boarded ≡ a → Ahead w a d p c x hope
+      → AtHand w a d hand x → AtHand w a d hand′ y
+  pub quiet : (a d : ℕ) → (transferAt w (slotIn (getD work 0 0))) .boarded ≡ a → Ahead w a d p c x hope
+      → QuietOn w a d v u hand hand′
+
 module _ (n : ℕ) (At : (a d v k : ℕ) → Type 0) (w work : List ℕ) (p lo v c : ℕ) (x hope allowed q old : List ℕ) where
   pub told-none : ToldOn n At w work p lo v v c x hope allowed q old old
   told-none = record { on = λ a d f. on-none n (At a d) lo v old }
 
-  pub told-one : (hi slot : ℕ) (new : List ℕ) → Siblings w c work p hi → isTimetable w ≡ true
-      → Told n At w lo v c slot x hope allowed q old new → lo ≤ v → 1 ≤ v → v < hi → p ≡ parentIn (getD work v 0)
-      → slot ≡ slotIn (getD work v 0) → ToldOn n At w work p lo v (v + 1) c x hope allowed q old new
-  told-one hi slot new s ok told low some under from at =
+  pub told-one : (hi : ℕ) (new : List ℕ) → Siblings w c work p hi → isTimetable w ≡ true
+      → Told n At w lo v c (slotIn (getD work v 0)) x hope allowed q old new → lo ≤ v → 1 ≤ v → v < hi
+      → p ≡ parentIn (getD work v 0) → ToldOn n At w work p lo v (v + 1) c x hope allowed q old new
+  told-one hi new s ok told low some under from =
       record {
         on = λ a d f.
             on-alone n (At a d) lo v old new low
-            (told .told a d p (f .ahead)
-            (subst (λ slot. Below w a p slot v) (sym at)
-            (sibling-below w c work p hi s v under ok some from a (f .root)))
-            (f .judged));
+            (told .told a d p (f .ahead) (sibling-below w c work p hi s v under ok some from a (f .root)) (f .judged));
       }
 
-  pub told-then : (u t : ℕ) (y mid new : List ℕ) → ToldOn n At w work p lo v u c x hope allowed q old mid
-      → Stays w c hope x y → ToldOn n At w work p lo u t c y hope allowed q mid new
+  pub told-then : (u t : ℕ) (y hand hand′ mid new : List ℕ) → ToldOn n At w work p lo v u c x hope allowed q old mid
+      → StaysOn w work p c v u hope x y hand hand′ → ToldOn n At w work p lo u t c y hope allowed q mid new
       → ToldOn n At w work p lo v t c x hope allowed q old new
-  told-then u t y mid new before stays next =
+  told-then u t y hand hand′ mid new before stays next =
       record {
         on = λ a d f.
             on-then n (At a d) lo v u t old mid new (before .on a d f)
@@ -330,6 +345,37 @@ module _ (n : ℕ) (At : (a d v k : ℕ) → Type 0) (w work : List ℕ) (p lo v
               ahead = stays .kept a d p (f .ahead);
               judged = f .judged;
             }));
+      }
+
+module _ (w work : List ℕ) (p c v : ℕ) (hope x hand : List ℕ) where
+  pub stays-none : StaysOn w work p c v v hope x x hand hand
+  stays-none =
+      record {
+        kept = (λ a d p from. from);
+        at-hand = (λ a d root from at. at);
+        quiet = (λ a d root from. quiet-none w a d v hand);
+      }
+
+  pub stays-one : (hi : ℕ) (y hand′ : List ℕ) → Siblings w c work p hi → isTimetable w ≡ true
+      → Stays w c (slotIn (getD work v 0)) v hope x y hand hand′ → 1 ≤ v → v < hi → p ≡ parentIn (getD work v 0)
+      → StaysOn w work p c v (v + 1) hope x y hand hand′
+  stays-one hi y hand′ s ok stays some under from =
+      let below = sibling-below w c work p hi s v under ok some from in
+      record {
+        kept = stays .kept;
+        at-hand = (λ a d root from-p at. stays .at-hand a d p (below a root) from-p at);
+        quiet = (λ a d root from-p. stays .quiet a d p (below a root) from-p);
+      }
+
+  pub stays-then : (u t : ℕ) (y z hand′ hand″ : List ℕ) → StaysOn w work p c v u hope x y hand hand′
+      → StaysOn w work p c u t hope y z hand′ hand″ → StaysOn w work p c v t hope x z hand hand″
+  stays-then u t y z hand′ hand″ r s =
+      record {
+        kept = (λ a d p from. s .kept a d p (r .kept a d p from));
+        at-hand = (λ a d root from at. s .at-hand a d root (r .kept a d p from) (r .at-hand a d root from at));
+        quiet = λ a d root from.
+            quiet-then w a d v u t hand hand′ hand″ (r .quiet a d root from)
+            (s .quiet a d root (r .kept a d p from));
       }
 
 pub family : (w : List ℕ) → isTimetable w ≡ true → (a d : ℕ) (work : List ℕ) (p c : ℕ)
@@ -351,6 +397,15 @@ module _ (w work : List ℕ) (p lo v u c : ℕ) (x hope allowed q old new : List
   pub kids-raised : ToldOn 320 (KidsAt w) w work p lo v u c x hope allowed q old new
       → RaisedOn 320 (KidsAt w a d) lo v u old new
   kids-raised t = t .on a d f
+
+module _ (w work : List ℕ) (p c v u : ℕ) (x y hand hand′ hope allowed q : List ℕ) (a d : ℕ)
+    (f : Family w a d work p c x hope allowed q) (stays : StaysOn w work p c v u hope x y hand hand′) where
+  pub family-at-hand : AtHand w a d hand x → AtHand w a d hand′ y
+  family-at-hand at = stays .at-hand a d (f .root) (f .ahead) at
+
+  pub family-quiet : (before : List ℕ) → top before ≤ top hand → QuietOn w a d v u before hand′
+  family-quiet before rises =
+      quiet-later w a d v u before hand hand′ rises (stays .quiet a d (f .root) (f .ahead))
 
 -- ---- the next sibling
 -- p has node v for a kid as well, below hi

@@ -1,7 +1,7 @@
 pub mod Beginnings
 pub mod Minutes
-pub mod Paths
 pub mod Nodes
 pub mod Standing
+pub mod Hand
 pub mod Chunk
 pub mod Hope

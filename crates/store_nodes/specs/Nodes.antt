@@ -1,11 +1,10 @@
--- The nodes of the store's tree: at most 63 changes, and the source and the stations boarded at are all different.
+-- The nodes of the store's tree: the source and the stations boarded at are all different.
 use mathlib.Core.Path.{_≡_, refl, sym, ap, subst, _∙_}
 use mathlib.Core.Bool.{true}
 use mathlib.Core.Logic.{_≢_}
 use mathlib.Core.List.{List, [], _∷_, _++_, List·Memᴰ·head as here, Memᴰ·append-left}
-use Prim.Native.Nat.{ℕ, _≤_, _<_}
-use native.Mathlib.Omega.{arith}
-use lib.ListN.{length, length-append}
+use Prim.Native.Nat.{ℕ, _<_}
+use lib.ListN.{length}
 use Rattle.lists.specs.Lists.{_∈_, Distinct}
 use Rattle.lists.specs.Members.{none, cons-cases, concatMap-out}
 use Rattle.lists.specs.Places.{getD-in}
@@ -16,7 +15,7 @@ use Rattle.stores.specs.Words.{beginnings, final, nodes}
 use Rattle.stores.specs.Sequences.{Even, begin-even}
 use Rattle.stores.specs.Nodes.{node-out}
 use Rattle.stores.specs.Stored.{sequences}
-use Rattle.stores.specs.StoredLaws.{stored-out, stored-odd, stored-short, sequence-is}
+use Rattle.stores.specs.StoredLaws.{stored-out, stored-odd, sequence-is}
 use Rattle.store_stops.specs.RideStops.{netOf, spelled-sound}
 use Rattle.store_marks.specs.Reaching.{boardsAt}
 use Rattle.store_tree.specs.Tree.{changing, rooted, nodeAt}
@@ -47,7 +46,7 @@ boards-turned a [] rev e = refl
 boards-turned a (x ∷ []) rev e = absurd e
 boards-turned a (x ∷ y ∷ q) rev e = boards-turned a q (record { alighted = x; boarded = y } ∷ rev) e
 
-pub boards-final : (a : ℕ) (q : List ℕ) → Even q → boardsAt a (backwards q) ≡ final (a ∷ q)
+boards-final : (a : ℕ) (q : List ℕ) → Even q → boardsAt a (backwards q) ≡ final (a ∷ q)
 unfolding backwards
 boards-final a q e = boards-turned a q [] e
 
@@ -76,7 +75,6 @@ boards-apart a q t e d same =
 
 -- the sequence of a node, for source a
 pub record Sequenced (a : ℕ) (q : List ℕ) : Type 0 where
-  pub short : length q ≤ 126
   pub apart : Distinct (a ∷ boardedIn q)
 
 module _ (w : List ℕ) (yes : isTimetable w ≡ true) (a : ℕ) where
@@ -88,20 +86,9 @@ module _ (w : List ℕ) (yes : isTimetable w ≡ true) (a : ℕ) where
       (boarded-stations (s .connection) ∙ ap boardedIn (sequence-is (netOf w) ok a p s))
       (boarded-distinct (netOf w) ok a (s .minute) (s .target) (s .connection) (s .optimal))
 
-  rest-some : (rest : List ℕ) → rest ≢ [] → 1 ≤ length rest
-  rest-some [] h = absurd (h refl)
-  rest-some (x ∷ l) h = omega arith
-
-  begun : (q rest : List ℕ) → Even q → rest ≢ [] → q ++ rest ∈ sequences w a → Sequenced a q
-  begun q rest e some m =
+  begun : (q rest : List ℕ) → Even q → q ++ rest ∈ sequences w a → Sequenced a q
+  begun q rest e m =
       record {
-        short =
-            omega (
-              arith,
-              stored-short (netOf w) (spelled-sound w yes) a (q ++ rest) m,
-              length-append q rest,
-              rest-some rest some,
-            );
         apart =
             front-distinct (a ∷ boardedIn q) (boardedIn rest)
             (subst (λ l. Distinct (a ∷ l)) (boarded-append q rest e) (whole-distinct (q ++ rest) m));
@@ -111,12 +98,12 @@ module _ (w : List ℕ) (yes : isTimetable w ≡ true) (a : ℕ) where
   node q m =
       let r = concatMap-out beginnings (sequences w a) (node-out (sequences w a) q m) in
       let b = begin-out (r .0) q (stored-odd (netOf w) (spelled-sound w yes) a (r .0) (r .1)) (r .2) in
-      begun q (b .rest) (begin-even q (r .0) (r .2)) (b .some)
+      begun q (b .rest) (begin-even q (r .0) (r .2))
       (subst (λ p. p ∈ sequences w a) (sym (b .is)) (r .1))
 
   pub sequenced : (v : ℕ) → v < length (rooted (sequences w a)) → Sequenced a (nodeAt (sequences w a) v)
   sequenced v h =
       cons-cases
       (subst (λ l. nodeAt (sequences w a) v ∈ l) (root-first (sequences w a)) (getD-in (rooted (sequences w a)) v [] h))
-      (λ e. subst (Sequenced a) (sym e) (record { short = omega arith; apart = (none, tt) }))
+      (λ e. subst (Sequenced a) (sym e) (record { apart = (none, tt) }))
       (λ m. node (nodeAt (sequences w a) v) m)

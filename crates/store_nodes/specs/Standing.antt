@@ -1,13 +1,12 @@
--- A node of the store's tree while it grows: the way to it, the station where it boards, and its marks for one minute.
-use mathlib.Core.Path.{_≡_, sym, ap, subst, _∙_}
+-- A node of the store's tree while it grows: the station where it boards, its labels, and its marks for one minute.
+use mathlib.Core.Path.{_≡_, sym, subst}
 use mathlib.Core.Bool.{true}
 use mathlib.Core.Logic.{inl, inr, _↔_}
-use mathlib.Core.List.{List, [], map, reverseAux}
-use Prim.Native.Nat.{ℕ, zero, suc, _≤_, _<_}
+use mathlib.Core.List.{List}
+use Prim.Native.Nat.{ℕ, suc, _≤_, _<_}
 use native.Mathlib.Omega.{arith}
-use lib.ListN.{length, getD, take, length-take}
+use lib.ListN.{length, getD}
 use Rattle.lists.specs.Lists.{_∈_}
-use Rattle.words.specs.Put.{put, take-put, getD-put}
 use Rattle.timetable.specs.Words.{stationCount, isTimetable}
 use Rattle.connections.specs.Connections.{Transfer}
 use Rattle.stores.specs.Stored.{sequences}
@@ -22,14 +21,13 @@ use Rattle.store_slots.specs.Slots.{transferAt, slots}
 use Rattle.store_slots.specs.SlotLaws.{slot-small, slot-stations}
 use Rattle.store_marks.specs.Reaching.{boardsAt}
 use Rattle.store_marks.specs.Marking.{Marked, Slotted, ArcsMarked, KidsMarked}
-use Rattle.store_marks.specs.Paths.{changed, reached, Onward, Path, boards-reached, reached-none, reached-more}
+use Rattle.store_marks.specs.Stepping.{Onward}
 use Rattle.store_tree.specs.Tree.{nodeAt, slotIn, parentIn, Grown}
-use Rattle.store_tree.specs.Says.{says-listed, says-slot, says-node}
+use Rattle.store_tree.specs.Says.{says-listed, says-node}
 use Rattle.store_tree.specs.Growth.{grown-listed}
 use Rattle.store_tree.specs.StoredTree.{stored-made}
 use Rattle.store_nodes.specs.Minutes.{ArcAt, KidAt, backwards, node-even, arc-ends, kid-goes-on}
-use Rattle.store_nodes.specs.Paths.{pathTo, Rooted, path-back, path-onward, grown-rooted}
-use Rattle.store_nodes.specs.Nodes.{Sequenced, sequenced, boards-final, boards-apart}
+use Rattle.store_nodes.specs.Nodes.{Sequenced, sequenced, boards-apart}
 
 -- node v of the tree for source a has a word
 pub record Standing (w : List ℕ) (a : ℕ) (work : List ℕ) (v : ℕ) : Type 0 where
@@ -106,20 +104,10 @@ slotted-same w A B same s = (
 )
 
 module _ (w : List ℕ) (yes : isTimetable w ≡ true) (a : ℕ) (work : List ℕ) (v : ℕ) (s : Standing w a work v) where
-  abbrev node : List ℕ
-  node = nodeAt (sequences w a) v
-
   named : (u : ℕ) → u ≤ s .n → Sequenced a (nodeAt (sequences w a) u)
   named u h =
       sequenced w yes a u
       (grown-listed w (sequences w a) (stored-made w yes a) a work (s .targets) (s .n) (s .m) (s .lo) (s .grown) u h)
-
-  pub node-rooted : Rooted work v
-  node-rooted =
-      grown-rooted w (sequences w a) (stored-made w yes a) a work (s .targets) (s .n) (s .m) (s .lo) (s .grown)
-      (λ u h. named u h .short)
-      v
-      (s .on)
 
   -- the change of a node leads elsewhere than the parent boards
   pub node-onward : (u : ℕ) → u ≤ s .n → 1 ≤ u
@@ -138,70 +126,6 @@ module _ (w : List ℕ) (yes : isTimetable w ≡ true) (a : ℕ) (work : List �
             .apart);
       }
 
-  module _ (old path : List ℕ) (k : ℕ) (is : path ≡ put 0 (pathTo work v) old)
-      (count : k ≡ length (pathTo work v)) where
-    at : (m : ℕ) → m < k → getD path m 0 ≡ getD (pathTo work v) m 0
-    at m h = ap (λ l. getD l m 0) is ∙ getD-put (pathTo work v) old m (omega arith)
-
-    reached-at : (m : ℕ) → m < k → reached w a path m ≡ reached w a (pathTo work v) m
-    reached-at zero h = reached-none w path a ∙ sym (reached-none w (pathTo work v) a)
-    reached-at (suc m) h =
-        reached-more w path a m
-        ∙ ap (λ z. (transferAt w z) .boarded) (at m (omega arith))
-        ∙ sym (reached-more w (pathTo work v) a m)
-
-    pub node-path : Path w a path k
-    node-path =
-        record {
-          long =
-              omega (
-                arith,
-                ap (λ l. length (take (length (pathTo work v)) l)) is,
-                ap length (take-put (pathTo work v) old),
-                length-take (length (pathTo work v)) path,
-              );
-          onward = λ m h.
-              subst (λ c. Onward w c (getD path m 0)) (sym (reached-at m h))
-              (subst (Onward w (reached w a (pathTo work v) m)) (sym (at m h))
-              (path-onward w (sequences w a) (stored-made w yes a) a work (s .targets) (s .n) (s .m) (s .lo) (s .grown)
-              (λ u g some. node-onward u g some .apart)
-              v
-              (s .on)
-              m
-              (omega arith)));
-        }
-
-    changes : changed w k path ≡ backwards node
-    unfolding changed
-    changes =
-        ap (λ l. reverseAux (map (transferAt w) l) [])
-        (ap (λ j. take j path) count ∙ ap (take (length (pathTo work v))) is ∙ take-put (pathTo work v) old)
-        ∙ path-back w (sequences w a) (stored-made w yes a) a work (s .targets) (s .n) (s .m) (s .lo) (s .grown) v
-        (s .on)
-
-    module _ (c : ℕ) (boards : c ≡ (transferAt w (slotIn (getD work v 0))) .boarded) where
-      -- one boards where the change of the node leads
-      here : boardsAt a (changed w k path) ≡ c
-      here =
-          ap (boardsAt a) changes
-          ∙ boards-final a node (node-even (sequences w a) v)
-          ∙ sym
-          (ap (λ (t : Transfer). t .boarded)
-          (says-slot w (sequences w a) (stored-made w yes a) a work (s .targets) (s .n) (s .m) (s .lo) (s .grown) v
-          (s .on)))
-          ∙ sym boards
-
-      pub node-labels : (d : ℕ) (x : List ℕ) → Labelled w a d (changed w k path) (reached w a path k) x
-          → NodeLabels w a d v c x
-      node-labels d x labels =
-          record {
-            boards = ap (boardsAt a) (sym changes) ∙ here;
-            labels =
-                subst (λ r. Labelled w a d r c x) changes
-                (subst (λ z. Labelled w a d (changed w k path) z x)
-                (sym (boards-reached w path a k (node-path .long)) ∙ here) labels);
-          }
-
   -- the slot of a node, and the station where it boards
   slot-listed : slotIn (getD work v 0) ∈ slots w
   slot-listed =
@@ -209,6 +133,12 @@ module _ (w : List ℕ) (yes : isTimetable w ≡ true) (a : ℕ) (work : List �
 
   pub node-slot : slotIn (getD work v 0) < 320
   node-slot = slot-small w yes (slotIn (getD work v 0)) slot-listed
+
+  pub node-inside : v < length work
+  node-inside = omega (arith, s .on, s .grown .few-nodes, s .grown .long-work)
+
+  pub node-few : v < 16384
+  node-few = omega (arith, s .on, s .grown .few-nodes)
 
   pub node-station : (c : ℕ) → c ≡ (transferAt w (slotIn (getD work v 0))) .boarded → c ≤ stationCount w
   node-station c boards = omega (arith, slot-stations w yes (slotIn (getD work v 0)) slot-listed .boarded-last)

@@ -6,30 +6,17 @@ ghost use lib.ListN.{length, getD};
 ghost use Rattle.timetable.specs.Words.{stationCount, isTimetable};
 ghost use Rattle.store_departures.specs.Held.{Departures};
 ghost use Rattle.store_marks.specs.Held.{Changes};
-ghost use Rattle.store_marks.specs.Paths.{Onward};
+ghost use Rattle.store_marks.specs.Stepping.{Onward};
 ghost use Rattle.store_nodes.specs.Standing.{Standing, StandingTo, Judged, ArcsAt, KidsAt};
 ghost use Rattle.store_nodes.specs.Chunk.{Down, Raised, RaisedOn};
-ghost use Rattle.store_nodes.specs.Hope.{Stationed, Family, MarkedKid, Told, Stays, Siblings, ToldOn, Sure};
+ghost use Rattle.store_nodes.specs.Hand.{AtHand, QuietOn, QuietFrom, top};
+ghost use Rattle.store_nodes.specs.Hope.{Stationed, Family, MarkedKid, Told, Stays, Siblings, ToldOn, StaysOn};
+ghost use Rattle.store_nodes.specs.Hope.{Sure};
 ghost use Rattle.store_tree.specs.Tree.{slotIn, parentIn};
 use crate::nodes;
 use crate::nodes::ARC_FLAGS;
+use crate::nodes::HAND_WORDS;
 use crate::nodes::KID_FLAGS;
-
-// The number of a node's parent.
-fn parent_of(work: &[u32], node: usize) -> usize
-    requires { ⌜ node < length (now work) ⌝ }
-    ensures { λ r. ⌜ r ≡ parentIn (getD (now (work .entry)) node 0) ⌝ }
-{
-    store_tree::node_parent(work[node]) as usize
-}
-
-// The slot of a node's change.
-fn slot_of(work: &[u32], node: usize) -> usize
-    requires { ⌜ node < length (now work) ⌝ }
-    ensures { λ r. ⌜ r ≡ slotIn (getD (now (work .entry)) node 0) ⌝ }
-{
-    store_tree::node_slot(work[node]) as usize
-}
 
 // Whether a node is below hi and a kid of the parent.
 fn is_kid(work: &[u32], parent: usize, node: usize, hi: usize) -> bool
@@ -39,7 +26,7 @@ fn is_kid(work: &[u32], parent: usize, node: usize, hi: usize) -> bool
     if hi <= node {
         return false;
     }
-    parent_of(work, node) == parent
+    nodes::parent_of(work, node) == parent
 }
 
 // Finds the labels of a node that has kids, and raises in hope the flag of each change with which it goes on at minute
@@ -56,16 +43,18 @@ fn look_ahead(
     allowed: &[u32],
     q: &[u32],
     x: &mut [u32],
+    hand: &mut [u16],
     hope: &mut [u8],
 ) -> usize
     requires { ⌜ (16384 ≤ length (now words))
         × (isTimetable (now words) ≡ true)
         × Departures (now words) (now chain) (now first)
         × Changes (now words) (now catch)
-        × (1 ≤ source)
         × (source ≤ stationCount (now words))
         × Standing (now words) source (now work) parent
+        × AtHand (now words) source d (now hand) (now x)
         × (length (now x) ≡ 2048)
+        × (length (now hand) ≡ 66)
         × Judged (now words) source d (now allowed) (now q)
         × (length (now allowed) ≡ 2048)
         × (length (now q) ≡ 2048)
@@ -74,8 +63,11 @@ fn look_ahead(
     ensures { λ r. ⌜ Family (now (words .entry)) source d (now (work .entry)) parent r (now (x .exit))
         (now (hope .exit)) (now (allowed .entry)) (now (q .entry))
         × Stationed (now (words .entry)) source parent r
+        × AtHand (now (words .entry)) source d (now (hand .exit)) (now (x .exit))
+        × (top (now (hand .entry)) ≤ top (now (hand .exit)))
         × (r ≤ stationCount (now (words .entry)))
         × (length (now (x .exit)) ≡ 2048)
+        × (length (now (hand .exit)) ≡ 66)
         × (length (now (hope .exit)) ≡ 320) ⌝ }
 {
     // The node was taken before its kids, so nobody reads its arcs again.
@@ -92,23 +84,25 @@ fn look_ahead(
         allowed,
         q,
         x,
+        hand,
         &mut spare,
         hope,
     )
 }
 
-// From the labels at station c finds those behind one change more, that of the slot, and raises the flags of the node
-// that ends with it.
+// From the labels of its parent, at station c, finds those of a node, and raises its flags.
 fn mark_kid(
     words: &[u16],
     chain: &[u16],
     first: &[u32],
     catch: &[u16],
+    work: &[u32],
+    node: usize,
+    c: usize,
     allowed: &[u32],
     q: &[u32],
-    c: usize,
-    slot: usize,
     x: &mut [u32],
+    hand: &mut [u16],
     arcs: &mut [u8],
     kids: &mut [u8],
 )
@@ -117,39 +111,44 @@ fn mark_kid(
         × Departures (now words) (now chain) (now first)
         × Changes (now words) (now catch)
         × (c ≤ stationCount (now words))
-        × Onward (now words) c slot
+        × (node < length (now work))
+        × (node < 16384)
+        × Onward (now words) c (slotIn (getD (now work) node 0))
         × (length (now x) ≡ 2048)
+        × (length (now hand) ≡ 66)
         × (length (now allowed) ≡ 2048)
         × (length (now q) ≡ 2048)
         × (length (now arcs) ≡ 64)
         × (length (now kids) ≡ 320) ⌝ }
-    ensures { λ _. ⌜ MarkedKid (now (words .entry)) c slot (now (x .entry)) (now (x .exit)) (now (allowed .entry))
+    ensures { λ _. ⌜ MarkedKid (now (words .entry)) c (slotIn (getD (now (work .entry)) node 0)) node
+        (now (x .entry)) (now (x .exit)) (now (hand .entry)) (now (hand .exit)) (now (allowed .entry))
         (now (q .entry)) (now (arcs .entry)) (now (arcs .exit)) (now (kids .entry)) (now (kids .exit))
         × (length (now (x .exit)) ≡ 2048)
+        × (length (now (hand .exit)) ≡ 66)
         × (length (now (arcs .exit)) ≡ 64)
         × (length (now (kids .exit)) ≡ 320) ⌝ }
 {
-    let e = store_marks::label_step(words, chain, first, catch, c, slot, x);
+    let e = nodes::label_kid(words, chain, first, catch, work, node, c, x, hand);
     store_marks::mark(words, chain, first, catch, allowed, q, x, e, arcs, kids);
 }
 
-// Raises the flags of a node that ends with the change of the slot, its flags standing among those of the nodes from lo
-// on. Its parent's labels at station c are in x and stay there, and hope has the flags of the changes with which the
-// parent goes on: a node with which it does not go on is on no optimal connection at this minute, so it needs no labels
-// and gets no flags.
+// Raises the flags of a node, which stand among those of the nodes from lo on. Its parent's labels at station c are in
+// x and stay there, and hope has the flags of the changes with which the parent goes on: a node with which it does not
+// go on is on no optimal connection at this minute, so it needs no labels and gets no flags.
 fn mark_hoped(
     words: &[u16],
     chain: &[u16],
     first: &[u32],
     catch: &[u16],
-    allowed: &[u32],
-    q: &[u32],
+    work: &[u32],
     lo: usize,
     node: usize,
     c: usize,
-    slot: usize,
     hope: &[u8],
+    allowed: &[u32],
+    q: &[u32],
     x: &mut [u32],
+    hand: &mut [u16],
     arcs: &mut [u8],
     kids: &mut [u8],
 )
@@ -158,26 +157,33 @@ fn mark_hoped(
         × Departures (now words) (now chain) (now first)
         × Changes (now words) (now catch)
         × (c ≤ stationCount (now words))
-        × Onward (now words) c slot
-        × (slot < 320)
+        × (node < length (now work))
+        × (node < 16384)
+        × Onward (now words) c (slotIn (getD (now work) node 0))
+        × (slotIn (getD (now work) node 0) < 320)
         × (length (now hope) ≡ 320)
         × (length (now x) ≡ 2048)
+        × (length (now hand) ≡ 66)
         × (length (now allowed) ≡ 2048)
         × (length (now q) ≡ 2048)
         × (length (now arcs) ≡ 6144)
         × (length (now kids) ≡ 30720)
         × (lo ≤ node)
         × (node < lo + 96) ⌝ }
-    ensures { λ _. ⌜ Told 64 (ArcsAt (now (words .entry))) (now (words .entry)) lo node c slot (now (x .entry))
+    ensures { λ _. ⌜ Told 64 (ArcsAt (now (words .entry))) (now (words .entry)) lo node c
+        (slotIn (getD (now (work .entry)) node 0)) (now (x .entry))
         (now (hope .entry)) (now (allowed .entry)) (now (q .entry)) (now (arcs .entry)) (now (arcs .exit))
-        × Told 320 (KidsAt (now (words .entry))) (now (words .entry)) lo node c slot (now (x .entry))
+        × Told 320 (KidsAt (now (words .entry))) (now (words .entry)) lo node c
+        (slotIn (getD (now (work .entry)) node 0)) (now (x .entry))
         (now (hope .entry)) (now (allowed .entry)) (now (q .entry)) (now (kids .entry)) (now (kids .exit))
-        × Stays (now (words .entry)) c (now (hope .entry)) (now (x .entry)) (now (x .exit))
+        × Stays (now (words .entry)) c (slotIn (getD (now (work .entry)) node 0)) node (now (hope .entry))
+        (now (x .entry)) (now (x .exit)) (now (hand .entry)) (now (hand .exit))
         × (length (now (x .exit)) ≡ 2048)
+        × (length (now (hand .exit)) ≡ 66)
         × (length (now (arcs .exit)) ≡ 6144)
         × (length (now (kids .exit)) ≡ 30720) ⌝ }
 {
-    if hope[slot] != 1 {
+    if hope[nodes::slot_of(work, node)] != 1 {
         return;
     }
     let o = ARC_FLAGS * (node - lo);
@@ -187,11 +193,13 @@ fn mark_hoped(
         chain,
         first,
         catch,
+        work,
+        node,
+        c,
         allowed,
         q,
-        c,
-        slot,
         x,
+        hand,
         &mut arcs[o..o + ARC_FLAGS],
         &mut kids[p..p + KID_FLAGS],
     );
@@ -205,15 +213,16 @@ fn mark_sibling(
     first: &[u32],
     catch: &[u16],
     work: &[u32],
-    allowed: &[u32],
-    q: &[u32],
     parent: usize,
     lo: usize,
     node: usize,
     hi: usize,
     c: usize,
     hope: &[u8],
+    allowed: &[u32],
+    q: &[u32],
     x: &mut [u32],
+    hand: &mut [u16],
     arcs: &mut [u8],
     kids: &mut [u8],
 ) -> bool
@@ -226,6 +235,7 @@ fn mark_sibling(
         × (parent ≡ parentIn (getD (now work) node 0))
         × (length (now hope) ≡ 320)
         × (length (now x) ≡ 2048)
+        × (length (now hand) ≡ 66)
         × (length (now allowed) ≡ 2048)
         × (length (now q) ≡ 2048)
         × (length (now arcs) ≡ 6144)
@@ -240,26 +250,28 @@ fn mark_sibling(
         × ToldOn 320 (KidsAt (now (words .entry))) (now (words .entry)) (now (work .entry)) parent lo node
         (node + 1) c (now (x .entry)) (now (hope .entry)) (now (allowed .entry)) (now (q .entry))
         (now (kids .entry)) (now (kids .exit))
-        × Stays (now (words .entry)) c (now (hope .entry)) (now (x .entry)) (now (x .exit))
+        × StaysOn (now (words .entry)) (now (work .entry)) parent c node (node + 1) (now (hope .entry))
+        (now (x .entry)) (now (x .exit)) (now (hand .entry)) (now (hand .exit))
         × Sure (now (work .entry)) parent hi (node + 1) r
         × (length (now (x .exit)) ≡ 2048)
+        × (length (now (hand .exit)) ≡ 66)
         × (length (now (arcs .exit)) ≡ 6144)
         × (length (now (kids .exit)) ≡ 30720) ⌝ }
 {
-    let slot = slot_of(work, node);
     mark_hoped(
         words,
         chain,
         first,
         catch,
-        allowed,
-        q,
+        work,
         lo,
         node,
         c,
-        slot,
         hope,
+        allowed,
+        q,
         x,
+        hand,
         arcs,
         kids,
     );
@@ -274,15 +286,16 @@ fn mark_kids(
     first: &[u32],
     catch: &[u16],
     work: &[u32],
-    allowed: &[u32],
-    q: &[u32],
     parent: usize,
     lo: usize,
     node: usize,
     hi: usize,
     c: usize,
     hope: &[u8],
+    allowed: &[u32],
+    q: &[u32],
     x: &mut [u32],
+    hand: &mut [u16],
     arcs: &mut [u8],
     kids: &mut [u8],
 ) -> usize
@@ -295,6 +308,7 @@ fn mark_kids(
         × (parent ≡ parentIn (getD (now work) node 0))
         × (length (now hope) ≡ 320)
         × (length (now x) ≡ 2048)
+        × (length (now hand) ≡ 66)
         × (length (now allowed) ≡ 2048)
         × (length (now q) ≡ 2048)
         × (length (now arcs) ≡ 6144)
@@ -309,9 +323,12 @@ fn mark_kids(
         × ToldOn 320 (KidsAt (now (words .entry))) (now (words .entry)) (now (work .entry)) parent lo node r c
         (now (x .entry)) (now (hope .entry)) (now (allowed .entry)) (now (q .entry))
         (now (kids .entry)) (now (kids .exit))
+        × StaysOn (now (words .entry)) (now (work .entry)) parent c node r (now (hope .entry))
+        (now (x .entry)) (now (x .exit)) (now (hand .entry)) (now (hand .exit))
         × (node < r)
         × (r ≤ hi)
         × (length (now (x .exit)) ≡ 2048)
+        × (length (now (hand .exit)) ≡ 66)
         × (length (now (arcs .exit)) ≡ 6144)
         × (length (now (kids .exit)) ≡ 30720) ⌝ }
 {
@@ -323,15 +340,16 @@ fn mark_kids(
             first,
             catch,
             work,
-            allowed,
-            q,
             parent,
             lo,
             v,
             hi,
             c,
             hope,
+            allowed,
+            q,
             x,
+            hand,
             arcs,
             kids,
         );
@@ -358,6 +376,7 @@ fn mark_siblings(
     allowed: &[u32],
     q: &[u32],
     x: &mut [u32],
+    hand: &mut [u16],
     arcs: &mut [u8],
     kids: &mut [u8],
 ) -> usize
@@ -365,10 +384,11 @@ fn mark_siblings(
         × (isTimetable (now words) ≡ true)
         × Departures (now words) (now chain) (now first)
         × Changes (now words) (now catch)
-        × (1 ≤ source)
         × (source ≤ stationCount (now words))
         × StandingTo (now words) source (now work) hi
+        × AtHand (now words) source d (now hand) (now x)
         × (length (now x) ≡ 2048)
+        × (length (now hand) ≡ 66)
         × Judged (now words) source d (now allowed) (now q)
         × (length (now allowed) ≡ 2048)
         × (length (now q) ≡ 2048)
@@ -380,13 +400,16 @@ fn mark_siblings(
         × (hi ≤ lo + 96) ⌝ }
     ensures { λ r. ⌜ RaisedOn 64 (ArcsAt (now (words .entry)) source d) lo node r (now (arcs .entry)) (now (arcs .exit))
         × RaisedOn 320 (KidsAt (now (words .entry)) source d) lo node r (now (kids .entry)) (now (kids .exit))
+        × AtHand (now (words .entry)) source d (now (hand .exit)) (now (x .exit))
+        × QuietOn (now (words .entry)) source d node r (now (hand .entry)) (now (hand .exit))
         × (node < r)
         × (r ≤ hi)
         × (length (now (x .exit)) ≡ 2048)
+        × (length (now (hand .exit)) ≡ 66)
         × (length (now (arcs .exit)) ≡ 6144)
         × (length (now (kids .exit)) ≡ 30720) ⌝ }
 {
-    let parent = parent_of(work, node);
+    let parent = nodes::parent_of(work, node);
     let mut hope = [0u8; KID_FLAGS];
     let c = look_ahead(
         words,
@@ -400,6 +423,7 @@ fn mark_siblings(
         allowed,
         q,
         x,
+        hand,
         &mut hope,
     );
     mark_kids(
@@ -408,15 +432,16 @@ fn mark_siblings(
         first,
         catch,
         work,
-        allowed,
-        q,
         parent,
         lo,
         node,
         hi,
         c,
         &hope,
+        allowed,
+        q,
         x,
+        hand,
         arcs,
         kids,
     )
@@ -438,6 +463,7 @@ fn mark_family(
     allowed: &[u32],
     q: &[u32],
     x: &mut [u32],
+    hand: &mut [u16],
     arcs: &mut [u8],
     kids: &mut [u8],
 ) -> usize
@@ -445,10 +471,11 @@ fn mark_family(
         × (isTimetable (now words) ≡ true)
         × Departures (now words) (now chain) (now first)
         × Changes (now words) (now catch)
-        × (1 ≤ source)
         × (source ≤ stationCount (now words))
         × StandingTo (now words) source (now work) hi
+        × AtHand (now words) source d (now hand) (now x)
         × (length (now x) ≡ 2048)
+        × (length (now hand) ≡ 66)
         × Judged (now words) source d (now allowed) (now q)
         × (length (now allowed) ≡ 2048)
         × (length (now q) ≡ 2048)
@@ -459,9 +486,12 @@ fn mark_family(
         × (hi ≤ lo + 96) ⌝ }
     ensures { λ r. ⌜ RaisedOn 64 (ArcsAt (now (words .entry)) source d) lo node r (now (arcs .entry)) (now (arcs .exit))
         × RaisedOn 320 (KidsAt (now (words .entry)) source d) lo node r (now (kids .entry)) (now (kids .exit))
+        × AtHand (now (words .entry)) source d (now (hand .exit)) (now (x .exit))
+        × QuietOn (now (words .entry)) source d node r (now (hand .entry)) (now (hand .exit))
         × (node < r)
         × (r ≤ hi)
         × (length (now (x .exit)) ≡ 2048)
+        × (length (now (hand .exit)) ≡ 66)
         × (length (now (arcs .exit)) ≡ 6144)
         × (length (now (kids .exit)) ≡ 30720) ⌝ }
 {
@@ -479,6 +509,7 @@ fn mark_family(
             allowed,
             q,
             x,
+            hand,
             arcs,
             kids,
         );
@@ -498,12 +529,14 @@ fn mark_family(
         allowed,
         q,
         x,
+        hand,
         arcs,
         kids,
     )
 }
 
-// Raises the flags of all nodes from lo up to hi. What x holds is of no further use.
+// Raises the flags of all nodes from lo up to hi. Returns a number up to which nodes were looked at: of these nodes
+// those from there on are on no optimal connection at minute d. What x holds is of no further use.
 pub fn mark_nodes(
     words: &[u16],
     chain: &[u16],
@@ -519,12 +552,11 @@ pub fn mark_nodes(
     x: &mut [u32],
     arcs: &mut [u8],
     kids: &mut [u8],
-)
+) -> u16
     requires { ⌜ (16384 ≤ length (now words))
         × (isTimetable (now words) ≡ true)
         × Departures (now words) (now chain) (now first)
         × Changes (now words) (now catch)
-        × (1 ≤ source)
         × (source ≤ stationCount (now words))
         × StandingTo (now words) source (now work) hi
         × (length (now x) ≡ 2048)
@@ -535,12 +567,14 @@ pub fn mark_nodes(
         × (length (now kids) ≡ 30720)
         × (lo ≤ hi)
         × (hi ≤ lo + 96) ⌝ }
-    ensures { λ _. ⌜ Raised 64 (ArcsAt (now (words .entry)) source d) lo hi (now (arcs .entry)) (now (arcs .exit))
+    ensures { λ r. ⌜ Raised 64 (ArcsAt (now (words .entry)) source d) lo hi (now (arcs .entry)) (now (arcs .exit))
         × Raised 320 (KidsAt (now (words .entry)) source d) lo hi (now (kids .entry)) (now (kids .exit))
+        × QuietFrom (now (words .entry)) source d lo hi r
         × (length (now (x .exit)) ≡ 2048)
         × (length (now (arcs .exit)) ≡ 6144)
         × (length (now (kids .exit)) ≡ 30720) ⌝ }
 {
+    let mut hand = [0u16; HAND_WORDS];
     let mut node = lo;
     while node < hi {
         node = mark_family(
@@ -557,8 +591,10 @@ pub fn mark_nodes(
             allowed,
             q,
             x,
+            &mut hand,
             arcs,
             kids,
         );
     }
+    nodes::last_noted(&hand)
 }

@@ -4,3 +4,4 @@ mod families;
 mod nodes;
 
 pub use families::mark_nodes;
+pub use nodes::larger;

@@ -1,18 +1,20 @@
-// The marks of one node of the tree, for one minute: the way to the node, the labels of those who board after its
-// changes, and the flags of its arcs and kids.
+// The marks of one node of the tree, for one minute: the labels of those who board after its changes, and the flags of
+// its arcs and kids. The labels of a node stand at the departures of one station, so that those of several nodes are at
+// hand at once: for each station it is noted, one more than its number, which node's they are.
 ghost use mathlib.Core.Path.{_≡_};
 ghost use mathlib.Core.Bool.{true};
-ghost use Prim.Native.Nat.{_+_, _≤_, _<_};
-ghost use lib.ListN.{length};
-ghost use Rattle.words.specs.Put.{put};
+ghost use Prim.Native.Nat.{_+_, _≤_, _<_, max};
+ghost use lib.Dec.{eqb};
+ghost use lib.ListN.{length, getD};
 ghost use Rattle.timetable.specs.Words.{stationCount, isTimetable};
 ghost use Rattle.store_slots.specs.Slots.{transferAt};
 ghost use Rattle.store_departures.specs.Held.{Departures};
 ghost use Rattle.store_marks.specs.Held.{Changes};
+ghost use Rattle.store_marks.specs.Stepping.{Onward};
 ghost use Rattle.store_marks.specs.Marking.{Marked};
-ghost use Rattle.store_tree.specs.Tree.{slotIn};
-ghost use Rattle.store_nodes.specs.Paths.{pathTo, Rooted};
+ghost use Rattle.store_tree.specs.Tree.{slotIn, parentIn};
 ghost use Rattle.store_nodes.specs.Standing.{Standing, NodeLabels, Judged, ArcsAt, KidsAt};
+ghost use Rattle.store_nodes.specs.Hand.{AtHand, LabelledKid, Noted, top};
 ghost use Rattle.store_nodes.specs.Chunk.{MarkedAt};
 
 // Each node has a flag for each station that there can be, and one for each slot.
@@ -20,32 +22,141 @@ pub const ARC_FLAGS: usize = 64;
 
 pub const KID_FLAGS: usize = 320;
 
-// Writes the slots of the changes on the way from the root to a node, from its word back through the parents. Returns
-// their number.
-fn path_of(work: &[u32], node: usize, path: &mut [u16]) -> usize
-    requires { ⌜ Rooted (now work) node × (length (now path) ≡ 64) ⌝ }
-    ensures { λ r. ⌜ (r ≡ length (pathTo (now (work .entry)) node))
-        × (now (path .exit) ≡ put 0 (pathTo (now (work .entry)) node) (now (path .entry))) ⌝ }
+// For each station, from 0 on, which node's labels stand there, and behind these places the last node that was noted.
+const LAST: usize = 65;
+
+pub const HAND_WORDS: usize = LAST + 1;
+
+// The number of a node's parent.
+pub fn parent_of(work: &[u32], node: usize) -> usize
+    requires { ⌜ node < length (now work) ⌝ }
+    ensures { λ r. ⌜ r ≡ parentIn (getD (now (work .entry)) node 0) ⌝ }
 {
-    if node == 0 {
-        return 0;
+    store_tree::node_parent(work[node]) as usize
+}
+
+// The slot of a node's change.
+pub fn slot_of(work: &[u32], node: usize) -> usize
+    requires { ⌜ node < length (now work) ⌝ }
+    ensures { λ r. ⌜ r ≡ slotIn (getD (now (work .entry)) node 0) ⌝ }
+{
+    store_tree::node_slot(work[node]) as usize
+}
+
+// The station where one boards after the changes of a node.
+fn boards_at(words: &[u16], work: &[u32], node: usize) -> usize
+    requires { ⌜ (16384 ≤ length (now words))
+        × (isTimetable (now words) ≡ true)
+        × (node < length (now work))
+        × (slotIn (getD (now work) node 0) < 320) ⌝ }
+    ensures { λ r. ⌜ r ≡ (transferAt (now (words .entry)) (slotIn (getD (now (work .entry)) node 0))) .boarded ⌝ }
+{
+    store_slots::transfer_at(words, slot_of(work, node)).boarded as usize
+}
+
+// Whether the labels at station c are those of the node.
+fn is_at_hand(hand: &[u16], c: usize, node: usize) -> bool
+    requires { ⌜ (c < 65) × (node < 16384) × (length (now hand) ≡ 66) ⌝ }
+    ensures { λ r. ⌜ r ≡ eqb (getD (now (hand .entry)) c 0) (node + 1) ⌝ }
+{
+    words::word(hand, c) as usize == node + 1
+}
+
+// The larger of two numbers.
+pub fn larger(a: u16, b: u16) -> u16
+    ensures { λ r. ⌜ r ≡ max a b ⌝ }
+{
+    if a < b {
+        return b;
     }
-    let x = work[node];
-    let k = path_of(work, store_tree::node_parent(x) as usize, path);
-    path[k] = store_tree::node_slot(x) as u16;
-    k + 1
+    a
 }
 
-// The station where one boards after the changes of a node, from its word.
-fn boards_at(words: &[u16], x: u32) -> usize
-    requires { ⌜ (16384 ≤ length (now words)) × (isTimetable (now words) ≡ true) × (slotIn x < 320) ⌝ }
-    ensures { λ r. ⌜ r ≡ (transferAt (now (words .entry)) (slotIn x)) .boarded ⌝ }
+// Notes that the labels at station c are those of the node.
+fn note(hand: &mut [u16], c: usize, node: usize)
+    requires { ⌜ (c < 65) × (node < 16384) × (length (now hand) ≡ 66) ⌝ }
+    ensures { λ _. ⌜ Noted c node (now (hand .entry)) (now (hand .exit)) ⌝ }
+    ensures { λ _. ⌜ length (now (hand .exit)) ≡ length (now (hand .entry)) ⌝ }
 {
-    store_slots::transfer_at(words, store_tree::node_slot(x) as usize).boarded as usize
+    let number = (node + 1) as u16;
+    let last = hand[LAST];
+    hand[c] = number;
+    hand[LAST] = larger(last, number);
 }
 
-// Finds the least penalties of those who board after the changes of the node, having started at minute d or later.
-// Returns the station where they board.
+// One more than the last node that was noted.
+pub fn last_noted(hand: &[u16]) -> u16
+    requires { ⌜ length (now hand) ≡ 66 ⌝ }
+    ensures { λ r. ⌜ r ≡ top (now (hand .entry)) ⌝ }
+{
+    hand[LAST]
+}
+
+// Finds the labels of the root, for those who start at minute d or later. Returns the source, where they board.
+fn label_start(
+    words: &[u16],
+    chain: &[u16],
+    first: &[u32],
+    source: usize,
+    d: usize,
+    x: &mut [u32],
+    hand: &mut [u16],
+) -> usize
+    requires { ⌜ (16384 ≤ length (now words))
+        × (isTimetable (now words) ≡ true)
+        × Departures (now words) (now chain) (now first)
+        × (source ≤ stationCount (now words))
+        × AtHand (now words) source d (now hand) (now x)
+        × (length (now x) ≡ 2048)
+        × (length (now hand) ≡ 66) ⌝ }
+    ensures { λ r. ⌜ NodeLabels (now (words .entry)) source d 0 r (now (x .exit))
+        × AtHand (now (words .entry)) source d (now (hand .exit)) (now (x .exit))
+        × (top (now (hand .entry)) ≤ top (now (hand .exit)))
+        × (0 < top (now (hand .exit)))
+        × (r ≤ stationCount (now (words .entry)))
+        × (length (now (x .exit)) ≡ 2048)
+        × (length (now (hand .exit)) ≡ 66) ⌝ }
+{
+    store_marks::label_root(words, chain, first, source, d, x);
+    note(hand, source, 0);
+    source
+}
+
+// Finds the labels of a node from those of its parent, at station c. Returns the station where it boards.
+pub fn label_kid(
+    words: &[u16],
+    chain: &[u16],
+    first: &[u32],
+    catch: &[u16],
+    work: &[u32],
+    node: usize,
+    c: usize,
+    x: &mut [u32],
+    hand: &mut [u16],
+) -> usize
+    requires { ⌜ (16384 ≤ length (now words))
+        × (isTimetable (now words) ≡ true)
+        × Departures (now words) (now chain) (now first)
+        × Changes (now words) (now catch)
+        × (c ≤ stationCount (now words))
+        × (node < length (now work))
+        × (node < 16384)
+        × Onward (now words) c (slotIn (getD (now work) node 0))
+        × (length (now x) ≡ 2048)
+        × (length (now hand) ≡ 66) ⌝ }
+    ensures { λ r. ⌜ LabelledKid (now (words .entry)) c (slotIn (getD (now (work .entry)) node 0)) node r
+        (now (x .entry)) (now (x .exit)) (now (hand .entry)) (now (hand .exit))
+        × (r ≤ stationCount (now (words .entry)))
+        × (length (now (x .exit)) ≡ 2048)
+        × (length (now (hand .exit)) ≡ 66) ⌝ }
+{
+    let e = store_marks::label_step(words, chain, first, catch, c, slot_of(work, node), x);
+    note(hand, e, node);
+    e
+}
+
+// Finds the least penalties of those who board after the changes of the node, having started at minute d or later: they
+// are at hand, or one change after those of the parent. Returns the station where they board.
 fn label_node(
     words: &[u16],
     chain: &[u16],
@@ -56,23 +167,35 @@ fn label_node(
     source: usize,
     d: usize,
     x: &mut [u32],
+    hand: &mut [u16],
 ) -> usize
     requires { ⌜ (16384 ≤ length (now words))
         × (isTimetable (now words) ≡ true)
         × Departures (now words) (now chain) (now first)
         × Changes (now words) (now catch)
-        × (1 ≤ source)
         × (source ≤ stationCount (now words))
         × Standing (now words) source (now work) node
-        × (length (now x) ≡ 2048) ⌝ }
+        × AtHand (now words) source d (now hand) (now x)
+        × (length (now x) ≡ 2048)
+        × (length (now hand) ≡ 66) ⌝ }
     ensures { λ r. ⌜ NodeLabels (now (words .entry)) source d node r (now (x .exit))
+        × AtHand (now (words .entry)) source d (now (hand .exit)) (now (x .exit))
+        × (top (now (hand .entry)) ≤ top (now (hand .exit)))
+        × (node < top (now (hand .exit)))
         × (r ≤ stationCount (now (words .entry)))
-        × (length (now (x .exit)) ≡ 2048) ⌝ }
+        × (length (now (x .exit)) ≡ 2048)
+        × (length (now (hand .exit)) ≡ 66) ⌝ }
 {
-    let mut path = [0u16; 64];
-    let k = path_of(work, node, &mut path);
-    store_marks::label_path(words, chain, first, catch, source, d, &path, k, x);
-    boards_at(words, work[node])
+    let c = boards_at(words, work, node);
+    if is_at_hand(hand, c, node) {
+        return c;
+    }
+    if node == 0 {
+        return label_start(words, chain, first, source, d, x, hand);
+    }
+    let p = parent_of(work, node);
+    let b = label_node(words, chain, first, catch, work, p, source, d, x, hand);
+    label_kid(words, chain, first, catch, work, node, b, x, hand)
 }
 
 // Raises in arcs the flag of each station to which an optimal connection at minute d has the sequence of the node, and
@@ -90,6 +213,7 @@ pub fn mark_node(
     allowed: &[u32],
     q: &[u32],
     x: &mut [u32],
+    hand: &mut [u16],
     arcs: &mut [u8],
     kids: &mut [u8],
 ) -> usize
@@ -97,10 +221,11 @@ pub fn mark_node(
         × (isTimetable (now words) ≡ true)
         × Departures (now words) (now chain) (now first)
         × Changes (now words) (now catch)
-        × (1 ≤ source)
         × (source ≤ stationCount (now words))
         × Standing (now words) source (now work) node
+        × AtHand (now words) source d (now hand) (now x)
         × (length (now x) ≡ 2048)
+        × (length (now hand) ≡ 66)
         × Judged (now words) source d (now allowed) (now q)
         × (length (now allowed) ≡ 2048)
         × (length (now q) ≡ 2048)
@@ -112,14 +237,18 @@ pub fn mark_node(
         × (length (now (arcs .exit)) ≡ 64)
         × (length (now (kids .exit)) ≡ 320)
         × NodeLabels (now (words .entry)) source d node r (now (x .exit))
+        × AtHand (now (words .entry)) source d (now (hand .exit)) (now (x .exit))
+        × (top (now (hand .entry)) ≤ top (now (hand .exit)))
+        × (node < top (now (hand .exit)))
+        × (length (now (hand .exit)) ≡ 66)
         × (r ≤ stationCount (now (words .entry))) ⌝ }
 {
-    let c = label_node(words, chain, first, catch, work, node, source, d, x);
+    let c = label_node(words, chain, first, catch, work, node, source, d, x, hand);
     store_marks::mark(words, chain, first, catch, allowed, q, x, c, arcs, kids);
     c
 }
 
-// Raises the flags of a node at minute d, where they stand among those of the nodes from lo on. x is scratch.
+// Raises the flags of a node at minute d, where they stand among those of the nodes from lo on.
 pub fn mark_at(
     words: &[u16],
     chain: &[u16],
@@ -133,6 +262,7 @@ pub fn mark_at(
     allowed: &[u32],
     q: &[u32],
     x: &mut [u32],
+    hand: &mut [u16],
     arcs: &mut [u8],
     kids: &mut [u8],
 )
@@ -140,10 +270,11 @@ pub fn mark_at(
         × (isTimetable (now words) ≡ true)
         × Departures (now words) (now chain) (now first)
         × Changes (now words) (now catch)
-        × (1 ≤ source)
         × (source ≤ stationCount (now words))
         × Standing (now words) source (now work) node
+        × AtHand (now words) source d (now hand) (now x)
         × (length (now x) ≡ 2048)
+        × (length (now hand) ≡ 66)
         × Judged (now words) source d (now allowed) (now q)
         × (length (now allowed) ≡ 2048)
         × (length (now q) ≡ 2048)
@@ -154,7 +285,11 @@ pub fn mark_at(
     ensures { λ _. ⌜ MarkedAt 64 (ArcsAt (now (words .entry)) source d node) lo node
         (now (arcs .entry)) (now (arcs .exit))
         × MarkedAt 320 (KidsAt (now (words .entry)) source d node) lo node (now (kids .entry)) (now (kids .exit))
+        × AtHand (now (words .entry)) source d (now (hand .exit)) (now (x .exit))
+        × (top (now (hand .entry)) ≤ top (now (hand .exit)))
+        × (node < top (now (hand .exit)))
         × (length (now (x .exit)) ≡ 2048)
+        × (length (now (hand .exit)) ≡ 66)
         × (length (now (arcs .exit)) ≡ 6144)
         × (length (now (kids .exit)) ≡ 30720) ⌝ }
 {
@@ -172,6 +307,7 @@ pub fn mark_at(
         allowed,
         q,
         x,
+        hand,
         &mut arcs[o..o + ARC_FLAGS],
         &mut kids[p..p + KID_FLAGS],
     );

@@ -8,7 +8,7 @@ use Rattle.store_departures.specs.Order.{waiting}
 use Rattle.store_marks.specs.Riding.{rootLabel}
 use Rattle.store_marks.specs.Arrays.{fill}
 use Rattle.store_marks.proofs.PartLaws.{first-room, next-room, next-fits, ordered, place-inside, stop-few}
-use Rattle.store_marks.proofs.PartLaws.{stop-inside, root-start, root-on, root-done}
+use Rattle.store_marks.proofs.PartLaws.{stop-inside, root-start, root-on, root-done, root-kept}
 use Rattle.store_marks.proofs.label_root.Statement.{statement}
 use Rattle.store_marks.proofs.label_root.Tie as tie
 
@@ -30,7 +30,7 @@ loop-again : tie.Need-loop-again Inv-loop μ-loop
 loop-again c = (search needs, search needs, search needs, search root-on)
 
 returns : tie.Need-returns Inv-loop μ-loop
-returns c = (search root-done, search needs)
+returns c = (search root-done, (search root-kept, search needs))
 
 pub label-root-spec : {M : Type 1} → statement M
 label-root-spec =

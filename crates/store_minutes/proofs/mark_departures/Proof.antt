@@ -17,31 +17,34 @@ use Rattle.store_minutes.specs.Seeking.{
   begins-before,
   chunked,
 }
+use Rattle.store_minutes.specs.Looking.{Parents, Sounded, sounded-none, sounded-first, looked-all}
 use Rattle.store_minutes.proofs.mark_departures.Statement.{statement}
 use Rattle.store_minutes.proofs.mark_departures.Tie as tie
 
 abbrev Inv-loop : tie.InvT-loop
-Inv-loop words order n chain first arrivals begins catch work lo hi source _ _ _ _ _ end _ _ v q x arcs kids p last =
+Inv-loop words order n chain first arrivals begins catch work chunk _ _ _ _ _ _ end _ _ reach v q x arcs kids p last =
     Routes words order n catch
     × Arrivals words arrivals begins
     × Departures words chain first
-    × (1 ≤ source)
-    × (source ≤ stationCount words)
-    × StandingTo words source work hi
-    × (lo ≤ hi)
-    × (hi ≤ lo + 96)
-    × (end ≡ getD first (source + 1) 0)
-    × (getD first source 0 ≤ p)
-    × (p ≤ getD first (source + 1) 0)
+    × (chunk .source ≤ stationCount words)
+    × StandingTo words (chunk .source) work (chunk .hi)
+    × (chunk .lo ≤ chunk .hi)
+    × (chunk .hi ≤ chunk .lo + 96)
+    × Parents work (chunk .lo) (chunk .hi) (chunk .least)
+    × (end ≡ getD first (chunk .source + 1) 0)
+    × (getD first (chunk .source) 0 ≤ p)
+    × (p ≤ getD first (chunk .source + 1) 0)
+    × (length reach ≡ 2880)
     × (length v ≡ 2048)
     × (length q ≡ 2048)
     × (length x ≡ 2048)
     × (length arcs ≡ 6144)
     × (length kids ≡ 30720)
-    × Sought words source chain (getD first source 0) p last lo hi arcs kids
+    × Sought words (chunk .source) chain (getD first (chunk .source) 0) p last (chunk .lo) (chunk .hi) arcs kids
+    × Sounded words (chunk .source) chain (getD first (chunk .source) 0) p (chunk .lo) (chunk .hi) reach
 
 abbrev μ-loop : tie.MeasureT-loop
-μ-loop words order n chain first arrivals begins catch work lo hi source _ _ _ _ _ end _ _ v q x arcs kids p last =
+μ-loop words order n chain first arrivals begins catch work chunk _ _ _ _ _ _ end _ _ reach v q x arcs kids p last =
     end - p
 
 place-at-requires : tie.Need-place-at-requires Inv-loop μ-loop
@@ -68,11 +71,15 @@ loop-holds c = (
   search needs,
   search needs,
   search needs,
+  search needs,
   search sought-first,
+  search (sounded-first, sounded-none),
 )
 
 mark-departure-requires : tie.Need-mark-departure-requires Inv-loop μ-loop
 mark-departure-requires c κs = (
+  search needs,
+  search needs,
   search needs,
   search needs,
   search needs,
@@ -110,19 +117,24 @@ loop-again c = (
   search needs,
   search needs,
   search needs,
+  search needs,
+  search needs,
 )
 
 returns : tie.Need-returns Inv-loop μ-loop
-returns c = (
-  let b = c .before .loop in
-      let i = b .inv in
-      chunked _ _ _ _ (i .0) _ _ (i .2) _ (i .4) (b .p) (b .last) _ _ _ _ (i .10) _ (i .8) (c .loop-test .left) (i .16),
-  search needs,
-  search needs,
-  search needs,
-  search needs,
-  search needs,
-)
+returns c =
+    let b = c .before .loop in
+    let i = b .inv in (
+      chunked _ _ _ _ (i .0) _ _ (i .2) _ (i .3) (b .p) (b .last) _ _ _ _ (i .10) _ (i .8) (c .loop-test .left)
+          (i .17),
+      looked-all _ _ _ _ (i .0) _ _ (i .2) _ (i .3) (b .p) _ _ _ (i .10) _ (i .8) (c .loop-test .left) (i .18),
+      search needs,
+      search needs,
+      search needs,
+      search needs,
+      search needs,
+      search needs,
+    )
 
 pub mark-departures-spec : {M : Type 1} → statement M
 mark-departures-spec =
@@ -138,6 +150,7 @@ mark-departures-spec =
     (λ c. search needs)
     (λ c. search needs)
     loop-again
+    (λ c. search needs)
     (λ c. search needs)
     (λ c. search needs)
     (λ c. search needs)

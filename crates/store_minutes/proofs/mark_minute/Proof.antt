@@ -20,7 +20,6 @@ mark-nodes-requires c κs = (
   search needs,
   search needs,
   search needs,
-  search needs,
 )
 
 pub mark-minute-spec : {M : Type 1} → statement M

@@ -10,8 +10,9 @@ mark-chunk-requires c κs = (
   search needs,
   search needs,
   search needs,
-  search needs,
   search standing-to,
+  search needs,
+  search needs,
   search needs,
   search needs,
   search needs,
@@ -27,13 +28,15 @@ take-chunk-requires c κs = search some-chunk
 returns : tie.Need-returns
 returns c =
     let taken = c .before .before .before .before .before in
-    let marked = taken .before .before .before .before .before .before .before .before .before in
+    let marked = taken .before .before .before .before .before .before .before .before .before .before .before in
     let lent = marked .before .before .before .before .before .before .before .before in
-    let p = lent .before .before .before .before .before .before .before .before .before .pre in
-    let marks = marked .mark-chunk .ensures in
-    chunk-reached _ _ _ _ (p .0) _ _ _ _ _ _ _ (p .5) (p .6) (p .7) (p .8) _ (p .9) _ _ (marks .0) (marks .4)
-    (marks .5) _ _ _
-    (c .before .before .before .before .take-chunk .ensures)
+    let p = lent .before .before .before .before .before .before .before .before .before .before .before .pre in
+    let marks = marked .mark-chunk .ensures in (
+      chunk-reached _ _ _ _ (p .0) _ _ _ _ _ _ _ (p .5) (p .6) (p .7) (p .8) _ (p .9) _ _ (marks .0) (marks .6)
+          (marks .7) _ _ _ (c .before .before .before .before .take-chunk .ensures),
+      marks .1,
+      marks .2,
+    )
 
 pub grow-chunk-spec : {M : Type 1} → statement M
 grow-chunk-spec =
@@ -48,6 +51,7 @@ grow-chunk-spec =
     (λ c. search needs)
     (λ c. search needs)
     take-chunk-requires
+    (λ c. search needs)
     (λ c. search needs)
     (λ c. search needs)
     returns)

@@ -1,6 +1,7 @@
 -- The root by itself, or the siblings of the node.
 use Rattle.store_nodes.specs.Standing.{standing}
 use Rattle.store_nodes.specs.Chunk.{on-alone}
+use Rattle.store_nodes.specs.Hand.{quiet-one}
 use borrow.Author.Needs.{needs}
 use Rattle.store_nodes.proofs.families.mark_family.Statement.{statement}
 use Rattle.store_nodes.proofs.families.mark_family.Tie as tie
@@ -12,8 +13,9 @@ mark-at-requires c κs = (
   search needs,
   search needs,
   search needs,
-  search needs,
   search standing,
+  search needs,
+  search needs,
   search needs,
   search needs,
   search needs,
@@ -29,6 +31,9 @@ returns c = (
   search on-alone,
   search on-alone,
   search needs,
+  search quiet-one,
+  search needs,
+  search needs,
   search needs,
   search needs,
   search needs,
@@ -37,6 +42,7 @@ returns c = (
 
 mark-siblings-requires : tie.Need-mark-siblings-requires
 mark-siblings-requires c κs = (
+  search needs,
   search needs,
   search needs,
   search needs,
@@ -65,8 +71,10 @@ mark-family-spec =
     (λ c. search needs)
     (λ c. search needs)
     (λ c. search needs)
+    (λ c. search needs)
     returns
     mark-siblings-requires
+    (λ c. search needs)
     (λ c. search needs)
     (λ c. search needs)
     (λ c. search needs)

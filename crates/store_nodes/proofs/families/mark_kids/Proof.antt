@@ -4,28 +4,29 @@ use Prim.Native.Nat.{_-_, _≤_, _<_}
 use lib.ListN.{length, getD}
 use Rattle.store_tree.specs.Tree.{parentIn}
 use Rattle.store_nodes.specs.Standing.{ArcsAt, KidsAt}
-use Rattle.store_nodes.specs.Hope.{Stays, ToldOn, stays-same, stays-more, told-none, told-then, kin-under}
-use Rattle.store_nodes.specs.Hope.{kin-from}
+use Rattle.store_nodes.specs.Hope.{StaysOn, ToldOn, stays-none, stays-then, told-none, told-then, kin-under}
+use Rattle.store_nodes.specs.Hope.{kin-from, sibling-fits}
 use borrow.Author.Needs.{needs}
 use Rattle.store_nodes.proofs.families.mark_kids.Statement.{statement}
 use Rattle.store_nodes.proofs.families.mark_kids.Tie as tie
 
 abbrev Inv-loop : tie.InvT-loop
-Inv-loop words chain first catch work allowed q parent lo node hi c hope x₀ arcs₀ kids₀ v₀ x arcs kids v =
+Inv-loop words chain first catch work parent lo node hi c hope allowed q x₀ hand₀ arcs₀ kids₀ v₀ x hand arcs kids v =
     (1 ≤ v)
     × (lo ≤ v)
     × (node ≤ v)
     × (v < hi)
     × (length x ≡ 2048)
+    × (length hand ≡ 66)
     × (length arcs ≡ 6144)
     × (length kids ≡ 30720)
     × (parent ≡ parentIn (getD work v 0))
-    × Stays words c hope x₀ x
+    × StaysOn words work parent c node v hope x₀ x hand₀ hand
     × ToldOn 64 (ArcsAt words) words work parent lo node v c x₀ hope allowed q arcs₀ arcs
     × ToldOn 320 (KidsAt words) words work parent lo node v c x₀ hope allowed q kids₀ kids
 
 abbrev μ-loop : tie.MeasureT-loop
-μ-loop words chain first catch work allowed q parent lo node hi c hope x₀ arcs₀ kids₀ v₀ x arcs kids v =
+μ-loop words chain first catch work parent lo node hi c hope allowed q x₀ hand₀ arcs₀ kids₀ v₀ x hand arcs kids v =
     hi - v
 
 loop-holds : tie.Need-loop-holds Inv-loop μ-loop
@@ -38,7 +39,8 @@ loop-holds c = (
   search needs,
   search needs,
   search needs,
-  search stays-same,
+  search needs,
+  search stays-none,
   search told-none,
   search told-none,
 )
@@ -62,12 +64,15 @@ mark-sibling-requires c κs = (
   search needs,
   search needs,
   search needs,
+  search needs,
 )
 
 returns : tie.Need-returns Inv-loop μ-loop
 returns c = (
   search told-then,
   search told-then,
+  search stays-then,
+  search needs,
   search needs,
   search needs,
   search needs,
@@ -84,8 +89,9 @@ loop-again c = (
   search needs,
   search needs,
   search needs,
+  search needs,
   search kin-from,
-  search stays-more,
+  search stays-then,
   search told-then,
   search told-then,
 )
@@ -98,6 +104,7 @@ mark-kids-spec =
     μ-loop
     loop-holds
     mark-sibling-requires
+    (λ c. record { fits = search sibling-fits })
     (λ c. search needs)
     (λ c. search needs)
     (λ c. search needs)

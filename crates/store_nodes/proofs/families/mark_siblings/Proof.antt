@@ -1,6 +1,7 @@
 -- The labels of the parent lead to those of all its kids.
 use Rattle.store_nodes.specs.Chunk.{down-fresh}
-use Rattle.store_nodes.specs.Hope.{parent-standing, siblings, arcs-raised, kids-raised}
+use Rattle.store_nodes.specs.Hope.{parent-standing, siblings, arcs-raised, kids-raised, family-at-hand}
+use Rattle.store_nodes.specs.Hope.{family-quiet}
 use borrow.Author.Needs.{needs}
 use Rattle.store_nodes.proofs.families.mark_siblings.Statement.{statement}
 use Rattle.store_nodes.proofs.families.mark_siblings.Tie as tie
@@ -12,8 +13,9 @@ look-ahead-requires c κs = (
   search needs,
   search needs,
   search needs,
-  search needs,
   search parent-standing,
+  search needs,
+  search needs,
   search needs,
   search needs,
   search needs,
@@ -23,30 +25,37 @@ look-ahead-requires c κs = (
 )
 
 mark-kids-requires : tie.Need-mark-kids-requires
-mark-kids-requires c κs = (
-  search needs,
-  search needs,
-  search needs,
-  search needs,
-  search needs,
-  search siblings,
-  search needs,
-  search needs,
-  search needs,
-  search needs,
-  search needs,
-  search needs,
-  search needs,
-  search needs,
-  search needs,
-  search needs,
-  search needs,
-)
+mark-kids-requires c κs =
+    let looked = c .before .before .before .before .before .before .before .before .before .before in
+    let lent = looked .before .before .before .before .before in
+    let entry = lent .before .before .before .before .before .before .before .before .before .before .before in (
+      search needs,
+      search needs,
+      search needs,
+      search needs,
+      search needs,
+      siblings _ _ _ _ _ _ (looked .look-ahead .ensures .1) (entry .pre .5),
+      search needs,
+      search needs,
+      search needs,
+      search needs,
+      search needs,
+      search needs,
+      search needs,
+      search needs,
+      search needs,
+      search needs,
+      search needs,
+      search needs,
+    )
 
 returns : tie.Need-returns
 returns c = (
   search arcs-raised,
   search kids-raised,
+  search family-at-hand,
+  search family-quiet,
+  search needs,
   search needs,
   search needs,
   search needs,
@@ -63,6 +72,7 @@ mark-siblings-spec =
     look-ahead-requires
     (λ c. search needs)
     mark-kids-requires
+    (λ c. search needs)
     (λ c. search needs)
     (λ c. search needs)
     (λ c. search needs)

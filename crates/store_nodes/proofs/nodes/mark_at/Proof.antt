@@ -18,6 +18,7 @@ mark-node-requires c κs = (
   search needs,
   search needs,
   search needs,
+  search needs,
   search part-64,
   search part-320,
 )
@@ -26,6 +27,10 @@ returns : tie.Need-returns
 returns c = (
   search marked-at-64,
   search marked-at-320,
+  search needs,
+  search needs,
+  search needs,
+  search needs,
   search needs,
   search marked-long-64,
   search marked-long-320,
@@ -48,6 +53,7 @@ mark-at-spec =
     (λ c. search needs)
     (λ c. search needs)
     mark-node-requires
+    (λ c. search needs)
     (λ c. search needs)
     (λ c. search needs)
     (λ c. search needs)

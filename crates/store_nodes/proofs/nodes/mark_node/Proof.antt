@@ -22,9 +22,20 @@ returns c = (
   search needs,
   search needs,
   search needs,
+  search needs,
+  search needs,
+  search needs,
+  search needs,
 )
 
 pub mark-node-spec : {M : Type 1} → statement M
 mark-node-spec =
     tie.close
-    (tie.spec (λ c. search needs) mark-requires (λ c. search needs) (λ c. search needs) (λ c. search needs) returns)
+    (tie.spec
+    (λ c κs. search needs)
+    mark-requires
+    (λ c. search needs)
+    (λ c. search needs)
+    (λ c. search needs)
+    (λ c. search needs)
+    returns)
