@@ -37,6 +37,13 @@ const STATIONS_MOST: usize = 128;
 // Room for the numbers of all rides of a connection: a pattern has at most 64 rides.
 const NUMBERS_MOST: usize = 192;
 
+// A query: from one station to another at a minute.
+pub struct Query {
+    pub from: usize,
+    pub to: usize,
+    pub minute: usize,
+}
+
 // The connection that goes before all others tried so far: whether there is one, its arc, when it departs, and how many
 // rides it has. The numbers of its rides stand in an array beside it.
 pub struct Winner {
@@ -180,46 +187,64 @@ fn read_arc(store: &[u16], k: usize, path: &mut [u16]) -> usize
 }
 
 // Lowers the least penalties to those of the connections of arc k, and notes the minutes that it alone reaches for the
-// least penalty. The array for its own penalties is blank before and after.
+// least penalty. The array for its own penalties, and the two to go along it, are blank before and after.
 fn note_arc(
     words: &[u16],
     lines: &[u16],
     store: &[u16],
-    from: usize,
-    to: usize,
-    minute: usize,
+    asked: Query,
     k: usize,
+    p: &mut [u32],
+    q: &mut [u32],
     mine: &mut [u32],
     best: &mut [u32],
     who: &mut [u16],
 )
-    requires { ⌜ Granted (now words) (now lines) (now store) from to minute
+    requires { ⌜ Granted (now words) (now lines) (now store) (asked .from) (asked .to) (asked .minute)
         × (k < arcCount (now store))
-        × (arcTarget (now store) k ≡ to)
+        × (arcTarget (now store) k ≡ asked .to)
+        × (now p ≡ blank)
+        × (now q ≡ blank)
         × (now mine ≡ blank)
         × Bound (now best) (now who)
-        × NotedAll (now words) (now store) from to minute k (now best) (now who)
+        × NotedAll (now words) (now store) (asked .from) (asked .to) (asked .minute) k (now best) (now who)
+        × (length (now p) ≡ 2880)
+        × (length (now q) ≡ 2880)
         × (length (now mine) ≡ 2880)
         × (length (now best) ≡ 2880)
         × (length (now who) ≡ 2880) ⌝ }
-    ensures { λ _. ⌜ (now (mine .exit) ≡ blank)
+    ensures { λ _. ⌜ (now (p .exit) ≡ blank)
+        × (now (q .exit) ≡ blank)
+        × (now (mine .exit) ≡ blank)
         × Bound (now (best .exit)) (now (who .exit))
         × NotedAll
         (now (words .entry))
         (now (store .entry))
-        from
-        to
-        minute
+        (asked .from)
+        (asked .to)
+        (asked .minute)
         (k + 1)
         (now (best .exit))
         (now (who .exit)) ⌝ }
-    ensures { λ _. ⌜ (length (now (mine .exit)) ≡ length (now (mine .entry)))
+    ensures { λ _. ⌜ (length (now (p .exit)) ≡ 2880)
+        × (length (now (q .exit)) ≡ 2880)
+        × (length (now (mine .exit)) ≡ length (now (mine .entry)))
         × (length (now (best .exit)) ≡ length (now (best .entry)))
         × (length (now (who .exit)) ≡ length (now (who .entry))) ⌝ }
 {
     let mut path = [0u16; STATIONS_MOST];
     let r = read_arc(store, k, &mut path);
-    let reached = query_costs::note_pattern(words, lines, from, minute, &path, r, mine);
+    let reached = query_costs::note_pattern(
+        words,
+        lines,
+        asked.from,
+        asked.minute,
+        &path,
+        r,
+        p,
+        q,
+        mine,
+    );
     merge(k, reached.from, reached.to, mine, best, who);
 }
 
@@ -245,7 +270,10 @@ pub fn note_arcs(
         × (length (now (best .exit)) ≡ 2880)
         × (length (now (who .exit)) ≡ 2880) ⌝ }
 {
+    let mut p = [NO_POINTS; MINUTES];
+    let mut q = [NO_POINTS; MINUTES];
     let mut mine = [NO_POINTS; MINUTES];
+    let asked = Query { from, to, minute };
     let arcs = query_store::arc_count(store);
     let mut k = 0;
     while k < arcs {
@@ -258,10 +286,10 @@ pub fn note_arcs(
             words,
             lines,
             store,
-            from,
-            to,
-            minute,
+            asked,
             arc,
+            &mut p,
+            &mut q,
             &mut mine,
             best,
             who,
