@@ -18,6 +18,7 @@ ghost use Rattle.promises.specs.Query.{kept, rows, rowWords};
 ghost use Rattle.query_rows.specs.Keys.{keyWords};
 ghost use Rattle.query_rows.specs.Rowed.{LeastKept};
 ghost use Rattle.query_minutes.specs.Minutes.{noPoints, blank};
+ghost use Rattle.query_minutes.specs.Ending.{LeadsEnd};
 ghost use Rattle.query_rows.specs.Merged.{unnamed, soleOf, Bound, Outside, Merged};
 ghost use Rattle.query_rows.specs.Arcs.{ridesAlong, NotedAll};
 ghost use Rattle.query_rows.specs.Leader.{Leader, Named, NamedRow, AllNamed, AllLed};
@@ -254,32 +255,39 @@ pub fn note_arcs(
     words: &[u16],
     lines: &[u16],
     store: &[u16],
-    from: usize,
-    to: usize,
-    minute: usize,
+    asked: Query,
     best: &mut [u32],
     who: &mut [u16],
 )
-    requires { ⌜ Granted (now words) (now lines) (now store) from to minute
+    requires { ⌜ Granted (now words) (now lines) (now store) (asked .from) (asked .to) (asked .minute)
         × (now best ≡ blank)
         × (length (now best) ≡ 2880)
         × (now who ≡ unnamed)
         × (length (now who) ≡ 2880) ⌝ }
-    ensures { λ _. ⌜ LeastKept minute (kept (now (words .entry)) (now (store .entry)) from to minute) (now (best .exit))
-        × AllNamed (now (words .entry)) (now (store .entry)) from to minute (now (best .exit)) (now (who .exit))
+    ensures { λ _. ⌜ LeastKept
+        (asked .minute)
+        (kept (now (words .entry)) (now (store .entry)) (asked .from) (asked .to) (asked .minute))
+        (now (best .exit))
+        × AllNamed
+        (now (words .entry))
+        (now (store .entry))
+        (asked .from)
+        (asked .to)
+        (asked .minute)
+        (now (best .exit))
+        (now (who .exit))
         × (length (now (best .exit)) ≡ 2880)
         × (length (now (who .exit)) ≡ 2880) ⌝ }
 {
     let mut p = [NO_POINTS; MINUTES];
     let mut q = [NO_POINTS; MINUTES];
     let mut mine = [NO_POINTS; MINUTES];
-    let asked = Query { from, to, minute };
     let arcs = query_store::arc_count(store);
     let mut k = 0;
     while k < arcs {
         let arc = k;
         k += 1;
-        if !query_store::counts(store, arc, to) {
+        if !query_store::counts(store, arc, asked.to) {
             continue;
         }
         note_arc(
@@ -578,34 +586,42 @@ fn name_arc(
     row_length(store, arc)
 }
 
-// How many words all rows have. best has the least penalty for each minute of arrival; the arc of each row is named.
+// How many words all rows have, which arrive before minute `end`. best has the least penalty for each minute of arrival;
+// the arc of each row is named.
 pub fn measure(
     words: &[u16],
     lines: &[u16],
     store: &[u16],
-    from: usize,
-    to: usize,
-    minute: usize,
+    asked: Query,
+    end: usize,
     best: &[u32],
     who: &mut [u16],
     work: &mut [u32],
 ) -> usize
-    requires { ⌜ Granted (now words) (now lines) (now store) from to minute
-        × LeastKept minute (kept (now words) (now store) from to minute) (now best)
-        × AllNamed (now words) (now store) from to minute (now best) (now who)
+    requires { ⌜ Granted (now words) (now lines) (now store) (asked .from) (asked .to) (asked .minute)
+        × LeastKept (asked .minute) (kept (now words) (now store) (asked .from) (asked .to) (asked .minute)) (now best)
+        × AllNamed (now words) (now store) (asked .from) (asked .to) (asked .minute) (now best) (now who)
+        × LeadsEnd (now best) end
         × (length (now best) ≡ 2880)
         × (length (now who) ≡ 2880)
         × (2880 ≤ length (now work)) ⌝ }
-    ensures { λ r. ⌜ (r ≡ length (rowWords (rows (now (words .entry)) (now (store .entry)) from to minute)))
-        × AllLed (now (words .entry)) (now (store .entry)) from to minute (now (best .entry)) (now (who .exit)) ⌝ }
+    ensures { λ r. ⌜ (r
+        ≡ length (rowWords (rows (now (words .entry)) (now (store .entry)) (asked .from) (asked .to) (asked .minute))))
+        × AllLed
+        (now (words .entry))
+        (now (store .entry))
+        (asked .from)
+        (asked .to)
+        (asked .minute)
+        (now (best .entry))
+        (now (who .exit)) ⌝ }
     ensures { λ _. ⌜ (length (now (who .exit)) ≡ length (now (who .entry)))
         × (length (now (work .exit)) ≡ length (now (work .entry))) ⌝ }
 {
-    let end = query_minutes::rows_end(best);
     let mut count = 0;
     let mut least = Points(NO_POINTS);
     // No connection arrives before the minute of the query.
-    let mut m = minute;
+    let mut m = asked.minute;
     while m < end {
         let arrive = m;
         let points = query_minutes::points_at(best, m);
@@ -618,9 +634,9 @@ pub fn measure(
             words,
             lines,
             store,
-            from,
-            to,
-            minute,
+            asked.from,
+            asked.to,
+            asked.minute,
             arrive,
             points,
             who,
@@ -755,35 +771,38 @@ fn write_row(
 }
 
 // Writes all rows, in rising duration: one for each arrival minute whose penalty is below those of all earlier minutes.
-// who has the arc of each of them.
+// They arrive before minute `end`. who has the arc of each of them.
 pub fn write_rows(
     words: &[u16],
     lines: &[u16],
     store: &[u16],
-    from: usize,
-    to: usize,
-    minute: usize,
+    asked: Query,
+    end: usize,
     best: &[u32],
     who: &[u16],
     answer: &mut [u32],
     work: &mut [u32],
 )
-    requires { ⌜ Granted (now words) (now lines) (now store) from to minute
-        × LeastKept minute (kept (now words) (now store) from to minute) (now best)
-        × AllLed (now words) (now store) from to minute (now best) (now who)
+    requires { ⌜ Granted (now words) (now lines) (now store) (asked .from) (asked .to) (asked .minute)
+        × LeastKept (asked .minute) (kept (now words) (now store) (asked .from) (asked .to) (asked .minute)) (now best)
+        × AllLed (now words) (now store) (asked .from) (asked .to) (asked .minute) (now best) (now who)
+        × LeadsEnd (now best) end
         × (length (now best) ≡ 2880)
         × (length (now who) ≡ 2880)
         × (2880 ≤ length (now work))
-        × (length (rowWords (rows (now words) (now store) from to minute)) ≤ length (now answer)) ⌝ }
+        × (length (rowWords (rows (now words) (now store) (asked .from) (asked .to) (asked .minute)))
+        ≤ length (now answer)) ⌝ }
     ensures { λ _. ⌜ now (answer .exit)
-        ≡ put 0 (rowWords (rows (now (words .entry)) (now (store .entry)) from to minute)) (now (answer .entry)) ⌝ }
+        ≡ put
+        0
+        (rowWords (rows (now (words .entry)) (now (store .entry)) (asked .from) (asked .to) (asked .minute)))
+        (now (answer .entry)) ⌝ }
     ensures { λ _. ⌜ length (now (answer .exit)) ≡ length (now (answer .entry)) ⌝ }
 {
-    let end = query_minutes::rows_end(best);
     let mut here = 0;
     let mut least = Points(NO_POINTS);
     // No connection arrives before the minute of the query.
-    let mut m = minute;
+    let mut m = asked.minute;
     while m < end {
         let arrive = m;
         let points = query_minutes::points_at(best, m);
@@ -796,9 +815,9 @@ pub fn write_rows(
             words,
             lines,
             store,
-            from,
-            to,
-            minute,
+            asked.from,
+            asked.to,
+            asked.minute,
             who,
             arrive,
             points,

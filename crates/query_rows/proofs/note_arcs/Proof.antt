@@ -15,7 +15,7 @@ use Rattle.query_rows.proofs.note_arcs.Statement.{statement}
 use Rattle.query_rows.proofs.note_arcs.Tie as tie
 
 abbrev Inv-loop : tie.InvT-loop
-Inv-loop words lines store from to minute best₀ who₀ p₀ q₀ mine₀ asked arcs k₀ best who p q mine k =
+Inv-loop words lines store asked best₀ who₀ p₀ q₀ mine₀ arcs k₀ best who p q mine k =
     (k ≤ arcs)
     × (arcs ≡ arcCount store)
     × (length best ≡ 2880)
@@ -27,10 +27,10 @@ Inv-loop words lines store from to minute best₀ who₀ p₀ q₀ mine₀ asked
     × (p ≡ blank)
     × (q ≡ blank)
     × Bound best who
-    × NotedAll words store from to minute k best who
+    × NotedAll words store (asked .from) (asked .to) (asked .minute) k best who
 
 abbrev μ-loop : tie.MeasureT-loop
-μ-loop words lines store from to minute best₀ who₀ p₀ q₀ mine₀ asked arcs k₀ best who p q mine k = arcs - k
+μ-loop words lines store asked best₀ who₀ p₀ q₀ mine₀ arcs k₀ best who p q mine k = arcs - k
 
 arc-count-requires : tie.Need-arc-count-requires Inv-loop μ-loop
 arc-count-requires c κs = search store-words
