@@ -1,4 +1,4 @@
--- The loops that fill words with a penalty, lower each to the least so far, and look for the first.
+-- The loops that lower each penalty to the least so far, and look for the first.
 use mathlib.Core.Path.{_≡_, refl, sym, ap, _∙_}
 use mathlib.Core.Bool.{Bool, true, false}
 use mathlib.Core.Logic.{inl, inr}
@@ -16,40 +16,16 @@ use Rattle.query_minutes.specs.Minutes.{noPoints, blank}
 use Rattle.query_minutes.specs.Noted.{getD-any, getD-blank}
 use Rattle.query_costs.specs.declared.Span.{Span}
 use Rattle.query_costs.specs.Spans.{Within}
-use Rattle.query_costs.specs.Filling.{filled, filled-more, filled-none, filled-rest, filled-front}
-use Rattle.query_costs.specs.Lowest.{lowest, length-lowest, lowest-stems}
-use Rattle.query_costs.specs.Layering.{startOf, firstValue, NoneBefore}
-
--- ---- one penalty for some minutes, filled up to m
-module _
-    (old p : List ℕ)
-    (from to m x : ℕ)
-    (long : length p ≡ 2880)
-    (so-far : filled old from to x ≡ filled p m to x)
-  where
-    pub fill-more : m < to → to ≤ 2880 → (next : List ℕ) → next ≡ set p m x
-        → filled old from to x ≡ filled next (m + 1) to x
-    fill-more h g next e =
-        so-far ∙ filled-more p m to x h (omega (arith, long)) ∙ ap (λ l. filled l (m + 1) to x) (sym e)
-
-    pub fill-done : m ≤ to → to ≤ m → p ≡ filled old from to x
-    fill-done h g = sym (so-far ∙ filled-none p m to x (omega arith))
+use Rattle.query_costs.specs.Lowest.{lowest}
+use Rattle.query_costs.specs.Layering.{firstValue, NoneBefore}
+use Rattle.query_costs.specs.Falling.{Falls, before-none}
 
 -- ---- the least so far
 lowest-one : (least x : ℕ) (l : List ℕ) → lowest least (x ∷ l) ≡ min least x ∷ lowest (min least x) l
 unfolding lowest
 lowest-one least x l = refl
 
--- where all are d, the least stays
-level : (d least : ℕ) → least ≤ d → (l : List ℕ) → ((m : ℕ) → getD l m d ≡ d)
-    → lowest least l ≡ replicate (length l) least
-unfolding lowest
-level d least h [] f = refl
-level d least h (x ∷ l) f =
-    let low : min least x ≡ least = omega (arith, f 0) in
-    rw low (ap (λ k. least ∷ k) (level d least h l (λ m. f (suc m))))
-
--- and the first k stay that are d
+-- the first k stay where they are d
 level-first : (d : ℕ) (l : List ℕ) (k : ℕ) → ((m : ℕ) → m < k → getD l m d ≡ d)
     → lowest d l ≡ take k l ++ lowest d (drop k l)
 unfolding lowest
@@ -69,8 +45,9 @@ module _ (s : Span) (p : List ℕ) (is : Within s blank p) where
   pub lowest-short : s .to ≤ 2880
   lowest-short = is .short
 
-  pub lowest-first : lowest noPoints p ≡ take (s .from) p ++ lowest noPoints (drop (s .from) p)
-  lowest-first = level-first noPoints p (s .from) (λ m h. is .below m h ∙ getD-blank 2880 noPoints m)
+  pub lowest-first : (k : ℕ) → k ≡ min (s .from) (s .to) → lowest noPoints p ≡ take k p ++ lowest noPoints (drop k p)
+  lowest-first k e =
+      level-first noPoints p k (λ m h. is .below m (omega (arith, e)) ∙ getD-blank 2880 noPoints m)
 
 -- the first m are lowered
 module _
@@ -101,30 +78,6 @@ module _
     module _ (s : Span) (rest : drop (s .to) p ≡ drop (s .to) old) where
       pub rest-same : (next : List ℕ) (x : ℕ) → next ≡ set p m x → m < s .to → drop (s .to) next ≡ drop (s .to) old
       rest-same next x e h = ap (drop (s .to)) e ∙ drop-set-lt (s .to) p m x h ∙ rest
-
-      pub lowest-done : Within s blank old → s .to ≤ m → least ≤ noPoints
-          → (last : List ℕ) → last ≡ filled p m 2880 least → last ≡ lowest noPoints old
-      lowest-done is h low last e =
-          e
-          ∙ filled-rest p m 2880 least (omega (arith, long))
-          ∙ ap (λ n. take m p ++ replicate (n - m) least) (sym long)
-          ∙ ap (λ n. take m p ++ replicate n least) (sym (length-drop m p))
-          ∙ ap (λ l. take m p ++ l) (sym (level noPoints least low (drop m p) none))
-          ∙ sym so-far
-        where
-          behind : (k : ℕ) → s .to ≤ k → getD p k noPoints ≡ noPoints
-          behind k g =
-              let at : s .to + (k - s .to) ≡ k = omega arith in
-              ap (λ j. getD p j noPoints) (sym at)
-              ∙ sym (getD-drop (s .to) p (k - s .to) noPoints)
-              ∙ ap (λ l. getD l (k - s .to) noPoints) rest
-              ∙ getD-drop (s .to) old (k - s .to) noPoints
-              ∙ ap (λ j. getD old j noPoints) at
-              ∙ is .above k g
-              ∙ getD-blank 2880 noPoints k
-
-          none : (k : ℕ) → getD (drop m p) k noPoints ≡ noPoints
-          none k = getD-drop m p k noPoints ∙ behind (m + k) (omega arith)
 
 -- ---- the first minute
 -- none of the first m minutes has a penalty
@@ -168,49 +121,5 @@ pub looks-on : (p : List ℕ) (e : ℕ) → length p ≡ 2880 → e ≤ 2880 →
 looks-on p e long h n = skips p long e h (n .none)
 
 -- no one is ready before the first minute noted
-pub none-before : (s : Span) (q noted last : List ℕ) → q ≡ blank → Within s q noted → last ≡ lowest noPoints noted
-    → NoneBefore (s .from) last
-none-before s q noted last e is f =
-    record { none = λ m h. ap (λ l. getD l m noPoints) f ∙ none m h }
-  where
-    blank-at : (m : ℕ) → m < s .from → getD noted m noPoints ≡ noPoints
-    blank-at m h = is .below m h ∙ ap (λ l. getD l m noPoints) e ∙ getD-blank 2880 noPoints m
-
-    none : (m : ℕ) → m < s .from → getD (lowest noPoints noted) m noPoints ≡ noPoints
-    none m h =
-        elim (decLt m (length noted)) [
-          | yes g ↦ elim (lowest-stems noPoints noted noPoints m g) [
-            | inl e ↦ e
-            | inr b ↦ sym (b .is) ∙ blank-at (b .place) (omega (arith, b .before))
-          ]
-          | no g ↦ List·getD-eq-default (lowest noPoints noted) noPoints {n = m}
-              (omega (arith, length-lowest noPoints noted))
-        ]
-
--- ---- ready at the minute of the query, with nothing paid
-started : (n t : ℕ) → t < n
-    → lowest noPoints (set (replicate n noPoints) t 0) ≡ replicate t noPoints ++ replicate (n - t) 0
-unfolding lowest
-started zero t h = absurd (omega arith)
-started (suc n) zero h =
-    let all : suc n ≡ suc n - 0 = omega arith in
-    ap (λ l. 0 ∷ l) (level noPoints 0 (omega arith) (replicate n noPoints) (getD-blank n noPoints))
-    ∙ ap (λ k. replicate {A = ℕ} (suc k) 0) (length-replicate n noPoints)
-    ∙ ap (λ k. replicate {A = ℕ} k 0) all
-started (suc n) (suc t) h =
-    let less : suc n - suc t ≡ n - t = omega arith in
-    ap (λ l. noPoints ∷ l) (started n t (omega arith))
-    ∙ ap (λ k. noPoints ∷ (replicate t noPoints ++ replicate k 0)) (sym less)
-
-pub start-is : (old mid last : List ℕ) (t : ℕ) → t < 2880 → length old ≡ 2880 → length mid ≡ length old
-    → mid ≡ filled old 0 t noPoints → last ≡ filled mid t 2880 0 → last ≡ startOf t
-unfolding startOf
-start-is old mid last t h long same e f =
-    f
-    ∙ filled-rest mid t 2880 0 (omega (arith, long, same))
-    ∙ ap (λ l. take t l ++ replicate (2880 - t) 0) (e ∙ filled-front old t noPoints)
-    ∙ ap (λ l. l ++ replicate (2880 - t) 0) front
-    ∙ sym (started 2880 t h)
-  where
-    front : take t (replicate t noPoints ++ drop t old) ≡ replicate t noPoints
-    front = take-at (replicate t noPoints) (drop t old) t (length-replicate t noPoints)
+pub none-before : (s : Span) (p : List ℕ) → Falls s p → NoneBefore (s .from) p
+none-before s p falls = record { none = before-none s p (falls .within) }

@@ -1,6 +1,6 @@
 -- The loop along a pattern: before each step the words held are those of one who is ready at the present station.
 use mathlib.Core.Path.{_≡_, refl, sym, ap, subst, _∙_}
-use mathlib.Core.Bool.{true, false}
+use mathlib.Core.Bool.{Bool, true, false}
 use mathlib.Core.List.{List, [], _∷_}
 use Prim.Native.Nat.{ℕ, _+_, _-_, _*_, _≤_, _<_}
 use native.Mathlib.Omega.{arith}
@@ -12,7 +12,11 @@ use Rattle.query_places.specs.Candidates.{nearRead}
 use Rattle.query_costs.specs.Lowered.{Lowered}
 use Rattle.query_costs.specs.Layering.{takenAll, startOf, firstValue}
 use Rattle.query_costs.specs.Readies.{Ready, start-ready}
-use Rattle.query_costs.specs.Turning.{held, held-first}
+use Rattle.query_minutes.specs.Minutes.{noPoints, blank}
+use Rattle.query_costs.specs.declared.Span.{Span}
+use Rattle.query_costs.specs.Lowest.{lowest}
+use Rattle.query_costs.specs.Falling.{Falls, nothing-held}
+use Rattle.query_costs.specs.Turning.{held, held-first, spare, spare-second, first-same, second-same}
 use Rattle.query_costs.specs.Patterns.{changesTo, changes-none, changes-more, nowhere, nowhere-lowered}
 use Rattle.query_costs.specs.Onward.{Listed, Stations, changeWords, is-valid, step-on, end-on}
 
@@ -29,16 +33,19 @@ module _ (w : List ℕ) (accepted : isTimetable w ≡ true) where
   abbrev n : Net
   n = net (timetableOf w)
 
-  pub ready-first : (a t : ℕ) (path p q : List ℕ) → t < 2880 → p ≡ startOf t
-      → Ready n a t (changesTo path 0) a t (held false p q)
-  ready-first a t path p q h e =
+  pub ready-first : (a t : ℕ) (path p q : List ℕ) (s : Span) → t < 2880 → lowest noPoints p ≡ startOf t → s .from ≡ t
+      → Ready n a t (changesTo path 0) a (s .from) (lowest noPoints (held false p q))
+  ready-first a t path p q s h e f =
       subst
-      (λ l. Ready n a t l a t (held false p q))
+      (λ l. Ready n a t l a (s .from) (lowest noPoints (held false p q)))
       (sym (changes-none path))
       (subst
+      (λ m. Ready n a t [] a m (lowest noPoints (held false p q)))
+      (sym f)
+      (subst
       (Ready n a t [] a t)
-      (sym (held-first false p q refl ∙ e))
-      (start-ready (timetableOf w) (is-valid w accepted) a t h))
+      (sym (ap (lowest noPoints) (held-first false p q refl) ∙ e))
+      (start-ready (timetableOf w) (is-valid w accepted) a t h)))
 
   module _
       (v : List ℕ)
@@ -106,3 +113,20 @@ module _ (w : List ℕ) (accepted : isTimetable w ≡ true) where
             (Lowered n a t (changesTo path (r - 1)) (getD path (2 * r - 2) 0) old)
             (sym same)
             (nowhere-lowered (timetableOf w) (is-valid w accepted) a t path (j + 1) (r - 1) later none b old)
+
+-- ---- the two arrays
+module _ (p q : List ℕ) where
+  pub falls-begin : (s : Span) → Falls s p → Falls s (held false p q)
+  falls-begin s = subst (Falls s) (sym (held-first false p q refl))
+
+  pub spare-begin : q ≡ blank → spare false p q ≡ blank
+  spare-begin e = spare-second false p q refl ∙ e
+
+  -- no one is ready any more
+  module _ (turned : Bool) (left : spare turned p q ≡ blank) (s : Span) (falls : Falls s (held turned p q))
+      (h : 2880 ≤ s .from) where
+    pub first-blank : p ≡ blank
+    first-blank = first-same p q blank turned (nothing-held s (held turned p q) falls h) left
+
+    pub second-blank : q ≡ blank
+    second-blank = second-same p q blank turned (nothing-held s (held turned p q) falls h) left

@@ -2,13 +2,13 @@
 use mathlib.Core.Path.{_≡_, refl, sym, ap, subst, _∙_}
 use mathlib.Core.Bool.{true, false}
 use mathlib.Core.List.{List, [], _∷_, List·Memᴰ·tail as there}
-use Prim.Native.Nat.{ℕ, _+_, _≤_, min}
+use Prim.Native.Nat.{ℕ, _+_, _≤_, _<_, min}
 use native.Mathlib.Omega.{arith}
 use lib.ListN.{length, getD}
 use Rattle.lists.specs.Lists.{_∈_}
 use Rattle.connections.specs.Rides.{Ride}
 use Rattle.query_places.specs.Candidates.{nearRead}
-use Rattle.query_minutes.specs.Minutes.{noteAll, lowered}
+use Rattle.query_minutes.specs.Minutes.{noPoints, noteAll, lowered}
 use Rattle.query_rides.specs.declared.Ride.{Ride as RideStruct}
 use Rattle.query_rides.specs.declared.Cursor.{Cursor}
 use Rattle.query_rides.specs.Riding.{Good, Tells, nearLeft, rideOf, near-none}
@@ -33,6 +33,14 @@ taken-more p minutes points best r l = refl
 taken-none : (p : List ℕ) (minutes points : ℕ) (best : List ℕ) → takenAll p minutes points best [] ≡ best
 unfolding takenAll noteAll
 taken-none p minutes points best = refl
+
+-- what was paid before one ride
+module _ (p : List ℕ) (s : RideStruct) (fits : Fits p s) where
+  pub fits-depart : s .depart < 2880
+  fits-depart = fits .depart
+
+  pub fits-some : getD p (s .depart) 0 < noPoints
+  fits-some = omega (arith, fits .low)
 
 -- the sums of one ride, as the code adds them up
 pub ride-noted : (p best after : List ℕ) (d x y a b stood one all ready : ℕ) → stood ≡ getD p d 0 → one ≡ stood + x

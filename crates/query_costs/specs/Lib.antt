@@ -1,8 +1,8 @@
 pub mod Lowered
 pub mod Lowest
 pub mod Spans
-pub mod Filling
 pub mod Layering
+pub mod Falling
 pub mod Fitting
 pub mod Taken
 pub mod Readies

@@ -67,5 +67,5 @@ pub fn find_costs(v: &[u16], from: usize, to: usize, minute: usize, best: &mut [
         × (length (now (best .exit)) ≡ 2880) ⌝ }
 {
     note_first(v, from, to, minute, best);
-    query_minutes::count_rows(best)
+    query_minutes::find_rows(best).count
 }

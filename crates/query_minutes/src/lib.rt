@@ -4,7 +4,6 @@
 // others read and write them as points, by `points_at` and `set_points`, so that minutes and points cannot be mistaken
 // for each other. A minute of the day is the index of a word, and no duration: `minutes_between` makes one of two.
 ghost use mathlib.Core.Path.{_≡_};
-ghost use mathlib.Core.Bool.{cond};
 ghost use mathlib.Core.List.{[], _∷_};
 ghost use Prim.Native.Nat.{_+_, _-_, _^_, _≤_, _<_, min, max};
 ghost use lib.Dec.{leb, ltb, eqb};
@@ -160,19 +159,6 @@ pub fn note(best: &mut [u32], arrive: usize, points: Points)
     }
 }
 
-// Before a query no one arrives in any minute.
-pub fn fill_blank(best: &mut [u32])
-    requires { ⌜ length (now best) ≡ 2880 ⌝ }
-    ensures { λ _. ⌜ now (best .exit) ≡ blank ⌝ }
-    ensures { λ _. ⌜ length (now (best .exit)) ≡ length (now (best .entry)) ⌝ }
-{
-    let mut minute = 0;
-    while minute < MINUTES {
-        best[minute] = NO_POINTS;
-        minute += 1;
-    }
-}
-
 // Writes the cost with which a row of an answer begins.
 pub fn write_cost(answer: &mut [u32], at: usize, cost: Cost)
     requires { ⌜ at + 2 ≤ length (now answer) ⌝ }
@@ -180,16 +166,6 @@ pub fn write_cost(answer: &mut [u32], at: usize, cost: Cost)
     ensures { λ _. ⌜ length (now (answer .exit)) ≡ length (now (answer .entry)) ⌝ }
 {
     words::put_pair(answer, at, cost.minutes.0, cost.points.0);
-}
-
-// 1 if a is below b, else 0.
-fn below(a: Points, b: Points) -> usize
-    ensures { λ r. ⌜ (r ≡ cond (ltb (a .0) (b .0)) 1 0) × (r ≤ 1) ⌝ }
-{
-    if a.0 < b.0 {
-        return 1;
-    }
-    0
 }
 
 // The least penalty of all minutes.
@@ -206,38 +182,36 @@ fn least_of(best: &[u32]) -> Points
     low
 }
 
-// The minute after the first that has the least penalty of all: no row arrives from there on. Most rows arrive within
-// some hours of the first, so that few minutes of the two days are left to look at.
-pub fn rows_end(best: &[u32]) -> usize
+// Where the rows of an answer are: how many minutes have a penalty below those of all earlier minutes, and the minute
+// after the last of them.
+pub struct Rows {
+    pub count: usize,
+    pub end: usize,
+}
+
+// The rows of the penalties. Most arrive within some hours of the first, so that few minutes of the two days are looked
+// at: none after the first that has the least penalty of all.
+pub fn find_rows(best: &[u32]) -> Rows
     requires { ⌜ length (now best) ≡ 2880 ⌝ }
-    ensures { λ r. ⌜ LeadsEnd (now (best .entry)) r ⌝ }
+    ensures { λ r. ⌜ (r .count ≡ length (leads noPoints 0 (now (best .entry))))
+        × (r .count ≤ 2880)
+        × LeadsEnd (now (best .entry)) (r .end) ⌝ }
 {
     let low = least_of(best);
+    let mut count = 0;
+    let mut least = Points(NO_POINTS);
     let mut m = 0;
     while m < MINUTES {
         let points = points_at(best, m);
         m += 1;
+        if !less(points, least) {
+            continue;
+        }
+        least = points;
+        count += 1;
         if at_least(low, points) {
-            return m;
+            return Rows { count, end: m };
         }
     }
-    m
-}
-
-// How many minutes have a penalty below those of all earlier minutes: the rows of the answer.
-pub fn count_rows(best: &[u32]) -> usize
-    requires { ⌜ length (now best) ≡ 2880 ⌝ }
-    ensures { λ r. ⌜ (r ≡ length (leads noPoints 0 (now (best .entry)))) × (r ≤ 2880) ⌝ }
-{
-    let end = rows_end(best);
-    let mut rows = 0;
-    let mut least = Points(NO_POINTS);
-    let mut minute = 0;
-    while minute < end {
-        let points = points_at(best, minute);
-        rows += below(points, least);
-        least = lesser(least, points);
-        minute += 1;
-    }
-    rows
+    Rows { count, end: m }
 }

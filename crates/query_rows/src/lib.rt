@@ -18,6 +18,7 @@ ghost use Rattle.promises.specs.Query.{kept, rows, rowWords};
 ghost use Rattle.query_rows.specs.Keys.{keyWords};
 ghost use Rattle.query_rows.specs.Rowed.{LeastKept};
 ghost use Rattle.query_minutes.specs.Minutes.{noPoints, blank};
+ghost use Rattle.query_minutes.specs.Ending.{LeadsEnd};
 ghost use Rattle.query_rows.specs.Merged.{unnamed, soleOf, Bound, Outside, Merged};
 ghost use Rattle.query_rows.specs.Arcs.{ridesAlong, NotedAll};
 ghost use Rattle.query_rows.specs.Leader.{Leader, Named, NamedRow, AllNamed, AllLed};
@@ -36,6 +37,13 @@ const STATIONS_MOST: usize = 128;
 
 // Room for the numbers of all rides of a connection: a pattern has at most 64 rides.
 const NUMBERS_MOST: usize = 192;
+
+// A query: from one station to another at a minute.
+pub struct Query {
+    pub from: usize,
+    pub to: usize,
+    pub minute: usize,
+}
 
 // The connection that goes before all others tried so far: whether there is one, its arc, when it departs, and how many
 // rides it has. The numbers of its rides stand in an array beside it.
@@ -180,46 +188,64 @@ fn read_arc(store: &[u16], k: usize, path: &mut [u16]) -> usize
 }
 
 // Lowers the least penalties to those of the connections of arc k, and notes the minutes that it alone reaches for the
-// least penalty. The array for its own penalties is blank before and after.
+// least penalty. The array for its own penalties, and the two to go along it, are blank before and after.
 fn note_arc(
     words: &[u16],
     lines: &[u16],
     store: &[u16],
-    from: usize,
-    to: usize,
-    minute: usize,
+    asked: Query,
     k: usize,
+    p: &mut [u32],
+    q: &mut [u32],
     mine: &mut [u32],
     best: &mut [u32],
     who: &mut [u16],
 )
-    requires { ⌜ Granted (now words) (now lines) (now store) from to minute
+    requires { ⌜ Granted (now words) (now lines) (now store) (asked .from) (asked .to) (asked .minute)
         × (k < arcCount (now store))
-        × (arcTarget (now store) k ≡ to)
+        × (arcTarget (now store) k ≡ asked .to)
+        × (now p ≡ blank)
+        × (now q ≡ blank)
         × (now mine ≡ blank)
         × Bound (now best) (now who)
-        × NotedAll (now words) (now store) from to minute k (now best) (now who)
+        × NotedAll (now words) (now store) (asked .from) (asked .to) (asked .minute) k (now best) (now who)
+        × (length (now p) ≡ 2880)
+        × (length (now q) ≡ 2880)
         × (length (now mine) ≡ 2880)
         × (length (now best) ≡ 2880)
         × (length (now who) ≡ 2880) ⌝ }
-    ensures { λ _. ⌜ (now (mine .exit) ≡ blank)
+    ensures { λ _. ⌜ (now (p .exit) ≡ blank)
+        × (now (q .exit) ≡ blank)
+        × (now (mine .exit) ≡ blank)
         × Bound (now (best .exit)) (now (who .exit))
         × NotedAll
         (now (words .entry))
         (now (store .entry))
-        from
-        to
-        minute
+        (asked .from)
+        (asked .to)
+        (asked .minute)
         (k + 1)
         (now (best .exit))
         (now (who .exit)) ⌝ }
-    ensures { λ _. ⌜ (length (now (mine .exit)) ≡ length (now (mine .entry)))
+    ensures { λ _. ⌜ (length (now (p .exit)) ≡ 2880)
+        × (length (now (q .exit)) ≡ 2880)
+        × (length (now (mine .exit)) ≡ length (now (mine .entry)))
         × (length (now (best .exit)) ≡ length (now (best .entry)))
         × (length (now (who .exit)) ≡ length (now (who .entry))) ⌝ }
 {
     let mut path = [0u16; STATIONS_MOST];
     let r = read_arc(store, k, &mut path);
-    let reached = query_costs::note_pattern(words, lines, from, minute, &path, r, mine);
+    let reached = query_costs::note_pattern(
+        words,
+        lines,
+        asked.from,
+        asked.minute,
+        &path,
+        r,
+        p,
+        q,
+        mine,
+    );
     merge(k, reached.from, reached.to, mine, best, who);
 }
 
@@ -229,39 +255,49 @@ pub fn note_arcs(
     words: &[u16],
     lines: &[u16],
     store: &[u16],
-    from: usize,
-    to: usize,
-    minute: usize,
+    asked: Query,
     best: &mut [u32],
     who: &mut [u16],
 )
-    requires { ⌜ Granted (now words) (now lines) (now store) from to minute
+    requires { ⌜ Granted (now words) (now lines) (now store) (asked .from) (asked .to) (asked .minute)
         × (now best ≡ blank)
         × (length (now best) ≡ 2880)
         × (now who ≡ unnamed)
         × (length (now who) ≡ 2880) ⌝ }
-    ensures { λ _. ⌜ LeastKept minute (kept (now (words .entry)) (now (store .entry)) from to minute) (now (best .exit))
-        × AllNamed (now (words .entry)) (now (store .entry)) from to minute (now (best .exit)) (now (who .exit))
+    ensures { λ _. ⌜ LeastKept
+        (asked .minute)
+        (kept (now (words .entry)) (now (store .entry)) (asked .from) (asked .to) (asked .minute))
+        (now (best .exit))
+        × AllNamed
+        (now (words .entry))
+        (now (store .entry))
+        (asked .from)
+        (asked .to)
+        (asked .minute)
+        (now (best .exit))
+        (now (who .exit))
         × (length (now (best .exit)) ≡ 2880)
         × (length (now (who .exit)) ≡ 2880) ⌝ }
 {
+    let mut p = [NO_POINTS; MINUTES];
+    let mut q = [NO_POINTS; MINUTES];
     let mut mine = [NO_POINTS; MINUTES];
     let arcs = query_store::arc_count(store);
     let mut k = 0;
     while k < arcs {
         let arc = k;
         k += 1;
-        if !query_store::counts(store, arc, to) {
+        if !query_store::counts(store, arc, asked.to) {
             continue;
         }
         note_arc(
             words,
             lines,
             store,
-            from,
-            to,
-            minute,
+            asked,
             arc,
+            &mut p,
+            &mut q,
             &mut mine,
             best,
             who,
@@ -550,34 +586,42 @@ fn name_arc(
     row_length(store, arc)
 }
 
-// How many words all rows have. best has the least penalty for each minute of arrival; the arc of each row is named.
+// How many words all rows have, which arrive before minute `end`. best has the least penalty for each minute of arrival;
+// the arc of each row is named.
 pub fn measure(
     words: &[u16],
     lines: &[u16],
     store: &[u16],
-    from: usize,
-    to: usize,
-    minute: usize,
+    asked: Query,
+    end: usize,
     best: &[u32],
     who: &mut [u16],
     work: &mut [u32],
 ) -> usize
-    requires { ⌜ Granted (now words) (now lines) (now store) from to minute
-        × LeastKept minute (kept (now words) (now store) from to minute) (now best)
-        × AllNamed (now words) (now store) from to minute (now best) (now who)
+    requires { ⌜ Granted (now words) (now lines) (now store) (asked .from) (asked .to) (asked .minute)
+        × LeastKept (asked .minute) (kept (now words) (now store) (asked .from) (asked .to) (asked .minute)) (now best)
+        × AllNamed (now words) (now store) (asked .from) (asked .to) (asked .minute) (now best) (now who)
+        × LeadsEnd (now best) end
         × (length (now best) ≡ 2880)
         × (length (now who) ≡ 2880)
         × (2880 ≤ length (now work)) ⌝ }
-    ensures { λ r. ⌜ (r ≡ length (rowWords (rows (now (words .entry)) (now (store .entry)) from to minute)))
-        × AllLed (now (words .entry)) (now (store .entry)) from to minute (now (best .entry)) (now (who .exit)) ⌝ }
+    ensures { λ r. ⌜ (r
+        ≡ length (rowWords (rows (now (words .entry)) (now (store .entry)) (asked .from) (asked .to) (asked .minute))))
+        × AllLed
+        (now (words .entry))
+        (now (store .entry))
+        (asked .from)
+        (asked .to)
+        (asked .minute)
+        (now (best .entry))
+        (now (who .exit)) ⌝ }
     ensures { λ _. ⌜ (length (now (who .exit)) ≡ length (now (who .entry)))
         × (length (now (work .exit)) ≡ length (now (work .entry))) ⌝ }
 {
-    let end = query_minutes::rows_end(best);
     let mut count = 0;
     let mut least = Points(NO_POINTS);
     // No connection arrives before the minute of the query.
-    let mut m = minute;
+    let mut m = asked.minute;
     while m < end {
         let arrive = m;
         let points = query_minutes::points_at(best, m);
@@ -590,9 +634,9 @@ pub fn measure(
             words,
             lines,
             store,
-            from,
-            to,
-            minute,
+            asked.from,
+            asked.to,
+            asked.minute,
             arrive,
             points,
             who,
@@ -727,35 +771,38 @@ fn write_row(
 }
 
 // Writes all rows, in rising duration: one for each arrival minute whose penalty is below those of all earlier minutes.
-// who has the arc of each of them.
+// They arrive before minute `end`. who has the arc of each of them.
 pub fn write_rows(
     words: &[u16],
     lines: &[u16],
     store: &[u16],
-    from: usize,
-    to: usize,
-    minute: usize,
+    asked: Query,
+    end: usize,
     best: &[u32],
     who: &[u16],
     answer: &mut [u32],
     work: &mut [u32],
 )
-    requires { ⌜ Granted (now words) (now lines) (now store) from to minute
-        × LeastKept minute (kept (now words) (now store) from to minute) (now best)
-        × AllLed (now words) (now store) from to minute (now best) (now who)
+    requires { ⌜ Granted (now words) (now lines) (now store) (asked .from) (asked .to) (asked .minute)
+        × LeastKept (asked .minute) (kept (now words) (now store) (asked .from) (asked .to) (asked .minute)) (now best)
+        × AllLed (now words) (now store) (asked .from) (asked .to) (asked .minute) (now best) (now who)
+        × LeadsEnd (now best) end
         × (length (now best) ≡ 2880)
         × (length (now who) ≡ 2880)
         × (2880 ≤ length (now work))
-        × (length (rowWords (rows (now words) (now store) from to minute)) ≤ length (now answer)) ⌝ }
+        × (length (rowWords (rows (now words) (now store) (asked .from) (asked .to) (asked .minute)))
+        ≤ length (now answer)) ⌝ }
     ensures { λ _. ⌜ now (answer .exit)
-        ≡ put 0 (rowWords (rows (now (words .entry)) (now (store .entry)) from to minute)) (now (answer .entry)) ⌝ }
+        ≡ put
+        0
+        (rowWords (rows (now (words .entry)) (now (store .entry)) (asked .from) (asked .to) (asked .minute)))
+        (now (answer .entry)) ⌝ }
     ensures { λ _. ⌜ length (now (answer .exit)) ≡ length (now (answer .entry)) ⌝ }
 {
-    let end = query_minutes::rows_end(best);
     let mut here = 0;
     let mut least = Points(NO_POINTS);
     // No connection arrives before the minute of the query.
-    let mut m = minute;
+    let mut m = asked.minute;
     while m < end {
         let arrive = m;
         let points = query_minutes::points_at(best, m);
@@ -768,9 +815,9 @@ pub fn write_rows(
             words,
             lines,
             store,
-            from,
-            to,
-            minute,
+            asked.from,
+            asked.to,
+            asked.minute,
             who,
             arrive,
             points,

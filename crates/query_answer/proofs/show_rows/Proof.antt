@@ -19,7 +19,7 @@ show-rows-spec =
     let fits = c .before .before .before in
     let measured = fits .before .before .before .before .before in
     let room = rows-room _ _ _ (measured .measure .ensures .0 .0) (fits .if1 .left) in
-    (search needs, search needs, search needs, search needs, search needs, search needs, room))
+    (search needs, search needs, search needs, search needs, search needs, search needs, search needs, room))
     (λ lent. search needs)
     (λ kept. search needs)
     (λ c. search needs)

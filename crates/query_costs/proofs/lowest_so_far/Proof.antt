@@ -1,5 +1,4 @@
--- The first m penalties are lowered, and the others will be, from the least so far on: those of the span one by one,
--- and those behind it, where there are none, all to the least.
+-- The first m penalties are lowered, and the others of the span will be, from the least so far on.
 use mathlib.Core.List.{_++_}
 use mathlib.Core.Path.{_≡_, refl}
 use Prim.Native.Nat.{_≤_, _-_}
@@ -7,13 +6,14 @@ use lib.ListN.{length, take, drop}
 use borrow.Author.Needs.{needs}
 use Rattle.query_minutes.specs.Minutes.{noPoints}
 use Rattle.query_costs.specs.Lowest.{lowest}
-use Rattle.query_costs.proofs.LowestLaws.{lowest-short, lowest-first, rest-same, lowest-more, lowest-done}
+use Rattle.query_costs.specs.Falling.{lowest-kept, lowest-falls-now}
+use Rattle.query_costs.proofs.LowestLaws.{lowest-short, lowest-first, rest-same, lowest-more}
 use Rattle.query_costs.proofs.lowest_so_far.Statement.{statement}
 use Rattle.query_costs.proofs.lowest_so_far.Tie as tie
 
 abbrev Inv-loop : tie.InvT-loop
 Inv-loop p₀ s least₀ m₀ p least m =
-    (m ≤ 2880)
+    (m ≤ s .to)
     × (s .to ≤ 2880)
     × (least .0 ≤ noPoints)
     × (length p ≡ 2880)
@@ -41,7 +41,7 @@ loop-again c =
     )
 
 returns : tie.Need-returns Inv-loop μ-loop
-returns c = (search lowest-done, search needs)
+returns c = ((search lowest-kept, search lowest-falls-now), search needs)
 
 pub lowest-so-far-spec : {M : Type 1} → statement M
 lowest-so-far-spec =
@@ -49,6 +49,7 @@ lowest-so-far-spec =
     (tie.spec
     Inv-loop
     μ-loop
+    (λ c κs. search needs)
     loop-holds
     (λ c. search needs)
     (λ c. search needs)
@@ -56,6 +57,5 @@ lowest-so-far-spec =
     (λ c. search needs)
     (λ c. search needs)
     loop-again
-    (λ c. search needs)
     (λ c. search needs)
     returns)

@@ -6,6 +6,8 @@ use lib.ListN.{length}
 use borrow.Author.Needs.{needs}
 use Rattle.query_places.specs.Candidates.{nearRead}
 use Rattle.query_rides.specs.Riding.{Good, nearLeft, near-falls}
+use Rattle.query_minutes.specs.Minutes.{noPoints}
+use Rattle.query_costs.specs.Lowest.{lowest}
 use Rattle.query_costs.specs.Spans.{Within}
 use Rattle.query_costs.specs.Layering.{takenAll}
 use Rattle.query_costs.specs.Fitting.{Fitting}
@@ -15,18 +17,18 @@ use Rattle.query_costs.proofs.note_rides.Statement.{statement}
 use Rattle.query_costs.proofs.note_rides.Tie as tie
 
 abbrev Inv-loop : tie.InvT-loop
-Inv-loop lines from to earliest p change best₀ noted₀ c₀ best noted c =
+Inv-loop lines from to s p change best₀ noted₀ c₀ best noted c =
     Good lines c
-    × Fitting p (nearLeft lines earliest c)
+    × Fitting (lowest noPoints p) (nearLeft lines (s .from) c)
     × (length best₀ ≡ 2880)
     × (length best ≡ length best₀)
     × Within noted best₀ best
     × (noted .from ≤ 2880)
-    × (takenAll p (change .minutes .0) (change .points .0) best₀ (nearRead lines from earliest to)
-    ≡ takenAll p (change .minutes .0) (change .points .0) best (nearLeft lines earliest c))
+    × (takenAll (lowest noPoints p) (change .minutes .0) (change .points .0) best₀ (nearRead lines from (s .from) to)
+    ≡ takenAll (lowest noPoints p) (change .minutes .0) (change .points .0) best (nearLeft lines (s .from) c))
 
 abbrev μ-loop : tie.MeasureT-loop
-μ-loop lines from to earliest p change best₀ noted₀ c₀ best noted c = length (nearLeft lines earliest c)
+μ-loop lines from to s p change best₀ noted₀ c₀ best noted c = length (nearLeft lines (s .from) c)
 
 loop-holds : tie.Need-loop-holds Inv-loop μ-loop
 loop-holds c = (

@@ -12,17 +12,17 @@ use Rattle.query_rows.proofs.measure.Statement.{statement}
 use Rattle.query_rows.proofs.measure.Tie as tie
 
 abbrev Inv-loop : tie.InvT-loop
-Inv-loop words lines store from to minute best who₀ work₀ end count₀ least₀ m₀ who work count least m =
+Inv-loop words lines store asked end best who₀ work₀ count₀ least₀ m₀ who work count least m =
     (m ≤ 2880)
     × (count ≤ 195 * m)
     × LeadsEnd best end
     × (length who ≡ 2880)
     × (length work ≡ length work₀)
-    × AllNamed words store from to minute best who
-    × Counting best who (rows words store from to minute) count (least .0) m
+    × AllNamed words store (asked .from) (asked .to) (asked .minute) best who
+    × Counting best who (rows words store (asked .from) (asked .to) (asked .minute)) count (least .0) m
 
 abbrev μ-loop : tie.MeasureT-loop
-μ-loop words lines store from to minute best who₀ work₀ end count₀ least₀ m₀ who work count least m = 2880 - m
+μ-loop words lines store asked end best who₀ work₀ count₀ least₀ m₀ who work count least m = 2880 - m
 
 loop-holds : tie.Need-loop-holds Inv-loop μ-loop
 loop-holds c =
@@ -42,7 +42,7 @@ loop-again-2 c =
     let lower = named .before .before .before in
     let met = lower .before .before in
     let begun = met .before .before in
-    let entry = begun .before .before .before .before .before .before .before .before in
+    let entry = begun .before .before .before .before .before .before .before in
     let row = named .name-arc .ensures .0 .0 in
     let inv = begun .loop .inv in (
       search needs,
@@ -50,9 +50,9 @@ loop-again-2 c =
       search needs,
       search needs,
       search needs,
-      named-at _ _ _ _ _ _ _ _ _ _ _ _ (met .points-at .ensures) (entry .pre .0) (entry .pre .1) (entry .pre .3)
+      named-at _ _ _ _ _ _ _ _ _ _ _ _ (met .points-at .ensures) (entry .pre .0) (entry .pre .1) (entry .pre .4)
           (inv .6) _ (inv .2) (search needs) _ (lower .before .less .ensures) (search needs) _ _ (inv .3) row (inv .5),
-      count-row-at _ _ _ _ _ _ _ _ _ _ _ _ (met .points-at .ensures) (entry .pre .0) (entry .pre .1) (entry .pre .3)
+      count-row-at _ _ _ _ _ _ _ _ _ _ _ _ (met .points-at .ensures) (entry .pre .0) (entry .pre .1) (entry .pre .4)
           (inv .6) _ (inv .2) (search needs) _ (lower .before .less .ensures) (search needs) _ _ (inv .3) row,
     )
 
@@ -65,7 +65,6 @@ measure-spec =
     (tie.spec
     Inv-loop
     μ-loop
-    (λ c κs. search needs)
     loop-holds
     (λ c. search needs)
     (λ c. search needs)

@@ -13,7 +13,10 @@ note-pattern-requires c κs = (
   (search needs, search needs, search needs),
   (
     (search source-listed, search needs),
-    ((search needs, search needs, search path-long, search stations-are), search needs),
+    (
+      (search needs, search needs, search path-long, search stations-are),
+      (search needs, search needs, search needs, search needs, search needs),
+    ),
   ),
 )
 
@@ -29,7 +32,23 @@ merge-requires c κs = (
 )
 
 returns : tie.Need-returns
-returns c = ((search needs, search bound-more, search noted-more), (search needs, search needs, search needs))
+returns c =
+    let merged = c .before .before .before .before .before .before .merge .ensures in
+    let early = c .before .before .before .before .before .before .before .before in
+    let noted = early .before .before .before .before .before .before .before .before in
+    let read = noted .before .before .before .before .before .before in
+    let given = read .before .before .before .before .before .before .before .before .before .before .pre in
+    let path = read .read-arc .ensures .0 in (
+      (
+        search needs,
+        search needs,
+        search needs,
+        bound-more _ _ _ _ _ _ (given .6) (merged .0 .0),
+        noted-more _ _ _ _ _ _ _ _ _ _ _ _ _ _ (merged .0 .0) (given .6) (given .7) (noted .note-pattern .ensures .0)
+            (given .5) (given .1) (given .2) (path .0) (path .1) (path .3) (merged .1 .1),
+      ),
+      (search needs, search needs, search needs, search needs, search needs),
+    )
 
 pub note-arc-spec : {M : Type 1} → statement M
 note-arc-spec =
@@ -40,6 +59,8 @@ note-arc-spec =
     (λ c. search needs)
     note-pattern-requires
     merge-requires
+    (λ c. search needs)
+    (λ c. search needs)
     (λ c. search needs)
     (λ c. search needs)
     (λ c. search needs)

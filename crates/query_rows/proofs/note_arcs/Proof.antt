@@ -15,18 +15,22 @@ use Rattle.query_rows.proofs.note_arcs.Statement.{statement}
 use Rattle.query_rows.proofs.note_arcs.Tie as tie
 
 abbrev Inv-loop : tie.InvT-loop
-Inv-loop words lines store from to minute best₀ who₀ mine₀ arcs k₀ best who mine k =
+Inv-loop words lines store asked best₀ who₀ p₀ q₀ mine₀ arcs k₀ best who p q mine k =
     (k ≤ arcs)
     × (arcs ≡ arcCount store)
     × (length best ≡ 2880)
     × (length who ≡ 2880)
     × (length mine ≡ 2880)
     × (mine ≡ blank)
+    × (length p ≡ 2880)
+    × (length q ≡ 2880)
+    × (p ≡ blank)
+    × (q ≡ blank)
     × Bound best who
-    × NotedAll words store from to minute k best who
+    × NotedAll words store (asked .from) (asked .to) (asked .minute) k best who
 
 abbrev μ-loop : tie.MeasureT-loop
-μ-loop words lines store from to minute best₀ who₀ mine₀ arcs k₀ best who mine k = arcs - k
+μ-loop words lines store asked best₀ who₀ p₀ q₀ mine₀ arcs k₀ best who p q mine k = arcs - k
 
 arc-count-requires : tie.Need-arc-count-requires Inv-loop μ-loop
 arc-count-requires c κs = search store-words
@@ -39,6 +43,10 @@ loop-holds c = (
   search needs,
   search needs,
   refl,
+  search needs,
+  search needs,
+  refl,
+  refl,
   search bound-first,
   search noted-first,
 )
@@ -48,6 +56,10 @@ counts-requires c κs = (search store-made, search needs)
 
 loop-again : tie.Need-loop-again Inv-loop μ-loop
 loop-again c = (
+  search needs,
+  search needs,
+  search needs,
+  search needs,
   search needs,
   search needs,
   search needs,
@@ -69,10 +81,18 @@ note-arc-requires c κs = (
   search needs,
   search needs,
   search needs,
+  search needs,
+  search needs,
+  search needs,
+  search needs,
 )
 
 loop-again-2 : tie.Need-loop-again-2 Inv-loop μ-loop
 loop-again-2 c = (
+  search needs,
+  search needs,
+  search needs,
+  search needs,
   search needs,
   search needs,
   search needs,
@@ -98,6 +118,8 @@ note-arcs-spec =
     counts-requires
     (λ c. search needs)
     loop-again
+    (λ c. search needs)
+    (λ c. search needs)
     (λ c. search needs)
     note-arc-requires
     (λ c. search needs)

@@ -12,16 +12,16 @@ use Rattle.query_rows.proofs.write_rows.Statement.{statement}
 use Rattle.query_rows.proofs.write_rows.Tie as tie
 
 abbrev Inv-loop : tie.InvT-loop
-Inv-loop words lines store from to minute best who answer₀ work₀ end here₀ least₀ m₀ answer work here least m =
+Inv-loop words lines store asked end best who answer₀ work₀ here₀ least₀ m₀ answer work here least m =
     (m ≤ 2880)
     × LeadsEnd best end
     × (length answer ≡ length answer₀)
     × (length work ≡ length work₀)
-    × Going best (rows words store from to minute) here (least .0) m
-    × (answer ≡ put 0 (take here (rowWords (rows words store from to minute))) answer₀)
+    × Going best (rows words store (asked .from) (asked .to) (asked .minute)) here (least .0) m
+    × (answer ≡ put 0 (take here (rowWords (rows words store (asked .from) (asked .to) (asked .minute)))) answer₀)
 
 abbrev μ-loop : tie.MeasureT-loop
-μ-loop words lines store from to minute best who answer₀ work₀ end here₀ least₀ m₀ answer work here least m = 2880 - m
+μ-loop words lines store asked end best who answer₀ work₀ here₀ least₀ m₀ answer work here least m = 2880 - m
 
 loop-holds : tie.Need-loop-holds Inv-loop μ-loop
 loop-holds c = (search needs, search needs, search needs, search needs, search going-begin, search put-nothing)
@@ -53,7 +53,6 @@ write-rows-spec =
     (tie.spec
     Inv-loop
     μ-loop
-    (λ c κs. search needs)
     loop-holds
     (λ c. search needs)
     (λ c. search needs)
