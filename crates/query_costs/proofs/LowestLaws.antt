@@ -1,16 +1,14 @@
 -- The loops that lower each penalty to the least so far, and look for the first.
 use mathlib.Core.Path.{_≡_, refl, sym, ap, _∙_}
 use mathlib.Core.Bool.{Bool, true, false}
-use mathlib.Core.Logic.{inl, inr}
 use mathlib.Core.List.{List, [], _∷_, _++_}
 use Prim.Native.Nat.{ℕ, zero, suc, _+_, _-_, _≤_, _<_, min}
 use native.Mathlib.Numerals.{add-one}
 use native.Mathlib.Omega.{arith}
-use native.Mathlib.Decide.{decLt}
 use borrow.Author.Tests.{le-ltb}
 use lib.Dec.{ltb}
-use lib.ListN.{length, getD, set, take, drop, replicate, length-drop, length-replicate, List·getD-eq-default}
-use lib.Seq.{drop-cons, append-snoc, take-suc-set, drop-set-lt, getD-drop, take-at}
+use lib.ListN.{length, getD, set, take, drop}
+use lib.Seq.{drop-cons, append-snoc, take-suc-set, drop-set-lt}
 use Rattle.lists.specs.First.{firstFrom, first-none, first-here, first-later}
 use Rattle.query_minutes.specs.Minutes.{noPoints, blank}
 use Rattle.query_minutes.specs.Noted.{getD-any, getD-blank}

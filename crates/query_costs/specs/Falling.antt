@@ -2,7 +2,7 @@
 -- all. What words p hold so is `lowest noPoints p`.
 use mathlib.Core.Path.{_≡_, refl, sym, ap, _∙_}
 use mathlib.Core.Bool.{Bool}
-use mathlib.Core.Logic.{_⊎_, inl, inr}
+use mathlib.Core.Logic.{inl, inr}
 use mathlib.Core.List.{List, [], _∷_, _++_}
 use Prim.Native.Nat.{ℕ, zero, suc, _+_, _-_, _≤_, _<_, min}
 use native.Mathlib.Omega.{arith}
@@ -17,7 +17,7 @@ use Rattle.query_minutes.specs.Noted.{getD-any, getD-blank}
 use Rattle.query_costs.specs.declared.Span.{Span}
 use Rattle.query_costs.specs.Spans.{Within}
 use Rattle.query_costs.specs.Lowest.{lowest, length-lowest, lowest-least, lowest-below, lowest-falls}
-use Rattle.query_costs.specs.Lowest.{Before, lowest-stems}
+use Rattle.query_costs.specs.Lowest.{lowest-stems}
 use Rattle.query_costs.specs.Layering.{startOf, firstValue}
 
 -- within the span the words are the least so far, outside it there are none

@@ -9,7 +9,7 @@ ghost use Prim.Native.Nat.{_+_, _-_, _^_, _≤_, _<_, min, max};
 ghost use lib.Dec.{leb, ltb, eqb};
 ghost use lib.ListN.{length, getD, set};
 ghost use Rattle.words.specs.Put.{put};
-ghost use Rattle.query_minutes.specs.Minutes.{noPoints, blank, lowered, leads};
+ghost use Rattle.query_minutes.specs.Minutes.{noPoints, lowered, leads};
 ghost use Rattle.query_minutes.specs.Ending.{Floor, LeadsEnd};
 use results::Cost;
 use results::Minutes;

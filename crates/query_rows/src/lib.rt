@@ -586,8 +586,8 @@ fn name_arc(
     row_length(store, arc)
 }
 
-// How many words all rows have, which arrive before minute `end`. best has the least penalty for each minute of arrival;
-// the arc of each row is named.
+// How many words all rows have, which arrive before minute `end`. best has the least penalty for each minute of
+// arrival; the arc of each row is named.
 pub fn measure(
     words: &[u16],
     lines: &[u16],
