@@ -2,7 +2,7 @@
 use mathlib.Core.Path.{_≡_, refl, sym, ap, subst, _∙_}
 use mathlib.Core.Bool.{Bool, true, false, cond, not, _&&_}
 use mathlib.Core.List.{List, []}
-use Prim.Native.Nat.{ℕ, suc, _+_, _-_, _*_, _^_, _≤_, _<_}
+use Prim.Native.Nat.{ℕ, suc, _+_, _-_, _*_, _^_, _≤_, _<_, min}
 use native.Mathlib.Numerals.{add-one}
 use native.Mathlib.Omega.{arith}
 use borrow.Author.Tests.{lt-ltb, le-ltb, eq-eqb, ne-eqb}
@@ -60,10 +60,20 @@ pub next-arrival : (w : List ℕ) (j : ℕ) → Goes w j → Arrival w (j + 1)
 next-arrival w j goes = record { i = j; goes = goes; is = sym (add-one j) }
 
 -- ---- what one has paid who boards
+pub label-none : (w x : List ℕ) (i y : ℕ) → y ≡ getD x i 0 → unreached ≤ y → unreached ≡ labelAt w x i
+unfolding labelAt
+label-none w x i y is far = go (mayBoard (stopAt w i))
+  where
+    go : (b : Bool) → unreached ≡ cond b (min (getD x i 0) unreached) unreached
+    go true = omega arith
+    go false = refl
+
 module _ (w x : List ℕ) (i : ℕ) (s : Stop) (is : s ≡ stopAt w i) (b : Bool) (is-b : b ≡ mayBoard s) where
-  pub label-open : b ≡ true → (y : ℕ) → y ≡ getD x i 0 → y ≡ labelAt w x i
+  pub label-open : b ≡ true → (y : ℕ) → y ≡ getD x i 0 → y < unreached → y ≡ labelAt w x i
   unfolding labelAt
-  label-open e y h = h ∙ rw (← is, ← is-b, e)
+  label-open e y h low =
+      let capped : y ≡ min (getD x i 0) unreached = omega arith in
+      capped ∙ rw (← is, ← is-b, e)
 
   pub label-closed : b ≡ false → unreached ≡ labelAt w x i
   unfolding labelAt

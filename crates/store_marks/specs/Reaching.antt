@@ -4,7 +4,7 @@
 use mathlib.Core.Path.{_≡_, refl, sym, ap, subst, _∙_}
 use mathlib.Core.Bool.{Bool, true, false, cond, not}
 use mathlib.Core.List.{List, [], _∷_, List·Memᴰ·head as here, List·Memᴰ·tail as there}
-use Prim.Native.Nat.{ℕ, zero, suc, _+_, _-_, _≤_, _<_}
+use Prim.Native.Nat.{ℕ, zero, suc, _+_, _-_, _≤_, _<_, min}
 use native.Mathlib.Decide.{ℕ-discrete}
 use native.Mathlib.Omega.{arith}
 use borrow.Author.Tests.{lt-ltb}
@@ -130,11 +130,11 @@ module _ (w : List ℕ) (ok : isTimetable w ≡ true) (c : ℕ) (x : List ℕ) w
   unfolding labelAt
   label-open i h = go (mayBoard (stopAt w i)) h
     where
-      go : (b : Bool) → cond b (getD x i 0) unreached < unreached → T b
+      go : (b : Bool) → cond b (min (getD x i 0) unreached) unreached < unreached → T b
       go true h = tt
       go false h = absurd (omega arith)
 
-  label-is : (i : ℕ) → T (mayBoard (stopAt w i)) → labelAt w x i ≡ getD x i 0
+  label-is : (i : ℕ) → T (mayBoard (stopAt w i)) → labelAt w x i ≡ min (getD x i 0) unreached
   unfolding labelAt
   label-is i t = rw (T-true (mayBoard (stopAt w i)) t)
 
@@ -162,7 +162,8 @@ module _ (w : List ℕ) (ok : isTimetable w ≡ true) (c : ℕ) (x : List ℕ) w
     label-paid : (i : ℕ) → Goes w i → station w i ≡ c → labelAt w x i < unreached → Paid w a d rev i (labelAt w x i)
     label-paid i g at h =
         let opens = label-open i h in
-        let is = label-is i opens in
+        let least = label-is i opens in
+        let is : labelAt w x i ≡ getD x i 0 = omega arith in
         subst (Paid w a d rev i) (sym is)
         (labels .attained i (record { goes = g; opens = opens }) at (omega (arith, is)))
 

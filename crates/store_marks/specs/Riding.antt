@@ -2,7 +2,7 @@
 -- station of boarding where one can board again, and at each arrival something is done to an array.
 use mathlib.Core.Bool.{Bool, cond, not, _&&_}
 use mathlib.Core.List.{List, [], _∷_, map}
-use Prim.Native.Nat.{ℕ, zero, suc, _+_, _-_}
+use Prim.Native.Nat.{ℕ, zero, suc, _+_, _-_, min}
 use lib.Dec.{ltb, eqb}
 use lib.ListN.{getD}
 use Rattle.lists.specs.Lists.{concatMap}
@@ -34,7 +34,7 @@ onwardPoints s c = cond (ltb 0 (s .depart) && not (comesBack s c)) (s .points) 1
 
 -- what one has paid who boards at stop i, where x has the labels: no one boards where it is closed
 unfoldable pub labelAt : (w x : List ℕ) (i : ℕ) → ℕ
-labelAt w x i = cond (mayBoard (stopAt w i)) (getD x i 0) unreached
+labelAt w x i = cond (mayBoard (stopAt w i)) (min (getD x i 0) unreached) unreached
 
 module _ (w : List ℕ) (c : ℕ) where
   -- behind stop j one rides on

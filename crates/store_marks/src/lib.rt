@@ -274,14 +274,19 @@ fn ride_on(
     }
 }
 
-// What one has paid who boards at stop i, with labels x; no one boards where it is closed.
+// What one has paid who boards at stop i, with labels x; no one boards where it is closed. Most stops are not reached,
+// and of these nothing is read.
 fn label_at(words: &[u16], x: &[u32], i: usize) -> Points
     requires { ⌜ (16384 ≤ length (now words)) × (isTimetable (now words) ≡ true) ⌝ }
     requires { ⌜ (i < 2048) × (length (now x) ≡ 2048) ⌝ }
     ensures { λ r. ⌜ r .0 ≡ labelAt (now (words .entry)) (now (x .entry)) i ⌝ }
 {
+    let label = query_minutes::points_at(x, i);
+    if query_minutes::at_least(label, UNREACHED) {
+        return UNREACHED;
+    }
     if store_departures::may_board(timetable::stop_at(words, i)) {
-        return query_minutes::points_at(x, i);
+        return label;
     }
     UNREACHED
 }
