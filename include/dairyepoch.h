@@ -92,17 +92,18 @@ extern "C" {
  * The time of a call, in milliseconds, as `cargo run --release --bin bench` in tests/ measured it on one core of a
  * server for timetables at the limits. A display takes longer by a factor of its own.
  *
- *   dairyepoch_read                0.13
+ *   dairyepoch_read                0.1
  *   dairyepoch_check_timetable     0.004
- *   dairyepoch_build_lines         0.02 for one line and for 256; dairyepoch_check_lines likewise
- *   dairyepoch_check_lines_alone   0.03 for one line, 0.04 for 256; dairyepoch_line_trips likewise
- *   dairyepoch_times_by_trip       up to 1.2 times dairyepoch_check_lines; dairyepoch_times_by_stop likewise
- *   dairyepoch_direct              0.02 for one line, 0.04 for 256 and for an answer of 507 rows
- *   dairyepoch_make_store          2 on a rural timetable, 9 on random trips, 37 at worst; on a rural timetable with 64
- *                                  walks 3.5, with 256 walks 5.5 and 21 at worst
- *   dairyepoch_query               0.04 on a rural timetable; up to 20 for a hundred rows or more, 70 for a store of
+ *   dairyepoch_build_lines         0.01 for one line, 0.02 for 256; dairyepoch_check_lines likewise
+ *   dairyepoch_check_lines_alone   0.02 for one line, 0.03 for 256; dairyepoch_line_trips likewise
+ *   dairyepoch_times_by_trip       up to 1.3 times dairyepoch_check_lines; dairyepoch_times_by_stop up to 1.6 times
+ *   dairyepoch_direct              0.02 for one line, 0.03 for 256 and for an answer of 507 rows, 0.04 at worst
+ *   dairyepoch_make_store          2 on a rural timetable and on random trips, 6 at worst; 14 for one trip of 2,048
+ *                                  stops; on a rural timetable with 64 walks 3 and 11 at worst, with 256 walks 5.5 and
+ *                                  20 at worst; more in cases that docs/SPEED.md names
+ *   dairyepoch_query               0.04 on a rural timetable; up to 20 for a hundred rows or more, 31 for a store of
  *                                  thousands of sequences of equal cost, and more in cases that docs/SPEED.md names
- *   dairyepoch_cancel_trip         0.03 for one line, 0.04 on a rural timetable and for 256 lines
+ *   dairyepoch_cancel_trip         0.02 for one line, 0.03 on a rural timetable and for 256 lines
  *   dairyepoch_add_trip            likewise, and 0.05 for each thousand lines of its text
  */
 
