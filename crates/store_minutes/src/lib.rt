@@ -185,8 +185,8 @@ fn minute_at(words: &[u16], chain: &[u16], p: usize) -> usize
     timetable::stop_at(words, words::word(chain, p) as usize).depart as usize
 }
 
-// Whether the nodes of a chunk can be passed over at minute d: nobody goes on behind one of their parents then. The root
-// has no parent.
+// Whether the nodes of a chunk can be passed over at minute d: nobody goes on behind one of their parents then. The
+// root has no parent.
 fn is_quiet(reach: &[u16], d: usize, chunk: Chunk) -> bool
     requires { ⌜ (d < 2880) × (length (now reach) ≡ 2880) ⌝ }
     ensures { λ r. ⌜ PassedOver (now (reach .entry)) d (chunk .lo) (chunk .least) r ⌝ }
@@ -288,18 +288,6 @@ fn mark_departure(
     );
     note_reach(reach, d, node);
     d
-}
-
-// Takes down all flags.
-fn clear(flags: &mut [u8])
-    ensures { λ _. ⌜ Down (now (flags .exit)) × (length (now (flags .exit)) ≡ length (now (flags .entry))) ⌝ }
-{
-    let n = flags.len();
-    let mut i = 0;
-    while i < n {
-        flags[i] = 0;
-        i += 1;
-    }
 }
 
 // Where the departures of station c begin.
@@ -408,9 +396,9 @@ fn least_parent(work: &[u32], lo: usize, hi: usize) -> usize
     least
 }
 
-// Raises the flags of the arcs and kids of the nodes from lo up to hi, whatever the flags were before. For each minute
-// reach has a number: behind those of the nodes before lo that stand from there on nobody goes on at that minute, and
-// afterwards the same of those before hi.
+// Raises the flags of the arcs and kids of the nodes from lo up to hi, none being up before. For each minute reach has a
+// number: behind those of the nodes before lo that stand from there on nobody goes on at that minute, and afterwards the
+// same of those before hi.
 pub fn mark_chunk(
     words: &[u16],
     order: &[u16],
@@ -444,7 +432,9 @@ pub fn mark_chunk(
         × (length (now q) ≡ 2048)
         × (length (now x) ≡ 2048)
         × (length (now arcs) ≡ 6144)
-        × (length (now kids) ≡ 30720) ⌝ }
+        × (length (now kids) ≡ 30720)
+        × Down (now arcs)
+        × Down (now kids) ⌝ }
     ensures { λ _. ⌜ Chunked (now (words .entry)) source lo hi (now (arcs .exit)) (now (kids .exit))
         × LookedTo (now (words .entry)) source hi (now (reach .exit))
         × (length (now (reach .exit)) ≡ 2880)
@@ -460,8 +450,6 @@ pub fn mark_chunk(
         hi,
         least: least_parent(work, lo, hi),
     };
-    clear(arcs);
-    clear(kids);
     mark_departures(
         words,
         order,

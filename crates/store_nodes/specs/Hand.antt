@@ -81,7 +81,8 @@ hand-none w a d x =
     record { labels = λ c v h e. absurd (omega (arith, zero-replicate 66 c)) }
 
 -- a node is noted by one word
-pub noted-word : (c v : ℕ) (hand : List ℕ) (n : ℕ) → n ≡ v + 1 → c < 65 → length hand ≡ 66 → Noted c v hand (set hand c n)
+pub noted-word : (c v : ℕ) (hand : List ℕ) (n : ℕ) → n ≡ v + 1 → c < 65 → length hand ≡ 66
+    → Noted c v hand (set hand c n)
 noted-word c v hand n number inside long =
     record {
       place = inside;

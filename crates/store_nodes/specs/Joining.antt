@@ -1,5 +1,5 @@
--- Flags that were raised by themselves are raised with others, place by place, and on the way it is seen whether there is
--- one.
+-- Flags that were raised by themselves are raised with others, place by place, and on the way it is seen whether there
+-- is one.
 use mathlib.Core.Path.{_≡_, refl, sym, ap, subst, _∙_}
 use mathlib.Core.Bool.{Bool, true, false, cond}
 use mathlib.Core.Logic.{_⊎_, inl, inr, _↔_}
@@ -70,7 +70,10 @@ joining-more i old fresh flags seen seen′ f before few long is next =
     here : (getD (set flags i f) i 0 ≡ 1) ↔ ((getD old i 0 ≡ 1) ⊎ (getD fresh i 0 ≡ 1))
     here =
         subst (λ z. (z ≡ 1) ↔ ((getD old i 0 ≡ 1) ⊎ (getD fresh i 0 ≡ 1)))
-        (sym (getD-set-same flags i f 0 (omega arith) ∙ is ∙ ap (λ z. joinedFlag z (getD fresh i 0)) (before .rest i (omega arith))))
+        (sym
+        (getD-set-same flags i f 0 (omega arith)
+        ∙ is
+        ∙ ap (λ z. joinedFlag z (getD fresh i 0)) (before .rest i (omega arith))))
         (joined-up (getD old i 0) (getD fresh i 0))
 
     at : (k : ℕ) → k < i + 1 → (getD (set flags i f) k 0 ≡ 1) ↔ ((getD old k 0 ≡ 1) ⊎ (getD fresh k 0 ≡ 1))

@@ -20,6 +20,10 @@ use crate::nodes::ARC_FLAGS;
 use crate::nodes::HAND_WORDS;
 use crate::nodes::KID_FLAGS;
 
+// From this node on nodes are late: where there are as many, some go on behind most of them, and to find out whether
+// they do costs more than it gains.
+const LATE: usize = 1024;
+
 // Whether a node is below hi and a kid of the parent.
 fn is_kid(work: &[u32], parent: usize, node: usize, hi: usize) -> bool
     requires { ⌜ hi ≤ length (now work) ⌝ }
@@ -162,7 +166,7 @@ fn mark_labelled(
 }
 
 // From the labels of its parent, at station c, finds those of a node, and raises its flags. If some go on behind it,
-// that is noted.
+// that is noted; of a late node it is noted in any case.
 fn mark_kid(
     words: &[u16],
     chain: &[u16],
@@ -201,6 +205,11 @@ fn mark_kid(
         × (length (now (kids .exit)) ≡ 320) ⌝ }
 {
     let e = nodes::label_kid(words, chain, first, catch, work, node, c, x, hand);
+    if LATE <= node {
+        store_marks::mark(words, chain, first, catch, allowed, q, x, e, arcs, kids);
+        nodes::note_on(hand, node);
+        return;
+    }
     if !mark_labelled(words, chain, first, catch, allowed, q, x, e, arcs, kids) {
         return;
     }
@@ -611,8 +620,8 @@ fn mark_family(
     )
 }
 
-// Raises the flags of all nodes from lo up to hi. Returns a number: behind those of these nodes that stand from there on
-// nobody goes on at minute d. What x holds is of no further use.
+// Raises the flags of all nodes from lo up to hi. Returns a number: behind those of these nodes that stand from there
+// on nobody goes on at minute d. What x holds is of no further use.
 pub fn mark_nodes(
     words: &[u16],
     chain: &[u16],
