@@ -25,7 +25,7 @@ const ARC_FLAGS: usize = 6144;
 
 const KID_FLAGS: usize = 30720;
 
-// The minutes of the two days, for each of which it is noted up to which node some were looked at.
+// The minutes of the two days, for each of which it is noted up to which node some go on.
 const MINUTES: usize = 2880;
 
 // Takes the nodes from lo up to hi by their flags. Returns the numbers of nodes and arcs then, if they fit.

@@ -47,14 +47,9 @@ use Rattle.store_marks.specs.Riding.{
 }
 use Rattle.store_marks.specs.Reaching.{boardsAt, boardings-arrived, boardings-least}
 
--- flags are 0 or 1
-abbrev pub Flags : List ℕ → Type 0
-Flags l = (k : ℕ) → getD l k 0 ≤ 1
-
 -- of n flags those that were up stay up, and those told go up
 pub record Marked (n : ℕ) (Told : ℕ → Type 0) (old new : List ℕ) : Type 0 where
   pub exactly : (k : ℕ) → k < n → (getD new k 0 ≡ 1) ↔ ((getD old k 0 ≡ 1) ⊎ Told k)
-  pub flags : Flags old → Flags new
 
 -- slot s is one of the timetable's, and of the stations that it stands for this holds
 pub record Slotted (w : List ℕ) (Holds : Transfer → Type 0) (s : ℕ) : Type 0 where
@@ -114,19 +109,6 @@ module _ (t : Try) (s : List ℕ) where
           ]
       go false e = inl (ap (λ l. getD l k 0) (try-not e))
 
-  try-flags : Flags s → Flags once
-  try-flags f k =
-      either
-      (ltb k (length s))
-      (λ b.
-      elim (try-cases k (ltb→lt k (length s) b)) [
-        | inl p ↦ omega (arith, f k)
-        | inr r ↦ let up = r .1 in omega arith
-      ])
-      (λ b.
-      let out = List·getD-eq-default once 0 {n = k} (omega (arith, nltb→le k (length s) b, try-length)) in
-      omega arith)
-
 -- what is up stays up
 raise-up : (l : List Try) (s : List ℕ) (k : ℕ) → k < length s → getD s k 0 ≡ 1 → getD (raiseAll l s) k 0 ≡ 1
 unfolding raiseAll
@@ -171,11 +153,6 @@ raise-from (t ∷ l) s k h e =
       | inr r ↦ inr (record { try = r .try; listed = there (r .listed); passes = r .passes; is = r .is })
     ]
 
-raise-flags : (l : List Try) (s : List ℕ) → Flags s → Flags (raiseAll l s)
-unfolding raiseAll
-raise-flags [] s f = f
-raise-flags (t ∷ l) s f = raise-flags l (once t s) (try-flags t s f)
-
 pub raise-append : (l m : List Try) (s : List ℕ) → raiseAll (l ++ m) s ≡ raiseAll m (raiseAll l s)
 unfolding raiseAll
 raise-append [] m s = refl
@@ -213,7 +190,6 @@ tries-marked n Told l s long out back =
                   raise-raised l s k (r .try) (omega arith) (r .listed) (r .passes, r .is)
             ],
       );
-      flags = raise-flags l s;
     }
 
 -- ---- the marks of a node

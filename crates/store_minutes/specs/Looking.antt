@@ -1,5 +1,5 @@
--- Up to which node some were looked at, minute by minute: a chunk is passed over at a minute at which nobody goes along
--- a parent of one of its nodes.
+-- Up to which node some go on, minute by minute: a chunk is passed over at a minute at which nobody goes on behind a
+-- parent of one of its nodes.
 use mathlib.Core.Path.{_≡_, refl, sym, ap, subst, _∙_}
 use mathlib.Core.Bool.{Bool, true, false, false≢true}
 use mathlib.Core.Logic.{_≢_, _⊎_, inl, inr}
@@ -21,32 +21,32 @@ use Rattle.store_slots.specs.Slots.{slots}
 use Rattle.store_tree.specs.Tree.{slotIn, parentIn}
 use Rattle.store_nodes.specs.Standing.{Standing, StandingTo, ArcsAt, KidsAt, standing, node-onward}
 use Rattle.store_nodes.specs.Chunk.{Raised}
-use Rattle.store_nodes.specs.Hand.{Quiet, QuietFrom, Below, parent-under, below-parent}
+use Rattle.store_nodes.specs.Hand.{Idle, Quiet, IdleFrom, Below, parent-under, below-parent}
 use Rattle.store_nodes.specs.Hope.{quiet-below}
 use Rattle.store_minutes.specs.Seeking.{Seen, Sought, seen-cases, departs, once-seen, sought-more}
 
--- at each minute at which something departs from a those of the nodes below u are quiet that stand from the number on
+-- at each minute at which something departs from a those of the nodes below u are idle that stand from the number on
 -- that reach has for the minute
 pub record LookedTo (w : List ℕ) (a u : ℕ) (reach : List ℕ) : Type 0 where
-  pub quiet : (d : ℕ) → Source w a d → (v : ℕ) → v < u → (v < getD reach d 0) ⊎ Quiet w a d v
+  pub idle : (d : ℕ) → Source w a d → (v : ℕ) → v < u → (v < getD reach d 0) ⊎ Idle w a d v
 
 -- that is so of the nodes below lo, and of those up to hi at the minutes of the departures at places from up to p
 pub record Sounded (w : List ℕ) (a : ℕ) (chained : List ℕ) (from p lo hi : ℕ) (reach : List ℕ) : Type 0 where
   pub before : LookedTo w a lo reach
   pub seen : (d : ℕ) → Seen w chained from p (λ e. e ≡ d) → (v : ℕ) → lo ≤ v → v < hi
-      → (v < getD reach d 0) ⊎ Quiet w a d v
+      → (v < getD reach d 0) ⊎ Idle w a d v
 
 -- no parent of the nodes from lo up to hi is below the least
 pub record Parents (work : List ℕ) (lo hi least : ℕ) : Type 0 where
   pub above : (v : ℕ) → lo ≤ v → v < hi → least ≤ parentIn (getD work v 0)
 
--- what a test says that passes: nobody goes along a node from the least on, which parents are
+-- what a test says that passes: nobody goes on behind a node from the least on, which parents are
 pub record PassedOver (reach : List ℕ) (d lo least : ℕ) (test : Bool) : Type 0 where
   pub some : test ≡ true → lo ≢ 0
   pub over : test ≡ true → getD reach d 0 ≤ least
 
 pub looked-none : (w : List ℕ) (a : ℕ) (reach : List ℕ) → LookedTo w a 0 reach
-looked-none w a reach = record { quiet = λ d s v h. absurd (omega arith) }
+looked-none w a reach = record { idle = λ d s v h. absurd (omega arith) }
 
 -- ---- the parents of a chunk
 pub parents-none : (work : List ℕ) (lo least : ℕ) → Parents work lo lo least
@@ -87,7 +87,7 @@ over-test reach d lo least r more is =
 -- ---- nodes without one to go along
 module _ (w : List ℕ) (ok : isTimetable w ≡ true) (a d : ℕ) (work : List ℕ) (lo hi least : ℕ) (reach : List ℕ)
     (s : StandingTo w a work hi) (parents : Parents work lo hi least) (more : lo ≢ 0) (over : getD reach d 0 ≤ least)
-    (known : (v : ℕ) → v < lo → (v < getD reach d 0) ⊎ Quiet w a d v) where
+    (known : (v : ℕ) → v < lo → (v < getD reach d 0) ⊎ Idle w a d v) where
   abbrev parentOf : ℕ → ℕ
   parentOf v = parentIn (getD work v 0)
 
@@ -110,7 +110,7 @@ module _ (w : List ℕ) (ok : isTimetable w ≡ true) (a d : ℕ) (work : List �
       listed : slotOf v ∈ slots w
       listed = node-onward w ok a work v this v (this .on) (omega (arith, root)) .listed
 
-      go : ((u : ℕ) → u ≤ f → lo ≤ u → u < hi → Quiet w a d u) → Quiet w a d (parentOf v)
+      go : ((u : ℕ) → u ≤ f → lo ≤ u → u < hi → Quiet w a d u) → Idle w a d (parentOf v)
       go earlier =
           let falls = parent-under w ok a work v this root (parentOf v) refl in
           elim (decLt (parentOf v) lo) [
@@ -119,7 +119,7 @@ module _ (w : List ℕ) (ok : isTimetable w ≡ true) (a d : ℕ) (work : List �
                   | inl low-p ↦ absurd (omega (arith, parents .above v low under))
                   | inr still ↦ still
                 ]
-            | no late ↦ earlier (parentOf v) (omega arith) (omega (arith, late)) (omega arith)
+            | no late ↦ earlier (parentOf v) (omega arith) (omega (arith, late)) (omega arith) .idle
           ]
 
   pub quiet-chunk : (v : ℕ) → lo ≤ v → v < hi → Quiet w a d v
@@ -162,7 +162,7 @@ module _ (w order : List ℕ) (n : ℕ) (caught : List ℕ) (routes : Routes w o
 
     module _ (lo hi : ℕ) (reach : List ℕ) (s : Sounded w a chained (getD first a 0) p lo hi reach) where
       -- what is known of this minute comes to that of one place more
-      sounded-with : ((v : ℕ) → lo ≤ v → v < hi → (v < getD reach d 0) ⊎ Quiet w a d v)
+      sounded-with : ((v : ℕ) → lo ≤ v → v < hi → (v < getD reach d 0) ⊎ Idle w a d v)
           → Sounded w a chained (getD first a 0) (p + 1) lo hi reach
       sounded-with here =
           record {
@@ -171,7 +171,7 @@ module _ (w order : List ℕ) (n : ℕ) (caught : List ℕ) (routes : Routes w o
                 elim (seen-cases w chained (getD first a 0) p (λ z. z ≡ e) seen) [
                   | inl old ↦ s .seen e old v low under
                   | inr now ↦
-                      subst (λ e. (v < getD reach e 0) ⊎ Quiet w a e v) (is ∙ now) (here v low under)
+                      subst (λ e. (v < getD reach e 0) ⊎ Idle w a e v) (is ∙ now) (here v low under)
                 ];
           }
 
@@ -179,12 +179,12 @@ module _ (w order : List ℕ) (n : ℕ) (caught : List ℕ) (routes : Routes w o
           → d ≡ last → Sounded w a chained (getD first a 0) (p + 1) lo hi reach
       sounded-same last arcs kids sought same = sounded-with here
         where
-          here : (v : ℕ) → lo ≤ v → v < hi → (v < getD reach d 0) ⊎ Quiet w a d v
+          here : (v : ℕ) → lo ≤ v → v < hi → (v < getD reach d 0) ⊎ Idle w a d v
           here v low under =
               elim (sought .seen-last) [
                 | inl never ↦ absurd (omega (arith, minute-few))
                 | inr seen ↦
-                    subst (λ e. (v < getD reach e 0) ⊎ Quiet w a e v) (sym same) (s .seen last seen v low under)
+                    subst (λ e. (v < getD reach e 0) ⊎ Idle w a e v) (sym same) (s .seen last seen v low under)
               ]
 
       module _ (work : List ℕ) (least : ℕ) (test : Bool) (standing-to : StandingTo w a work hi)
@@ -192,10 +192,10 @@ module _ (w order : List ℕ) (n : ℕ) (caught : List ℕ) (routes : Routes w o
         still : (v : ℕ) → lo ≤ v → v < hi → Quiet w a d v
         still =
             quiet-chunk w ok a d work lo hi least reach standing-to parents (passed .some yes) (passed .over yes)
-            (s .before .quiet d leaving)
+            (s .before .idle d leaving)
 
         pub sounded-over : Sounded w a chained (getD first a 0) (p + 1) lo hi reach
-        sounded-over = sounded-with (λ v low under. inr (still v low under))
+        sounded-over = sounded-with (λ v low under. inr (still v low under .idle))
 
         pub sought-over : (last : ℕ) (arcs kids : List ℕ)
             → Sought w a chained (getD first a 0) p last lo hi arcs kids
@@ -207,23 +207,23 @@ module _ (w order : List ℕ) (n : ℕ) (caught : List ℕ) (routes : Routes w o
             kids
             is
             (raised-quiet 64 (ArcsAt w a d) lo hi arcs (λ v k low under. still v low under .arcs k))
-            (raised-quiet 320 (KidsAt w a d) lo hi kids (λ v k low under. still v low under .kids k))
+            (raised-quiet 320 (KidsAt w a d) lo hi kids (λ v k low under. still v low under .idle .kids k))
 
       -- the number for this minute rises
-      pub sounded-more : (r : ℕ) (reach′ : List ℕ) → QuietFrom w a d lo hi r
+      pub sounded-more : (r : ℕ) (reach′ : List ℕ) → IdleFrom w a d lo hi r
           → reach′ ≡ set reach d (max (getD reach d 0) r) → length reach ≡ 2880
           → Sounded w a chained (getD first a 0) (p + 1) lo hi reach′
       sounded-more r reach′ from-r noted long =
           record {
-            before = record { quiet = λ e source v low. up e v (s .before .quiet e source v low) };
+            before = record { idle = λ e source v low. up e v (s .before .idle e source v low) };
             seen = λ e seen v low under.
                 elim (seen-cases w chained (getD first a 0) p (λ z. z ≡ e) seen) [
                   | inl old ↦ up e v (s .seen e old v low under)
                   | inr now ↦
-                      subst (λ e. (v < getD reach′ e 0) ⊎ Quiet w a e v) (is ∙ now)
-                      (elim (from-r .quiet v low under) [
+                      subst (λ e. (v < getD reach′ e 0) ⊎ Idle w a e v) (is ∙ now)
+                      (elim (from-r .idle v low under) [
                         | inl small ↦ inl (omega (arith, here))
-                        | inr quiet ↦ inr quiet
+                        | inr idle ↦ inr idle
                       ])
                 ];
           }
@@ -246,11 +246,11 @@ module _ (w order : List ℕ) (n : ℕ) (caught : List ℕ) (routes : Routes w o
                     )
               ]
 
-          up : (e v : ℕ) → (v < getD reach e 0) ⊎ Quiet w a e v → (v < getD reach′ e 0) ⊎ Quiet w a e v
+          up : (e v : ℕ) → (v < getD reach e 0) ⊎ Idle w a e v → (v < getD reach′ e 0) ⊎ Idle w a e v
           up e v known =
               elim known [
                 | inl small ↦ inl (omega (arith, rises e))
-                | inr quiet ↦ inr quiet
+                | inr idle ↦ inr idle
               ]
 
   -- all departures of the source
@@ -259,9 +259,9 @@ module _ (w order : List ℕ) (n : ℕ) (caught : List ℕ) (routes : Routes w o
       → LookedTo w a hi reach
   looked-all p lo hi reach most stop is least s =
       record {
-        quiet = λ d source v under.
+        idle = λ d source v under.
             elim (decLt v lo) [
-              | yes low ↦ s .before .quiet d source v low
+              | yes low ↦ s .before .idle d source v low
               | no high ↦ s .seen d (seen d source) v (omega (arith, high)) under
             ];
       }

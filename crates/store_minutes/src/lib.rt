@@ -9,7 +9,7 @@ ghost use Rattle.store_departures.specs.Held.{Departures};
 ghost use Rattle.store_frontier.specs.Routes.{Routes};
 ghost use Rattle.store_frontier.specs.Arrivals.{Arrivals};
 ghost use Rattle.store_nodes.specs.Standing.{StandingTo, Judged, ArcsAt, KidsAt};
-ghost use Rattle.store_nodes.specs.Hand.{QuietFrom};
+ghost use Rattle.store_nodes.specs.Hand.{IdleFrom};
 ghost use Rattle.store_nodes.specs.Chunk.{Down, Raised};
 ghost use Rattle.store_minutes.specs.Allowed.{AllowedAt};
 ghost use Rattle.store_minutes.specs.Seeking.{Sought, Chunked};
@@ -98,8 +98,8 @@ fn judge(
     store_frontier::prospects(words, order, n, chain, first, catch, d, v, q, x);
 }
 
-// Raises the flags of the nodes of a chunk for minute d. Returns a number up to which nodes were looked at: of these
-// nodes those from there on are on no optimal connection then. What v, q and x hold is of no further use.
+// Raises the flags of the nodes of a chunk for minute d. Returns a number: behind those of these nodes that stand from
+// there on nobody goes on then. What v, q and x hold is of no further use.
 fn mark_minute(
     words: &[u16],
     order: &[u16],
@@ -134,7 +134,7 @@ fn mark_minute(
         (now (arcs .entry)) (now (arcs .exit))
         × Raised 320 (KidsAt (now (words .entry)) (chunk .source) d) (chunk .lo) (chunk .hi)
         (now (kids .entry)) (now (kids .exit))
-        × QuietFrom (now (words .entry)) (chunk .source) d (chunk .lo) (chunk .hi) r
+        × IdleFrom (now (words .entry)) (chunk .source) d (chunk .lo) (chunk .hi) r
         × (length (now (v .exit)) ≡ 2048)
         × (length (now (q .exit)) ≡ 2048)
         × (length (now (x .exit)) ≡ 2048)
@@ -185,8 +185,8 @@ fn minute_at(words: &[u16], chain: &[u16], p: usize) -> usize
     timetable::stop_at(words, words::word(chain, p) as usize).depart as usize
 }
 
-// Whether the nodes of a chunk can be passed over at minute d: nobody goes along one of their parents then. The root
-// has no parent.
+// Whether the nodes of a chunk can be passed over at minute d: nobody goes on behind one of their parents then. The
+// root has no parent.
 fn is_quiet(reach: &[u16], d: usize, chunk: Chunk) -> bool
     requires { ⌜ (d < 2880) × (length (now reach) ≡ 2880) ⌝ }
     ensures { λ r. ⌜ PassedOver (now (reach .entry)) d (chunk .lo) (chunk .least) r ⌝ }
@@ -197,7 +197,7 @@ fn is_quiet(reach: &[u16], d: usize, chunk: Chunk) -> bool
     words::word(reach, d) as usize <= chunk.least
 }
 
-// Notes up to which node some were looked at for minute d.
+// Notes up to which node some go on at minute d.
 fn note_reach(reach: &mut [u16], d: usize, node: u16)
     requires { ⌜ (d < 2880) × (length (now reach) ≡ 2880) ⌝ }
     ensures { λ _. ⌜ now (reach .exit) ≡ set (now (reach .entry)) d (max (getD (now (reach .entry)) d 0) node) ⌝ }
@@ -288,18 +288,6 @@ fn mark_departure(
     );
     note_reach(reach, d, node);
     d
-}
-
-// Takes down all flags.
-fn clear(flags: &mut [u8])
-    ensures { λ _. ⌜ Down (now (flags .exit)) × (length (now (flags .exit)) ≡ length (now (flags .entry))) ⌝ }
-{
-    let n = flags.len();
-    let mut i = 0;
-    while i < n {
-        flags[i] = 0;
-        i += 1;
-    }
 }
 
 // Where the departures of station c begin.
@@ -408,9 +396,9 @@ fn least_parent(work: &[u32], lo: usize, hi: usize) -> usize
     least
 }
 
-// Raises the flags of the arcs and kids of the nodes from lo up to hi, whatever the flags were before. For each minute
-// reach has a number up to which nodes were looked at then: of the nodes before lo those from there on are on no
-// optimal connection at that minute, and afterwards of those before hi.
+// Raises the flags of the arcs and kids of the nodes from lo up to hi, none being up before. For each minute reach has a
+// number: behind those of the nodes before lo that stand from there on nobody goes on at that minute, and afterwards the
+// same of those before hi.
 pub fn mark_chunk(
     words: &[u16],
     order: &[u16],
@@ -444,7 +432,9 @@ pub fn mark_chunk(
         × (length (now q) ≡ 2048)
         × (length (now x) ≡ 2048)
         × (length (now arcs) ≡ 6144)
-        × (length (now kids) ≡ 30720) ⌝ }
+        × (length (now kids) ≡ 30720)
+        × Down (now arcs)
+        × Down (now kids) ⌝ }
     ensures { λ _. ⌜ Chunked (now (words .entry)) source lo hi (now (arcs .exit)) (now (kids .exit))
         × LookedTo (now (words .entry)) source hi (now (reach .exit))
         × (length (now (reach .exit)) ≡ 2880)
@@ -460,8 +450,6 @@ pub fn mark_chunk(
         hi,
         least: least_parent(work, lo, hi),
     };
-    clear(arcs);
-    clear(kids);
     mark_departures(
         words,
         order,

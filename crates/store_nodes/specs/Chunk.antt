@@ -12,7 +12,7 @@ use lib.ListN.{length, getD, take, drop, replicate, length-take, length-drop, le
 use lib.Seq.{length-take-le, getD-take, getD-drop, getD-append-add}
 use Rattle.lists.specs.Lists.{_∈_}
 use Rattle.lists.specs.Tests.{either}
-use Rattle.store_frontier.specs.Zeros.{ZeroTo, zero-all, zero-each, zero-replicate}
+use Rattle.store_frontier.specs.Zeros.{zero-replicate}
 use Rattle.store_slots.specs.Slots.{slots}
 use Rattle.store_slots.specs.SlotLaws.{slot-small}
 use Rattle.connections.specs.Connections.{Transfer}
@@ -23,9 +23,6 @@ use Rattle.store_tree.specs.Tree.{Flags, KidFlags}
 -- no flag is up
 pub record Down (flags : List ℕ) : Type 0 where
   pub none : (i : ℕ) → getD flags i 0 ≡ 0
-
-pub down-all : (flags : List ℕ) (n i m : ℕ) → n ≡ m → length flags ≡ m → n ≤ i → ZeroTo i flags → Down flags
-down-all flags n i m e l h z = record { none = zero-each flags m l (zero-all flags n i m e h z) }
 
 pub down-fresh : (n : ℕ) → Down (replicate n 0)
 down-fresh n = record { none = zero-replicate n }

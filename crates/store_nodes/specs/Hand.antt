@@ -1,6 +1,6 @@
 -- Labels at hand. Those of a node stand at the departures of the station where it boards, so that those of several
 -- nodes stand side by side; for each station it is noted whose they are, by one more than the node's number, and behind
--- the 65 places of stations the largest that was noted. A node behind that is quiet: nobody goes along it.
+-- the 65 places of stations, one more than its number too, the last node behind which some go on.
 use mathlib.Core.Path.{_≡_, refl, sym, ap, subst, _∙_}
 use mathlib.Core.Bool.{Bool, true}
 use mathlib.Core.Logic.{_≢_, _⊎_, inl, inr}
@@ -27,31 +27,40 @@ use Rattle.store_tree.specs.StoredTree.{stored-made}
 use Rattle.store_nodes.specs.Minutes.{turned, backwards, backwards-more, node-even}
 use Rattle.store_nodes.specs.Standing.{Standing, NodeLabels, ArcsAt, KidsAt, node-onward, node-station}
 
--- one more than the last node noted
+-- one more than the last node behind which some go on
 abbrev pub top : List ℕ → ℕ
 top hand = getD hand 65 0
 
 -- x has at each station the labels of the node that is noted there
 pub record AtHand (w : List ℕ) (a d : ℕ) (hand x : List ℕ) : Type 0 where
   pub labels : (c v : ℕ) → c < 65 → getD hand c 0 ≡ v + 1 → NodeLabels w a d v c x
-  pub under : (c v : ℕ) → c < 65 → getD hand c 0 ≡ v + 1 → v < top hand
 
 -- node v is noted at station c
 pub record Noted (c v : ℕ) (hand hand′ : List ℕ) : Type 0 where
+  pub place : c < 65
   pub here : getD hand′ c 0 ≡ v + 1
   pub other : (b : ℕ) → b ≢ c → b < 65 → getD hand′ b 0 ≡ getD hand b 0
   pub rises : top hand ≤ top hand′
+
+-- it is noted that some go on behind node v
+pub record NotedOn (v : ℕ) (hand hand′ : List ℕ) : Type 0 where
+  pub same : (c : ℕ) → c < 65 → getD hand′ c 0 ≡ getD hand c 0
+  pub rises : top hand ≤ top hand′
   pub reaches : v < top hand′
 
--- no optimal connection at minute d has the sequence of node v, or begins so
-pub record Quiet (w : List ℕ) (a d v : ℕ) : Type 0 where
-  pub arcs : (k : ℕ) → ¬ ArcsAt w a d v k
+-- no optimal connection at minute d begins with the sequence of node v and goes on
+pub record Idle (w : List ℕ) (a d v : ℕ) : Type 0 where
   pub kids : (s : ℕ) → ¬ KidsAt w a d v s
 
--- of the nodes from v up to u those behind the last one noted are quiet
-pub record QuietOn (w : List ℕ) (a d v u : ℕ) (hand hand′ : List ℕ) : Type 0 where
+-- and none has that sequence
+pub record Quiet (w : List ℕ) (a d v : ℕ) : Type 0 where
+  pub arcs : (k : ℕ) → ¬ ArcsAt w a d v k
+  pub idle : Idle w a d v
+
+-- of the nodes from v up to u those are idle that stand behind the last one noted so
+pub record IdleOn (w : List ℕ) (a d v u : ℕ) (hand hand′ : List ℕ) : Type 0 where
   pub rises : top hand ≤ top hand′
-  pub quiet : (i : ℕ) → v ≤ i → i < u → (i < top hand′) ⊎ Quiet w a d i
+  pub idle : (i : ℕ) → v ≤ i → i < u → (i < top hand′) ⊎ Idle w a d i
 
 -- node v is node p with the change of slot s behind it
 pub record Below (w : List ℕ) (a p s v : ℕ) : Type 0 where
@@ -69,29 +78,44 @@ station-place w c ok listed = omega (arith, stations-few w ok)
 -- nothing is at hand at first
 pub hand-none : (w : List ℕ) (a d : ℕ) (x : List ℕ) → AtHand w a d (replicate 66 0) x
 hand-none w a d x =
+    record { labels = λ c v h e. absurd (omega (arith, zero-replicate 66 c)) }
+
+-- a node is noted by one word
+pub noted-word : (c v : ℕ) (hand : List ℕ) (n : ℕ) → n ≡ v + 1 → c < 65 → length hand ≡ 66
+    → Noted c v hand (set hand c n)
+noted-word c v hand n number inside long =
     record {
-      labels = (λ c v h e. absurd (omega (arith, zero-replicate 66 c)));
-      under = (λ c v h e. absurd (omega (arith, zero-replicate 66 c)));
+      place = inside;
+      here = getD-set-same hand c n 0 (omega arith) ∙ number;
+      other = λ b apart few. getD-set-other hand c b n 0 apart;
+      rises = omega (arith, getD-set-other hand c 65 n 0 (λ e. omega arith));
     }
 
--- a node is noted by two words
-module _ (c v : ℕ) (hand : List ℕ) (n last r : ℕ) (number : n ≡ v + 1) (was : last ≡ top hand) (most : r ≡ max last n)
-    (inside : c < 65) (long : length hand ≡ 66) where
-  largest : top (set (set hand c n) 65 r) ≡ r
-  largest = getD-set-same (set hand c n) 65 r 0 (omega (arith, length-set hand c n))
+-- and that some go on behind it by another
+pub noted-on : (v : ℕ) (hand : List ℕ) (n last r : ℕ) → n ≡ v + 1 → last ≡ top hand → r ≡ max last n
+    → length hand ≡ 66 → NotedOn v hand (set hand 65 r)
+noted-on v hand n last r number was most long =
+    let largest : top (set hand 65 r) ≡ r = getD-set-same hand 65 r 0 (omega arith) in
+    record {
+      same = λ c few. getD-set-other hand 65 c r 0 (λ e. omega arith);
+      rises = omega (arith, largest);
+      reaches = omega (arith, largest);
+    }
 
-  pub noted-both : Noted c v hand (set (set hand c n) 65 r)
-  noted-both =
-      record {
-        here =
-            getD-set-other (set hand c n) 65 c r 0 (λ e. omega arith)
-            ∙ getD-set-same hand c n 0 (omega arith)
-            ∙ number;
-        other = λ b apart few.
-            getD-set-other (set hand c n) 65 b r 0 (λ e. omega arith) ∙ getD-set-other hand c b n 0 apart;
-        rises = omega (arith, largest);
-        reaches = omega (arith, largest);
-      }
+-- which leaves what is at hand
+pub noted-then : (c v u : ℕ) (hand mid hand′ : List ℕ) → Noted c v hand mid → NotedOn u mid hand′ → Noted c v hand hand′
+noted-then c v u hand mid hand′ before on =
+    record {
+      place = before .place;
+      here = on .same c (before .place) ∙ before .here;
+      other = λ b apart few. (on .same b few ∙ before .other b apart few);
+      rises = omega (arith, before .rises, on .rises);
+    }
+
+pub hand-on : (w : List ℕ) (a d v : ℕ) (hand hand′ x : List ℕ) → AtHand w a d hand x → NotedOn v hand hand′
+    → AtHand w a d hand′ x
+hand-on w a d v hand hand′ x at on =
+    record { labels = λ c u few is. at .labels c u few (sym (on .same c few) ∙ is) }
 
 module _ (w : List ℕ) (a d : ℕ) (hand x : List ℕ) (at : AtHand w a d hand x) where
   -- what is noted is there
@@ -103,13 +127,10 @@ module _ (w : List ℕ) (a d : ℕ) (hand x : List ℕ) (at : AtHand w a d hand 
     pub hand-there : NodeLabels w a d v c x
     hand-there = at .labels c v inside found
 
-    pub hand-under : v < top hand
-    hand-under = at .under c v inside found
-
   -- and what is noted with its labels is at hand
   pub hand-more : (e v : ℕ) (y hand′ : List ℕ) → Keeps w e x y → NodeLabels w a d v e y → Noted e v hand hand′
       → AtHand w a d hand′ y
-  hand-more e v y hand′ keeps labels noted = record { labels = says; under = low }
+  hand-more e v y hand′ keeps labels noted = record { labels = says }
     where
       -- a node noted is this one, or was noted before
       cases : (P : ℕ → ℕ → Type 0) → P e v → ((c u : ℕ) → c ≢ e → c < 65 → getD hand c 0 ≡ u + 1 → P c u)
@@ -132,11 +153,6 @@ module _ (w : List ℕ) (a d : ℕ) (hand x : List ℕ) (at : AtHand w a d hand 
             labels = keeps .kept c apart a d (backwards (nodeAt (sequences w a) u)) (old .labels);
           })
 
-      low : (c u : ℕ) → c < 65 → getD hand′ c 0 ≡ u + 1 → u < top hand′
-      low =
-          cases (λ c u. u < top hand′) (noted .reaches)
-          (λ c u apart inside is. omega (arith, at .under c u inside is, noted .rises))
-
 -- ---- the root
 module _ (w : List ℕ) (a d : ℕ) (x : List ℕ) (labels : Labelled w a d [] a x) where
   pub root-labels : NodeLabels w a d 0 a x
@@ -150,9 +166,6 @@ pub root-at-hand : (w : List ℕ) (a d : ℕ) (hand x y hand′ : List ℕ) → 
     → Labelled w a d [] a y → Keeps w a x y → Noted a 0 hand hand′ → AtHand w a d hand′ y
 root-at-hand w a d hand x y hand′ at labels keeps noted =
     hand-more w a d hand x at a 0 y hand′ keeps (root-labels w a d y labels) noted
-
-pub root-under : (v : ℕ) (hand : List ℕ) → 0 < top hand → v ≡ 0 → v < top hand
-root-under v hand low first = omega arith
 
 -- ---- a node and its parent
 module _ (w : List ℕ) (ok : isTimetable w ≡ true) (a : ℕ) (work : List ℕ) (v : ℕ) (s : Standing w a work v)
@@ -251,12 +264,8 @@ pub labelled-kid : (w : List ℕ) (c s z v e : ℕ) (x y hand hand′ : List ℕ
 labelled-kid w c s z v e x y hand hand′ slot stepped noted =
     record { stepped = subst (λ s. Stepped w c s e x y) slot stepped; noted = noted }
 
-module _ (e v : ℕ) (hand hand′ : List ℕ) (noted : Noted e v hand hand′) where
-  pub noted-rises : top hand ≤ top hand′
-  noted-rises = noted .rises
-
-  pub noted-reaches : v < top hand′
-  noted-reaches = noted .reaches
+pub noted-rises : (e v : ℕ) (hand hand′ : List ℕ) → Noted e v hand hand′ → top hand ≤ top hand′
+noted-rises e v hand hand′ noted = noted .rises
 
 pub slot-onward : (w : List ℕ) (c s z : ℕ) → z ≡ s → Onward w c s → Onward w c z
 slot-onward w c s z slot onward = subst (Onward w c) (sym slot) onward
@@ -271,54 +280,60 @@ boards-there w s z c slot boards = boards ∙ ap (λ z. (transferAt w z) .boarde
 pub compared : (r k n : ℕ) → r ≡ k → eqb r n ≡ eqb k n
 compared r k n is = ap (λ z. eqb z n) is
 
--- ---- quiet nodes
--- of the nodes from v up to u those from r on are quiet
-pub record QuietFrom (w : List ℕ) (a d v u r : ℕ) : Type 0 where
-  pub quiet : (i : ℕ) → v ≤ i → i < u → (i < r) ⊎ Quiet w a d i
+-- ---- idle nodes
+-- of the nodes from v up to u those from r on are idle
+pub record IdleFrom (w : List ℕ) (a d v u r : ℕ) : Type 0 where
+  pub idle : (i : ℕ) → v ≤ i → i < u → (i < r) ⊎ Idle w a d i
 
-pub quiet-all : (w : List ℕ) (a d v u hi r : ℕ) (hand hand′ : List ℕ) → QuietOn w a d v u hand hand′ → hi ≤ u
-    → r ≡ top hand′ → QuietFrom w a d v hi r
-quiet-all w a d v u hi r hand hand′ q whole is =
+pub idle-all : (w : List ℕ) (a d v u hi r : ℕ) (hand hand′ : List ℕ) → IdleOn w a d v u hand hand′ → hi ≤ u
+    → r ≡ top hand′ → IdleFrom w a d v hi r
+idle-all w a d v u hi r hand hand′ q whole is =
     record {
-      quiet = λ i h g.
-          elim (q .quiet i h (omega arith)) [
+      idle = λ i h g.
+          elim (q .idle i h (omega arith)) [
             | inl low ↦ inl (omega arith)
             | inr still ↦ inr still
           ];
     }
 
 module _ (w : List ℕ) (a d : ℕ) where
-  pub quiet-none : (v : ℕ) (hand : List ℕ) → QuietOn w a d v v hand hand
-  quiet-none v hand = record { rises = omega arith; quiet = (λ i h g. absurd (omega arith)) }
+  pub idle-none : (v : ℕ) (hand : List ℕ) → IdleOn w a d v v hand hand
+  idle-none v hand = record { rises = omega arith; idle = (λ i h g. absurd (omega arith)) }
 
-  pub quiet-one : (v : ℕ) (hand hand′ : List ℕ) → top hand ≤ top hand′ → v < top hand′
-      → QuietOn w a d v (v + 1) hand hand′
-  quiet-one v hand hand′ rises low =
-      record { rises = rises; quiet = (λ i h g. inl (omega arith)) }
+  pub idle-one : (v : ℕ) (hand hand′ : List ℕ) → top hand ≤ top hand′ → v < top hand′
+      → IdleOn w a d v (v + 1) hand hand′
+  idle-one v hand hand′ rises low =
+      record { rises = rises; idle = (λ i h g. inl (omega arith)) }
 
-  pub quiet-still : (v : ℕ) (hand : List ℕ) → Quiet w a d v → QuietOn w a d v (v + 1) hand hand
-  quiet-still v hand q =
+  pub idle-noted : (v : ℕ) (hand mid hand′ : List ℕ) → top hand ≤ top mid → NotedOn v mid hand′
+      → IdleOn w a d v (v + 1) hand hand′
+  idle-noted v hand mid hand′ rises on =
+      idle-one v hand hand′ (omega (arith, on .rises)) (on .reaches)
+
+  pub idle-still : (v : ℕ) (hand hand′ : List ℕ) → top hand ≤ top hand′ → Idle w a d v
+      → IdleOn w a d v (v + 1) hand hand′
+  idle-still v hand hand′ rises q =
       record {
-        rises = omega arith;
-        quiet = (λ i h g. let e : v ≡ i = omega arith in inr (subst (Quiet w a d) e q));
+        rises = rises;
+        idle = (λ i h g. let e : v ≡ i = omega arith in inr (subst (Idle w a d) e q));
       }
 
-  pub quiet-then : (v u t : ℕ) (hand hand′ hand″ : List ℕ) → QuietOn w a d v u hand hand′
-      → QuietOn w a d u t hand′ hand″ → QuietOn w a d v t hand hand″
-  quiet-then v u t hand hand′ hand″ q r =
+  pub idle-then : (v u t : ℕ) (hand hand′ hand″ : List ℕ) → IdleOn w a d v u hand hand′
+      → IdleOn w a d u t hand′ hand″ → IdleOn w a d v t hand hand″
+  idle-then v u t hand hand′ hand″ q r =
       record {
         rises = omega (arith, q .rises, r .rises);
-        quiet = λ i h g.
+        idle = λ i h g.
             either
             (ltb i u)
             (λ l.
-            elim (q .quiet i h (ltb→lt i u l)) [
+            elim (q .idle i h (ltb→lt i u l)) [
               | inl low ↦ inl (omega (arith, r .rises))
               | inr still ↦ inr still
             ])
-            (λ l. r .quiet i (nltb→le i u l) g);
+            (λ l. r .idle i (nltb→le i u l) g);
       }
 
-  pub quiet-later : (v u : ℕ) (hand hand′ hand″ : List ℕ) → top hand ≤ top hand′ → QuietOn w a d v u hand′ hand″
-      → QuietOn w a d v u hand hand″
-  quiet-later v u hand hand′ hand″ rises q = record { rises = omega (arith, q .rises); quiet = q .quiet }
+  pub idle-later : (v u : ℕ) (hand hand′ hand″ : List ℕ) → top hand ≤ top hand′ → IdleOn w a d v u hand′ hand″
+      → IdleOn w a d v u hand hand″
+  idle-later v u hand hand′ hand″ rises q = record { rises = omega (arith, q .rises); idle = q .idle }

@@ -3,11 +3,11 @@
 -- mark, and the labels of the others are one change behind those of the parent, which stay.
 use mathlib.Core.Path.{_≡_, refl, sym, ap, subst, _∙_}
 use mathlib.Core.Bool.{Bool, true, false, not, false≢true}
-use mathlib.Core.Logic.{_≢_, inl, inr, _↔_}
+use mathlib.Core.Logic.{_≢_, _⊎_, inl, inr, _↔_}
 use mathlib.Core.List.{List, [], _∷_, _++_, append-assoc}
 use Prim.Native.Nat.{ℕ, suc, _+_, _-_, _*_, _^_, _≤_, _<_}
 use native.Mathlib.Omega.{arith}
-use borrow.Author.Tests.{eqb-true, not-false}
+use borrow.Author.Tests.{eqb-true, not-true, not-false}
 use lib.Dec.{eqb}
 use lib.ListN.{length, getD}
 use Rattle.lists.specs.Lists.{_∈_}
@@ -27,11 +27,13 @@ use Rattle.store_tree.specs.StoredTree.{stored-made}
 use Rattle.store_nodes.specs.Minutes.{KidAt, backwards}
 use Rattle.store_nodes.specs.Standing.{Standing, StandingTo, standing, NodeLabels, Judged, ArcsAt, KidsAt}
 use Rattle.store_nodes.specs.Standing.{arcs-at, kids-at}
-use Rattle.store_nodes.specs.Hand.{AtHand, Below, LabelledKid, Quiet, QuietOn, top, next-labels, kid-at-hand}
-use Rattle.store_nodes.specs.Hand.{quiet-none, quiet-one, quiet-still, quiet-then, quiet-later}
+use Rattle.store_nodes.specs.Hand.{AtHand, Below, LabelledKid, NotedOn, Idle, Quiet, IdleOn, top}
+use Rattle.store_nodes.specs.Hand.{noted-then, next-labels, kid-at-hand}
+use Rattle.store_nodes.specs.Hand.{idle-none, idle-one, idle-still, idle-then, idle-later}
 use Rattle.store_nodes.specs.Hand.{parent-stands, below-parent, parent-onward}
 use Rattle.store_nodes.specs.Chunk.{Down, MarkedAt, RaisedOn, on-none, on-alone, on-then, partOf, putPart}
 use Rattle.store_nodes.specs.Chunk.{marked-at-64, marked-at-320}
+use Rattle.store_nodes.specs.Joining.{Joined, NoneUp}
 
 -- x has the labels of node p at station c, where it boards, and in hope the flags of those changes are up with which p
 -- goes on
@@ -46,11 +48,13 @@ pub record Told (n : ℕ) (At : (a d v k : ℕ) → Type 0) (w : List ℕ) (lo v
   pub told : (a d p : ℕ) → Ahead w a d p c x hope → Below w a p s v → Judged w a d allowed q
       → MarkedAt n (At a d v) lo v old new
 
--- and y is as good as x for the next one, what is noted then is at hand, and a node that is not is quiet
-pub record Stays (w : List ℕ) (c s v : ℕ) (hope x y hand hand′ : List ℕ) : Type 0 where
+-- and y is as good as x for the next one, what is noted then is at hand, and a node is idle behind which it is not
+-- noted that some go on
+pub record Stays (w : List ℕ) (c s v : ℕ) (hope allowed q x y hand hand′ : List ℕ) : Type 0 where
   pub kept : (a d p : ℕ) → Ahead w a d p c x hope → Ahead w a d p c y hope
   pub at-hand : (a d p : ℕ) → Below w a p s v → Ahead w a d p c x hope → AtHand w a d hand x → AtHand w a d hand′ y
-  pub quiet : (a d p : ℕ) → Below w a p s v → Ahead w a d p c x hope → QuietOn w a d v (v + 1) hand hand′
+  pub idle : (a d p : ℕ) → Below w a p s v → Ahead w a d p c x hope → Judged w a d allowed q
+      → IdleOn w a d v (v + 1) hand hand′
 
 -- ---- what the parent says
 -- who has the sequence of the kid and then more begins with that of the parent and goes on with the kid's change
@@ -106,12 +110,15 @@ nobody n Told lo v old none =
       above = λ i h. refl;
     }
 
--- a kid of a quiet node is quiet, and so is one with which its parent does not go on
-pub quiet-below : (w : List ℕ) (a d p s v : ℕ) → Below w a p s v → s ∈ slots w → Quiet w a d p → Quiet w a d v
+-- a kid of an idle node is quiet
+pub quiet-below : (w : List ℕ) (a d p s v : ℕ) → Below w a p s v → s ∈ slots w → Idle w a d p → Quiet w a d v
 quiet-below w a d p s v below listed q =
     record {
       arcs = λ k h. q .kids s (record { listed = listed; holds = arc-hoped w a d p s v below k h });
-      kids = λ k h. q .kids s (record { listed = listed; holds = kid-hoped w a d p s v below k h });
+      idle =
+          record {
+            kids = λ k h. q .kids s (record { listed = listed; holds = kid-hoped w a d p s v below k h });
+          };
     }
 
 module _ (w : List ℕ) (lo v c s : ℕ) (x hope allowed q old : List ℕ) (onward : Onward w c s) (few : s < 320)
@@ -142,44 +149,114 @@ hope-inside hope s z slot few long = omega arith
 pub not-hoped : (hope : List ℕ) (s z : ℕ) → z ≡ s → (getD hope z 0 ≡ 1 → ⊥) → getD hope s 0 ≡ 1 → ⊥
 not-hoped hope s z slot down up = down (ap (λ z. getD hope z 0) slot ∙ up)
 
-pub stays-same : (w : List ℕ) (c s v : ℕ) (hope x hand : List ℕ) → Onward w c s → s < 320 → (getD hope s 0 ≡ 1 → ⊥)
-    → Stays w c s v hope x x hand hand
-stays-same w c s v hope x hand onward few down =
+pub stays-same : (w : List ℕ) (c s v : ℕ) (hope allowed q x hand : List ℕ) → Onward w c s → s < 320
+    → (getD hope s 0 ≡ 1 → ⊥) → Stays w c s v hope allowed q x x hand hand
+stays-same w c s v hope allowed q x hand onward few down =
     record {
       kept = (λ a d p from. from);
       at-hand = (λ a d p below from at. at);
-      quiet = λ a d p below from.
-          let up : KidAt w a d (nodeAt (sequences w a) p) (transferAt w s) → ⊥ =
-          (λ h. down (from .kids s few .1 (record { listed = onward .listed; holds = h }))) in
-          quiet-still w a d v hand
+      idle = λ a d p below from judged.
+          idle-still w a d v hand hand (omega arith)
           (record {
-            arcs = (λ k h. up (arc-hoped w a d p s v below k h));
-            kids = (λ k h. up (kid-hoped w a d p s v below k h));
+            kids = λ k h.
+                down
+                (from .kids s few .1 (record { listed = onward .listed; holds = kid-hoped w a d p s v below k h }));
           });
     }
 
 -- ---- one with which it goes on
--- the labels behind the change of slot s, noted as those of node v, and the marks that they tell
+-- flags that were all down are down still, once those were raised of the changes after which one can still end well
+pub record Unmarked (w : List ℕ) (c : ℕ) (x allowed q : List ℕ) : Type 0 where
+  pub old : List ℕ
+  pub new : List ℕ
+  pub marked : KidsMarked w c x allowed q old new
+  pub none : NoneUp 320 new
+
+-- the labels behind the change of slot s, noted as those of node v, and the marks that they tell; if there is one of a
+-- change, that is noted too
 pub record MarkedKid (w : List ℕ) (c s v : ℕ) (x y hand hand′ allowed q arcs arcs′ kids kids′ : List ℕ) : Type 0 where
   pub labelled : LabelledKid w c s v ((transferAt w s) .boarded) x y hand hand′
   pub arcs-marked : ArcsMarked w ((transferAt w s) .boarded) y allowed arcs arcs′
   pub kids-marked : KidsMarked w ((transferAt w s) .boarded) y allowed q kids kids′
+  pub idle : (v < top hand′) ⊎ Unmarked w ((transferAt w s) .boarded) y allowed q
 
-pub marked-kid : (w : List ℕ) (c s v e : ℕ) (x y hand hand′ allowed q arcs arcs′ kids kids′ : List ℕ)
-    → LabelledKid w c s v e x y hand hand′ → ArcsMarked w e y allowed arcs arcs′ → KidsMarked w e y allowed q kids kids′
-    → MarkedKid w c s v x y hand hand′ allowed q arcs arcs′ kids kids′
-marked-kid w c s v e x y hand hand′ allowed q arcs arcs′ kids kids′ kid by-arcs by-kids =
-    let there = kid .stepped .boards in
+-- flags that were down are raised by themselves, and then with the others
+pub joined-kids : (w : List ℕ) (c : ℕ) (x allowed q none fresh old new : List ℕ) → Down none
+    → KidsMarked w c x allowed q none fresh → Joined 320 old fresh new → KidsMarked w c x allowed q old new
+joined-kids w c x allowed q none fresh old new down marked joined =
     record {
-      labelled = subst (λ e. LabelledKid w c s v e x y hand hand′) there kid;
-      arcs-marked = subst (λ e. ArcsMarked w e y allowed arcs arcs′) there by-arcs;
-      kids-marked = subst (λ e. KidsMarked w e y allowed q kids kids′) there by-kids;
+      marked = λ a d rev boards labels bounded.
+          let m = marked .marked a d rev boards labels bounded in
+          record {
+            exactly = λ k few. (
+              λ e.
+                  elim (joined .at k few .0 e) [
+                    | inl up ↦ inl up
+                    | inr up ↦
+                        elim (m .exactly k few .0 up) [
+                          | inl was ↦ absurd (omega (arith, down .none k))
+                          | inr told ↦ inr told
+                        ]
+                  ],
+              λ e.
+                  joined .at k few .1
+                  (elim e [
+                    | inl up ↦ inl up
+                    | inr told ↦ inr (m .exactly k few .1 (inr told))
+                  ]),
+            );
+          };
     }
 
-pub stays : (w : List ℕ) (c s v : ℕ) → Onward w c s → (x y hand hand′ allowed q arcs arcs′ kids kids′ : List ℕ)
+pub unmarked : (w : List ℕ) (c : ℕ) (x allowed q none fresh : List ℕ) (test : Bool)
+    → KidsMarked w c x allowed q none fresh → (test ≡ false → NoneUp 320 fresh)
+    → test ≡ false → Unmarked w c x allowed q
+unmarked w c x allowed q none fresh test marked still is =
+    record { old = none; new = fresh; marked = marked; none = still is }
+
+module _ (w : List ℕ) (c s v e : ℕ) (x y hand mid allowed q arcs arcs′ kids kids′ : List ℕ)
+    (kid : LabelledKid w c s v e x y hand mid) (by-arcs : ArcsMarked w e y allowed arcs arcs′)
+    (by-kids : KidsMarked w e y allowed q kids kids′) where
+  there : e ≡ (transferAt w s) .boarded
+  there = kid .stepped .boards
+
+  marked-with : (hand′ : List ℕ) → LabelledKid w c s v e x y hand hand′
+      → (v < top hand′) ⊎ Unmarked w e y allowed q → MarkedKid w c s v x y hand hand′ allowed q arcs arcs′ kids kids′
+  marked-with hand′ labelled idle =
+      record {
+        labelled = subst (λ e. LabelledKid w c s v e x y hand hand′) there labelled;
+        arcs-marked = subst (λ e. ArcsMarked w e y allowed arcs arcs′) there by-arcs;
+        kids-marked = subst (λ e. KidsMarked w e y allowed q kids kids′) there by-kids;
+        idle = subst (λ e. (v < top hand′) ⊎ Unmarked w e y allowed q) there idle;
+      }
+
+  pub marked-idle : (test : Bool) → (test ≡ false → Unmarked w e y allowed q) → not test ≡ true
+      → MarkedKid w c s v x y hand mid allowed q arcs arcs′ kids kids′
+  marked-idle test still down = marked-with mid kid (inr (still (not-true test down)))
+
+  pub marked-on : (hand′ : List ℕ) → NotedOn v mid hand′
+      → MarkedKid w c s v x y hand hand′ allowed q arcs arcs′ kids kids′
+  marked-on hand′ on =
+      marked-with hand′
+      (record { stepped = kid .stepped; noted = noted-then e v v hand mid hand′ (kid .noted) on })
+      (inl (on .reaches))
+
+-- a node whose kids are unmarked is idle
+unmarked-idle : (w : List ℕ) → isTimetable w ≡ true → (a d v c : ℕ) (x allowed q : List ℕ) → NodeLabels w a d v c x
+    → Judged w a d allowed q → Unmarked w c x allowed q → Idle w a d v
+unmarked-idle w ok a d v c x allowed q labels judged u =
+    record {
+      kids = λ s h.
+          let few = slot-small w ok s (h .listed) in
+          u .none .none s few
+          (kids-at w ok a d v c x allowed q labels judged (u .old) (u .new) (u .marked) .exactly s few .1 (inr h));
+    }
+
+pub stays : (w : List ℕ) (c s v : ℕ) → isTimetable w ≡ true → Onward w c s
+    → (x y hand hand′ allowed q arcs arcs′ kids kids′ : List ℕ)
     → MarkedKid w c s v x y hand hand′ allowed q arcs arcs′ kids kids′ → (hope : List ℕ)
-    → Stays w c s v hope x y hand hand′
-stays w c s v onward x y hand hand′ allowed q arcs arcs′ kids kids′ marked hope =
+    → Stays w c s v hope allowed q x y hand hand′
+stays w c s v ok onward x y hand hand′ allowed q arcs arcs′ kids kids′ marked hope =
     record {
       kept = λ a d p from.
           record {
@@ -196,8 +273,14 @@ stays w c s v onward x y hand hand′ allowed q arcs arcs′ kids kids′ marked
       at-hand = λ a d p below from at.
           let e = (transferAt w s) .boarded in
           kid-at-hand w a d p s v below c x y (from .labels) e hand hand′ (marked .labelled) at;
-      quiet = λ a d p below from.
-          quiet-one w a d v hand hand′ (marked .labelled .noted .rises) (marked .labelled .noted .reaches);
+      idle = λ a d p below from judged.
+          let e = (transferAt w s) .boarded in
+          let labels = next-labels w a d p s v below c x y (from .labels) (marked .labelled .stepped .steps) in
+          let rises = marked .labelled .noted .rises in
+          elim (marked .idle) [
+            | inl low ↦ idle-one w a d v hand hand′ rises low
+            | inr u ↦ idle-still w a d v hand hand′ rises (unmarked-idle w ok a d v e y allowed q labels judged u)
+          ];
     }
 
 module _ (w : List ℕ) (c s : ℕ) (x y hand hand′ allowed q : List ℕ) (ok : isTimetable w ≡ true) (lo v : ℕ)
@@ -310,13 +393,13 @@ pub record ToldOn (n : ℕ) (At : (a d v k : ℕ) → Type 0) (w work : List ℕ
     (x hope allowed q old new : List ℕ) : Type 0 where
   pub on : (a d : ℕ) → Family w a d work p c x hope allowed q → RaisedOn n (At a d) lo v u old new
 
--- and then y is as good as x, what is noted is at hand, and those that are not are quiet
-pub record StaysOn (w work : List ℕ) (p c v u : ℕ) (hope x y hand hand′ : List ℕ) : Type 0 where
+-- and then y is as good as x, what is noted is at hand, and those are idle behind which it is not noted that some go on
+pub record StaysOn (w work : List ℕ) (p c v u : ℕ) (hope allowed q x y hand hand′ : List ℕ) : Type 0 where
   pub kept : (a d p : ℕ) → Ahead w a d p c x hope → Ahead w a d p c y hope
   pub at-hand : (a d : ℕ) → (transferAt w (slotIn (getD work 0 0))) .boarded ≡ a → Ahead w a d p c x hope
       → AtHand w a d hand x → AtHand w a d hand′ y
-  pub quiet : (a d : ℕ) → (transferAt w (slotIn (getD work 0 0))) .boarded ≡ a → Ahead w a d p c x hope
-      → QuietOn w a d v u hand hand′
+  pub idle : (a d : ℕ) → (transferAt w (slotIn (getD work 0 0))) .boarded ≡ a → Ahead w a d p c x hope
+      → Judged w a d allowed q → IdleOn w a d v u hand hand′
 
 module _ (n : ℕ) (At : (a d v k : ℕ) → Type 0) (w work : List ℕ) (p lo v c : ℕ) (x hope allowed q old : List ℕ) where
   pub told-none : ToldOn n At w work p lo v v c x hope allowed q old old
@@ -333,7 +416,7 @@ module _ (n : ℕ) (At : (a d v k : ℕ) → Type 0) (w work : List ℕ) (p lo v
       }
 
   pub told-then : (u t : ℕ) (y hand hand′ mid new : List ℕ) → ToldOn n At w work p lo v u c x hope allowed q old mid
-      → StaysOn w work p c v u hope x y hand hand′ → ToldOn n At w work p lo u t c y hope allowed q mid new
+      → StaysOn w work p c v u hope allowed q x y hand hand′ → ToldOn n At w work p lo u t c y hope allowed q mid new
       → ToldOn n At w work p lo v t c x hope allowed q old new
   told-then u t y hand hand′ mid new before stays next =
       record {
@@ -347,35 +430,35 @@ module _ (n : ℕ) (At : (a d v k : ℕ) → Type 0) (w work : List ℕ) (p lo v
             }));
       }
 
-module _ (w work : List ℕ) (p c v : ℕ) (hope x hand : List ℕ) where
-  pub stays-none : StaysOn w work p c v v hope x x hand hand
+module _ (w work : List ℕ) (p c v : ℕ) (hope allowed q x hand : List ℕ) where
+  pub stays-none : StaysOn w work p c v v hope allowed q x x hand hand
   stays-none =
       record {
         kept = (λ a d p from. from);
         at-hand = (λ a d root from at. at);
-        quiet = (λ a d root from. quiet-none w a d v hand);
+        idle = (λ a d root from judged. idle-none w a d v hand);
       }
 
   pub stays-one : (hi : ℕ) (y hand′ : List ℕ) → Siblings w c work p hi → isTimetable w ≡ true
-      → Stays w c (slotIn (getD work v 0)) v hope x y hand hand′ → 1 ≤ v → v < hi → p ≡ parentIn (getD work v 0)
-      → StaysOn w work p c v (v + 1) hope x y hand hand′
+      → Stays w c (slotIn (getD work v 0)) v hope allowed q x y hand hand′ → 1 ≤ v → v < hi
+      → p ≡ parentIn (getD work v 0) → StaysOn w work p c v (v + 1) hope allowed q x y hand hand′
   stays-one hi y hand′ s ok stays some under from =
       let below = sibling-below w c work p hi s v under ok some from in
       record {
         kept = stays .kept;
         at-hand = (λ a d root from-p at. stays .at-hand a d p (below a root) from-p at);
-        quiet = (λ a d root from-p. stays .quiet a d p (below a root) from-p);
+        idle = (λ a d root from-p judged. stays .idle a d p (below a root) from-p judged);
       }
 
-  pub stays-then : (u t : ℕ) (y z hand′ hand″ : List ℕ) → StaysOn w work p c v u hope x y hand hand′
-      → StaysOn w work p c u t hope y z hand′ hand″ → StaysOn w work p c v t hope x z hand hand″
+  pub stays-then : (u t : ℕ) (y z hand′ hand″ : List ℕ) → StaysOn w work p c v u hope allowed q x y hand hand′
+      → StaysOn w work p c u t hope allowed q y z hand′ hand″ → StaysOn w work p c v t hope allowed q x z hand hand″
   stays-then u t y z hand′ hand″ r s =
       record {
         kept = (λ a d p from. s .kept a d p (r .kept a d p from));
         at-hand = (λ a d root from at. s .at-hand a d root (r .kept a d p from) (r .at-hand a d root from at));
-        quiet = λ a d root from.
-            quiet-then w a d v u t hand hand′ hand″ (r .quiet a d root from)
-            (s .quiet a d root (r .kept a d p from));
+        idle = λ a d root from judged.
+            idle-then w a d v u t hand hand′ hand″ (r .idle a d root from judged)
+            (s .idle a d root (r .kept a d p from) judged);
       }
 
 pub family : (w : List ℕ) → isTimetable w ≡ true → (a d : ℕ) (work : List ℕ) (p c : ℕ)
@@ -399,13 +482,13 @@ module _ (w work : List ℕ) (p lo v u c : ℕ) (x hope allowed q old new : List
   kids-raised t = t .on a d f
 
 module _ (w work : List ℕ) (p c v u : ℕ) (x y hand hand′ hope allowed q : List ℕ) (a d : ℕ)
-    (f : Family w a d work p c x hope allowed q) (stays : StaysOn w work p c v u hope x y hand hand′) where
+    (f : Family w a d work p c x hope allowed q) (stays : StaysOn w work p c v u hope allowed q x y hand hand′) where
   pub family-at-hand : AtHand w a d hand x → AtHand w a d hand′ y
   family-at-hand at = stays .at-hand a d (f .root) (f .ahead) at
 
-  pub family-quiet : (before : List ℕ) → top before ≤ top hand → QuietOn w a d v u before hand′
-  family-quiet before rises =
-      quiet-later w a d v u before hand hand′ rises (stays .quiet a d (f .root) (f .ahead))
+  pub family-idle : (before : List ℕ) → top before ≤ top hand → IdleOn w a d v u before hand′
+  family-idle before rises =
+      idle-later w a d v u before hand hand′ rises (stays .idle a d (f .root) (f .ahead) (f .judged))
 
 -- ---- the next sibling
 -- p has node v for a kid as well, below hi

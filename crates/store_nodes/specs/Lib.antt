@@ -4,4 +4,5 @@ pub mod Nodes
 pub mod Standing
 pub mod Hand
 pub mod Chunk
+pub mod Joining
 pub mod Hope

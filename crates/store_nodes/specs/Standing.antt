@@ -92,7 +92,6 @@ marked-same n A B old new same m =
             λ e. (elim (m .exactly k h .0 e) [ inl o ↦ inl o | inr t ↦ inr (same k .0 t) ]),
             λ e. m .exactly k h .1 (elim e [ inl o ↦ inl o | inr t ↦ inr (same k .1 t) ]),
           );
-      flags = m .flags;
     }
 
 -- what holds of a change holds of its slot

@@ -1,22 +1,28 @@
 // The marks of all nodes of a chunk, for one minute: siblings are marked together, from the labels of their parent.
 ghost use mathlib.Core.Path.{_≡_};
-ghost use mathlib.Core.Bool.{true};
+ghost use mathlib.Core.Bool.{true, false};
 ghost use Prim.Native.Nat.{_+_, _≤_, _<_};
 ghost use lib.ListN.{length, getD};
 ghost use Rattle.timetable.specs.Words.{stationCount, isTimetable};
 ghost use Rattle.store_departures.specs.Held.{Departures};
 ghost use Rattle.store_marks.specs.Held.{Changes};
 ghost use Rattle.store_marks.specs.Stepping.{Onward};
+ghost use Rattle.store_marks.specs.Marking.{ArcsMarked, KidsMarked};
 ghost use Rattle.store_nodes.specs.Standing.{Standing, StandingTo, Judged, ArcsAt, KidsAt};
 ghost use Rattle.store_nodes.specs.Chunk.{Down, Raised, RaisedOn};
-ghost use Rattle.store_nodes.specs.Hand.{AtHand, QuietOn, QuietFrom, top};
+ghost use Rattle.store_nodes.specs.Joining.{Joined, NoneUp, joinedFlag};
+ghost use Rattle.store_nodes.specs.Hand.{AtHand, IdleOn, IdleFrom, top};
 ghost use Rattle.store_nodes.specs.Hope.{Stationed, Family, MarkedKid, Told, Stays, Siblings, ToldOn, StaysOn};
-ghost use Rattle.store_nodes.specs.Hope.{Sure};
+ghost use Rattle.store_nodes.specs.Hope.{Sure, Unmarked};
 ghost use Rattle.store_tree.specs.Tree.{slotIn, parentIn};
 use crate::nodes;
 use crate::nodes::ARC_FLAGS;
 use crate::nodes::HAND_WORDS;
 use crate::nodes::KID_FLAGS;
+
+// From this node on nodes are late: where there are as many, some go on behind most of them, and to find out whether
+// they do costs more than it gains.
+const LATE: usize = 1024;
 
 // Whether a node is below hi and a kid of the parent.
 fn is_kid(work: &[u32], parent: usize, node: usize, hi: usize) -> bool
@@ -90,7 +96,77 @@ fn look_ahead(
     )
 }
 
-// From the labels of its parent, at station c, finds those of a node, and raises its flags.
+// A flag with a fresh one.
+fn join(flag: u8, fresh: u8) -> u8
+    ensures { λ r. ⌜ r ≡ joinedFlag flag fresh ⌝ }
+{
+    if fresh == 1 {
+        return 1;
+    }
+    flag
+}
+
+// Raises the flags that are up among the fresh ones. Returns whether there is one.
+fn raise_fresh(flags: &mut [u8], fresh: &[u8]) -> bool
+    requires { ⌜ (length (now flags) ≡ 320) × (length (now fresh) ≡ 320) ⌝ }
+    ensures { λ r. ⌜ Joined 320 (now (flags .entry)) (now (fresh .entry)) (now (flags .exit))
+        × (r ≡ false → NoneUp 320 (now (fresh .entry)))
+        × (length (now (flags .exit)) ≡ 320) ⌝ }
+{
+    let mut seen = 0;
+    let mut k = 0;
+    while k < KID_FLAGS {
+        flags[k] = join(flags[k], fresh[k]);
+        seen = join(seen, fresh[k]);
+        k += 1;
+    }
+    seen == 1
+}
+
+// Raises the flags of a node that boards at station c, with labels x. Returns whether some go on behind it at this
+// minute, which the flags of its kids do not tell: they are those of all minutes so far.
+fn mark_labelled(
+    words: &[u16],
+    chain: &[u16],
+    first: &[u32],
+    catch: &[u16],
+    allowed: &[u32],
+    q: &[u32],
+    x: &[u32],
+    c: usize,
+    arcs: &mut [u8],
+    kids: &mut [u8],
+) -> bool
+    requires { ⌜ (16384 ≤ length (now words)) × (isTimetable (now words) ≡ true) ⌝ }
+    requires { ⌜ Departures (now words) (now chain) (now first) × Changes (now words) (now catch) ⌝ }
+    requires { ⌜ (length (now allowed) ≡ 2048) × (length (now q) ≡ 2048) × (length (now x) ≡ 2048) ⌝ }
+    requires { ⌜ (c ≤ stationCount (now words)) × (length (now arcs) ≡ 64) × (length (now kids) ≡ 320) ⌝ }
+    ensures { λ r. ⌜ ArcsMarked (now (words .entry)) c (now (x .entry)) (now (allowed .entry))
+        (now (arcs .entry)) (now (arcs .exit))
+        × KidsMarked (now (words .entry)) c (now (x .entry)) (now (allowed .entry)) (now (q .entry))
+        (now (kids .entry)) (now (kids .exit))
+        × (r ≡ false → Unmarked (now (words .entry)) c (now (x .entry)) (now (allowed .entry)) (now (q .entry)))
+        × (length (now (arcs .exit)) ≡ 64)
+        × (length (now (kids .exit)) ≡ 320) ⌝ }
+{
+    let mut fresh = [0u8; KID_FLAGS];
+    store_marks::mark(
+        words,
+        chain,
+        first,
+        catch,
+        allowed,
+        q,
+        x,
+        c,
+        arcs,
+        &mut fresh,
+    );
+    raise_fresh(kids, &fresh)
+}
+
+// From the labels of its parent, at station c, finds those of a node, and raises its flags. If some go on behind it,
+// that is noted; of a late node it is noted in any case.
 fn mark_kid(
     words: &[u16],
     chain: &[u16],
@@ -129,7 +205,15 @@ fn mark_kid(
         × (length (now (kids .exit)) ≡ 320) ⌝ }
 {
     let e = nodes::label_kid(words, chain, first, catch, work, node, c, x, hand);
-    store_marks::mark(words, chain, first, catch, allowed, q, x, e, arcs, kids);
+    if LATE <= node {
+        store_marks::mark(words, chain, first, catch, allowed, q, x, e, arcs, kids);
+        nodes::note_on(hand, node);
+        return;
+    }
+    if !mark_labelled(words, chain, first, catch, allowed, q, x, e, arcs, kids) {
+        return;
+    }
+    nodes::note_on(hand, node);
 }
 
 // Raises the flags of a node, which stand among those of the nodes from lo on. Its parent's labels at station c are in
@@ -177,7 +261,7 @@ fn mark_hoped(
         (slotIn (getD (now (work .entry)) node 0)) (now (x .entry))
         (now (hope .entry)) (now (allowed .entry)) (now (q .entry)) (now (kids .entry)) (now (kids .exit))
         × Stays (now (words .entry)) c (slotIn (getD (now (work .entry)) node 0)) node (now (hope .entry))
-        (now (x .entry)) (now (x .exit)) (now (hand .entry)) (now (hand .exit))
+        (now (allowed .entry)) (now (q .entry)) (now (x .entry)) (now (x .exit)) (now (hand .entry)) (now (hand .exit))
         × (length (now (x .exit)) ≡ 2048)
         × (length (now (hand .exit)) ≡ 66)
         × (length (now (arcs .exit)) ≡ 6144)
@@ -251,7 +335,7 @@ fn mark_sibling(
         (node + 1) c (now (x .entry)) (now (hope .entry)) (now (allowed .entry)) (now (q .entry))
         (now (kids .entry)) (now (kids .exit))
         × StaysOn (now (words .entry)) (now (work .entry)) parent c node (node + 1) (now (hope .entry))
-        (now (x .entry)) (now (x .exit)) (now (hand .entry)) (now (hand .exit))
+        (now (allowed .entry)) (now (q .entry)) (now (x .entry)) (now (x .exit)) (now (hand .entry)) (now (hand .exit))
         × Sure (now (work .entry)) parent hi (node + 1) r
         × (length (now (x .exit)) ≡ 2048)
         × (length (now (hand .exit)) ≡ 66)
@@ -324,7 +408,7 @@ fn mark_kids(
         (now (x .entry)) (now (hope .entry)) (now (allowed .entry)) (now (q .entry))
         (now (kids .entry)) (now (kids .exit))
         × StaysOn (now (words .entry)) (now (work .entry)) parent c node r (now (hope .entry))
-        (now (x .entry)) (now (x .exit)) (now (hand .entry)) (now (hand .exit))
+        (now (allowed .entry)) (now (q .entry)) (now (x .entry)) (now (x .exit)) (now (hand .entry)) (now (hand .exit))
         × (node < r)
         × (r ≤ hi)
         × (length (now (x .exit)) ≡ 2048)
@@ -401,7 +485,7 @@ fn mark_siblings(
     ensures { λ r. ⌜ RaisedOn 64 (ArcsAt (now (words .entry)) source d) lo node r (now (arcs .entry)) (now (arcs .exit))
         × RaisedOn 320 (KidsAt (now (words .entry)) source d) lo node r (now (kids .entry)) (now (kids .exit))
         × AtHand (now (words .entry)) source d (now (hand .exit)) (now (x .exit))
-        × QuietOn (now (words .entry)) source d node r (now (hand .entry)) (now (hand .exit))
+        × IdleOn (now (words .entry)) source d node r (now (hand .entry)) (now (hand .exit))
         × (node < r)
         × (r ≤ hi)
         × (length (now (x .exit)) ≡ 2048)
@@ -487,7 +571,7 @@ fn mark_family(
     ensures { λ r. ⌜ RaisedOn 64 (ArcsAt (now (words .entry)) source d) lo node r (now (arcs .entry)) (now (arcs .exit))
         × RaisedOn 320 (KidsAt (now (words .entry)) source d) lo node r (now (kids .entry)) (now (kids .exit))
         × AtHand (now (words .entry)) source d (now (hand .exit)) (now (x .exit))
-        × QuietOn (now (words .entry)) source d node r (now (hand .entry)) (now (hand .exit))
+        × IdleOn (now (words .entry)) source d node r (now (hand .entry)) (now (hand .exit))
         × (node < r)
         × (r ≤ hi)
         × (length (now (x .exit)) ≡ 2048)
@@ -513,6 +597,7 @@ fn mark_family(
             arcs,
             kids,
         );
+        nodes::note_on(hand, node);
         return node + 1;
     }
     mark_siblings(
@@ -535,8 +620,8 @@ fn mark_family(
     )
 }
 
-// Raises the flags of all nodes from lo up to hi. Returns a number up to which nodes were looked at: of these nodes
-// those from there on are on no optimal connection at minute d. What x holds is of no further use.
+// Raises the flags of all nodes from lo up to hi. Returns a number: behind those of these nodes that stand from there
+// on nobody goes on at minute d. What x holds is of no further use.
 pub fn mark_nodes(
     words: &[u16],
     chain: &[u16],
@@ -569,7 +654,7 @@ pub fn mark_nodes(
         × (hi ≤ lo + 96) ⌝ }
     ensures { λ r. ⌜ Raised 64 (ArcsAt (now (words .entry)) source d) lo hi (now (arcs .entry)) (now (arcs .exit))
         × Raised 320 (KidsAt (now (words .entry)) source d) lo hi (now (kids .entry)) (now (kids .exit))
-        × QuietFrom (now (words .entry)) source d lo hi r
+        × IdleFrom (now (words .entry)) source d lo hi r
         × (length (now (x .exit)) ≡ 2048)
         × (length (now (arcs .exit)) ≡ 6144)
         × (length (now (kids .exit)) ≡ 30720) ⌝ }

@@ -14,7 +14,7 @@ ghost use Rattle.store_marks.specs.Stepping.{Onward};
 ghost use Rattle.store_marks.specs.Marking.{Marked};
 ghost use Rattle.store_tree.specs.Tree.{slotIn, parentIn};
 ghost use Rattle.store_nodes.specs.Standing.{Standing, NodeLabels, Judged, ArcsAt, KidsAt};
-ghost use Rattle.store_nodes.specs.Hand.{AtHand, LabelledKid, Noted, top};
+ghost use Rattle.store_nodes.specs.Hand.{AtHand, LabelledKid, Noted, NotedOn, top};
 ghost use Rattle.store_nodes.specs.Chunk.{MarkedAt};
 
 // Each node has a flag for each station that there can be, and one for each slot.
@@ -22,7 +22,8 @@ pub const ARC_FLAGS: usize = 64;
 
 pub const KID_FLAGS: usize = 320;
 
-// For each station, from 0 on, which node's labels stand there, and behind these places the last node that was noted.
+// For each station, from 0 on, which node's labels stand there, and behind these places the last node behind which some
+// go on.
 const LAST: usize = 65;
 
 pub const HAND_WORDS: usize = LAST + 1;
@@ -78,13 +79,20 @@ fn note(hand: &mut [u16], c: usize, node: usize)
     ensures { λ _. ⌜ Noted c node (now (hand .entry)) (now (hand .exit)) ⌝ }
     ensures { λ _. ⌜ length (now (hand .exit)) ≡ length (now (hand .entry)) ⌝ }
 {
-    let number = (node + 1) as u16;
-    let last = hand[LAST];
-    hand[c] = number;
-    hand[LAST] = larger(last, number);
+    hand[c] = (node + 1) as u16;
 }
 
-// One more than the last node that was noted.
+// Notes that some go on behind the node.
+pub fn note_on(hand: &mut [u16], node: usize)
+    requires { ⌜ (node < 16384) × (length (now hand) ≡ 66) ⌝ }
+    ensures { λ _. ⌜ NotedOn node (now (hand .entry)) (now (hand .exit)) ⌝ }
+    ensures { λ _. ⌜ length (now (hand .exit)) ≡ length (now (hand .entry)) ⌝ }
+{
+    let last = hand[LAST];
+    hand[LAST] = larger(last, (node + 1) as u16);
+}
+
+// One more than the last node behind which some go on.
 pub fn last_noted(hand: &[u16]) -> u16
     requires { ⌜ length (now hand) ≡ 66 ⌝ }
     ensures { λ r. ⌜ r ≡ top (now (hand .entry)) ⌝ }
@@ -112,7 +120,6 @@ fn label_start(
     ensures { λ r. ⌜ NodeLabels (now (words .entry)) source d 0 r (now (x .exit))
         × AtHand (now (words .entry)) source d (now (hand .exit)) (now (x .exit))
         × (top (now (hand .entry)) ≤ top (now (hand .exit)))
-        × (0 < top (now (hand .exit)))
         × (r ≤ stationCount (now (words .entry)))
         × (length (now (x .exit)) ≡ 2048)
         × (length (now (hand .exit)) ≡ 66) ⌝ }
@@ -181,7 +188,6 @@ fn label_node(
     ensures { λ r. ⌜ NodeLabels (now (words .entry)) source d node r (now (x .exit))
         × AtHand (now (words .entry)) source d (now (hand .exit)) (now (x .exit))
         × (top (now (hand .entry)) ≤ top (now (hand .exit)))
-        × (node < top (now (hand .exit)))
         × (r ≤ stationCount (now (words .entry)))
         × (length (now (x .exit)) ≡ 2048)
         × (length (now (hand .exit)) ≡ 66) ⌝ }
@@ -239,7 +245,6 @@ pub fn mark_node(
         × NodeLabels (now (words .entry)) source d node r (now (x .exit))
         × AtHand (now (words .entry)) source d (now (hand .exit)) (now (x .exit))
         × (top (now (hand .entry)) ≤ top (now (hand .exit)))
-        × (node < top (now (hand .exit)))
         × (length (now (hand .exit)) ≡ 66)
         × (r ≤ stationCount (now (words .entry))) ⌝ }
 {
@@ -287,7 +292,6 @@ pub fn mark_at(
         × MarkedAt 320 (KidsAt (now (words .entry)) source d node) lo node (now (kids .entry)) (now (kids .exit))
         × AtHand (now (words .entry)) source d (now (hand .exit)) (now (x .exit))
         × (top (now (hand .entry)) ≤ top (now (hand .exit)))
-        × (node < top (now (hand .exit)))
         × (length (now (x .exit)) ≡ 2048)
         × (length (now (hand .exit)) ≡ 66)
         × (length (now (arcs .exit)) ≡ 6144)

@@ -30,8 +30,6 @@ mark-chunk-spec =
     tie.close
     (tie.spec
     (λ c κs. (search needs, search chunk-inside))
-    (λ c. search needs)
-    (λ c. search needs)
     mark-departures-requires
     (λ c. search needs)
     (λ c. search needs)

@@ -1,5 +1,6 @@
 -- The flags of the chunk are those of its arcs and kids, so its nodes can be taken.
 use borrow.Author.Needs.{needs}
+use Rattle.store_nodes.specs.Chunk.{down-fresh}
 use Rattle.store_growth.specs.Chunks.{standing-to, some-chunk, chunk-reached}
 use Rattle.store_growth.proofs.tree.grow_chunk.Statement.{statement}
 use Rattle.store_growth.proofs.tree.grow_chunk.Tie as tie
@@ -20,6 +21,8 @@ mark-chunk-requires c κs = (
   search needs,
   search needs,
   search needs,
+  search down-fresh,
+  search down-fresh,
 )
 
 take-chunk-requires : tie.Need-take-chunk-requires

@@ -1,7 +1,7 @@
 -- The root by itself, or the siblings of the node.
 use Rattle.store_nodes.specs.Standing.{standing}
 use Rattle.store_nodes.specs.Chunk.{on-alone}
-use Rattle.store_nodes.specs.Hand.{quiet-one}
+use Rattle.store_nodes.specs.Hand.{hand-on, idle-noted}
 use borrow.Author.Needs.{needs}
 use Rattle.store_nodes.proofs.families.mark_family.Statement.{statement}
 use Rattle.store_nodes.proofs.families.mark_family.Tie as tie
@@ -30,8 +30,8 @@ returns : tie.Need-returns
 returns c = (
   search on-alone,
   search on-alone,
-  search needs,
-  search quiet-one,
+  search hand-on,
+  search idle-noted,
   search needs,
   search needs,
   search needs,
@@ -67,6 +67,7 @@ mark-family-spec =
     tie.close
     (tie.spec
     mark-at-requires
+    (λ c κs. (search needs, search needs))
     (λ c. search needs)
     (λ c. search needs)
     (λ c. search needs)

@@ -21,7 +21,7 @@ Inv-loop words chain first catch work parent lo node hi c hope allowed q x₀ ha
     × (length arcs ≡ 6144)
     × (length kids ≡ 30720)
     × (parent ≡ parentIn (getD work v 0))
-    × StaysOn words work parent c node v hope x₀ x hand₀ hand
+    × StaysOn words work parent c node v hope allowed q x₀ x hand₀ hand
     × ToldOn 64 (ArcsAt words) words work parent lo node v c x₀ hope allowed q arcs₀ arcs
     × ToldOn 320 (KidsAt words) words work parent lo node v c x₀ hope allowed q kids₀ kids
 

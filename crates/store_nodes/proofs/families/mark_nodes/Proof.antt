@@ -3,7 +3,7 @@ use mathlib.Core.Path.{_≡_}
 use Prim.Native.Nat.{_≤_, _-_}
 use lib.ListN.{length}
 use Rattle.store_nodes.specs.Standing.{ArcsAt, KidsAt}
-use Rattle.store_nodes.specs.Hand.{AtHand, QuietOn, hand-none, quiet-none, quiet-then, quiet-all}
+use Rattle.store_nodes.specs.Hand.{AtHand, IdleOn, hand-none, idle-none, idle-then, idle-all}
 use Rattle.store_nodes.specs.Chunk.{Raised, raised-none, on-all, raised-all}
 use borrow.Author.Needs.{needs}
 use Rattle.store_nodes.proofs.families.mark_nodes.Statement.{statement}
@@ -18,7 +18,7 @@ Inv-loop words chain first catch work lo hi source d allowed q x₀ arcs₀ kids
     × (length arcs ≡ 6144)
     × (length kids ≡ 30720)
     × AtHand words source d hand x
-    × QuietOn words source d lo node hand₀ hand
+    × IdleOn words source d lo node hand₀ hand
     × Raised 64 (ArcsAt words source d) lo node arcs₀ arcs
     × Raised 320 (KidsAt words source d) lo node kids₀ kids
 
@@ -35,7 +35,7 @@ loop-holds c = (
   search needs,
   search needs,
   search hand-none,
-  search quiet-none,
+  search idle-none,
   search raised-none,
   search raised-none,
 )
@@ -70,13 +70,13 @@ loop-again c = (
   search needs,
   search needs,
   search needs,
-  search quiet-then,
+  search idle-then,
   search on-all,
   search on-all,
 )
 
 returns : tie.Need-returns Inv-loop μ-loop
-returns c = (search raised-all, search raised-all, search quiet-all, search needs, search needs, search needs)
+returns c = (search raised-all, search raised-all, search idle-all, search needs, search needs, search needs)
 
 pub mark-nodes-spec : {M : Type 1} → statement M
 mark-nodes-spec =

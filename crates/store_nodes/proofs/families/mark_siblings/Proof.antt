@@ -1,7 +1,7 @@
 -- The labels of the parent lead to those of all its kids.
 use Rattle.store_nodes.specs.Chunk.{down-fresh}
 use Rattle.store_nodes.specs.Hope.{parent-standing, siblings, arcs-raised, kids-raised, family-at-hand}
-use Rattle.store_nodes.specs.Hope.{family-quiet}
+use Rattle.store_nodes.specs.Hope.{family-idle}
 use borrow.Author.Needs.{needs}
 use Rattle.store_nodes.proofs.families.mark_siblings.Statement.{statement}
 use Rattle.store_nodes.proofs.families.mark_siblings.Tie as tie
@@ -54,7 +54,7 @@ returns c = (
   search arcs-raised,
   search kids-raised,
   search family-at-hand,
-  search family-quiet,
+  search family-idle,
   search needs,
   search needs,
   search needs,

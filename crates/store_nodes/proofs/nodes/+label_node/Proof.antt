@@ -5,7 +5,7 @@ use borrow.Author.Needs.{needs}
 use borrow.Fn.Kinds.{In}
 use borrow.Fn.PlainCycle.{Measures, is, falls, and}
 use Rattle.store_nodes.specs.Standing.{node-inside, node-few, node-slot, node-station}
-use Rattle.store_nodes.specs.Hand.{hand-there, hand-under, node-place, root-there, root-under}
+use Rattle.store_nodes.specs.Hand.{hand-there, node-place, root-there}
 use Rattle.store_nodes.specs.Hand.{parent-under, parent-stands}
 use Rattle.store_nodes.specs.Hand.{node-onward-from, node-labelled, node-at-hand}
 use Rattle.store_nodes.proofs.nodes.label_node.Reads as label-node
@@ -80,7 +80,6 @@ label-node-returns t c = (
   search (hand-there, node-place),
   search needs,
   search needs,
-  search (hand-under, node-place),
   search node-station,
   search needs,
   search needs,
@@ -104,7 +103,6 @@ label-node-returns-2 t c = (
   search root-there,
   search needs,
   search needs,
-  search root-under,
   search needs,
   search needs,
   search needs,
@@ -217,7 +215,6 @@ label-node-returns-3 t c =
       node-at-hand _ (entry .1) _ _ _ (entry .5) (called .before .if2 .left) _ (called .parent-of .ensures) _ _ _
           (labelled .label-node .ensures .0) _ _ _ _ (kid .label-kid .ensures .0) (labelled .label-node .ensures .1),
       omega (arith, labelled .label-node .ensures .2, kid .label-kid .ensures .0 .noted .rises),
-      kid .label-kid .ensures .0 .noted .reaches,
       search needs,
       search needs,
       search needs,

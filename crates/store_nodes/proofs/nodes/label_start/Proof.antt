@@ -1,6 +1,6 @@
 -- The labels of the source are those of the root, and are noted as such.
 use borrow.Author.Needs.{needs}
-use Rattle.store_nodes.specs.Hand.{station-place, root-labels, root-at-hand, noted-rises, noted-reaches}
+use Rattle.store_nodes.specs.Hand.{station-place, root-labels, root-at-hand, noted-rises}
 use Rattle.store_nodes.proofs.nodes.label_start.Statement.{statement}
 use Rattle.store_nodes.proofs.nodes.label_start.Tie as tie
 
@@ -9,7 +9,6 @@ returns c = (
   search root-labels,
   search root-at-hand,
   search noted-rises,
-  search noted-reaches,
   search needs,
   search needs,
   search needs,

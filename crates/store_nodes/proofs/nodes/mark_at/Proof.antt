@@ -31,7 +31,6 @@ returns c = (
   search needs,
   search needs,
   search needs,
-  search needs,
   search marked-long-64,
   search marked-long-320,
 )

@@ -25,7 +25,6 @@ returns c = (
   search needs,
   search needs,
   search needs,
-  search needs,
 )
 
 pub mark-node-spec : {M : Type 1} → statement M

@@ -1,11 +1,11 @@
--- Both words are written, the second from what it was before.
+-- One word is written.
 use borrow.Author.Needs.{needs}
-use Rattle.store_nodes.specs.Hand.{noted-both}
+use Rattle.store_nodes.specs.Hand.{noted-word}
 use Rattle.store_nodes.proofs.nodes.note.Statement.{statement}
 use Rattle.store_nodes.proofs.nodes.note.Tie as tie
 
 returns : tie.Need-returns
-returns c = (search noted-both, search needs)
+returns c = (search noted-word, search needs)
 
 pub note-spec : {M : Type 1} → statement M
 note-spec =
@@ -14,9 +14,6 @@ note-spec =
     (λ c. search needs)
     (λ c. search needs)
     (λ c. search needs)
-    (λ c. search needs)
-    (λ c. search needs)
-    (λ c κs. search needs)
     (λ c. search needs)
     (λ c. search needs)
     returns)
