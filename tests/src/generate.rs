@@ -133,6 +133,17 @@ pub fn changing(random: &mut Random, size: &Size) -> Timetable {
     marked_and_walked_or_not(random, plain)
 }
 
+/// Any small timetable: with lines of several trips and of one, overtaken trips, equal times and stations met twice,
+/// under numbers that may have gaps.
+pub fn any_timetable(random: &mut Random) -> Timetable {
+    let timetable = match random.below(4) {
+        0 => timetable(random, &SMALL),
+        1 => with_shared_ways(random, &SMALL),
+        _ => crowded(random, &CROWDED),
+    };
+    with_gaps(random, &timetable)
+}
+
 /// 64 stations and 16 routes of 8 stops between four towns and the villages, each with so many trips out and back in a
 /// day, at most 8. With 8 the timetable is at its limits.
 pub fn rural(random: &mut Random, rounds: usize) -> Timetable {

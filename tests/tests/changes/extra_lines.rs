@@ -1,8 +1,9 @@
 //! The lines of an extra trip, and the questions that are put to each of them.
 
-use crate::{any_timetable, second, Room};
+use crate::{second, Room};
 use dairyepoch_tests::damage::damaged;
 use dairyepoch_tests::examples::M;
+use dairyepoch_tests::generate::any_timetable;
 use dairyepoch_tests::host::Host;
 use dairyepoch_tests::lines::lines;
 use dairyepoch_tests::random::Random;

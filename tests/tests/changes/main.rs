@@ -9,7 +9,6 @@ mod tables;
 
 use dairyepoch_tests::direct::Query;
 use dairyepoch_tests::ffi::{self, Reply};
-use dairyepoch_tests::generate::{crowded, timetable, with_gaps, with_shared_ways, CROWDED, SMALL};
 use dairyepoch_tests::host::{Host, QUERY_WORDS};
 use dairyepoch_tests::lent::Lent;
 use dairyepoch_tests::lines::{self, WORK_WORDS};
@@ -91,14 +90,4 @@ impl Room {
 /// Trip 2 of M under any number.
 fn second(trip: u32) -> String {
     format!("T,{trip},1,2,,08:23,0,0\nT,{trip},2,3,08:40,,,0\n")
-}
-
-/// Any timetable, under numbers that may have gaps.
-fn any_timetable(random: &mut Random) -> Timetable {
-    let timetable = match random.below(4) {
-        0 => timetable(random, &SMALL),
-        1 => with_shared_ways(random, &SMALL),
-        _ => crowded(random, &CROWDED),
-    };
-    with_gaps(random, &timetable)
 }

@@ -1,9 +1,9 @@
 //! Changes that are refused: which question has the first no, and what is lent that is no timetable with its tables.
 
-use crate::{any_timetable, second, Room};
+use crate::{second, Room};
 use dairyepoch_tests::examples::{M, NIGHT};
 use dairyepoch_tests::ffi::{self, Reply};
-use dairyepoch_tests::generate::overtaking;
+use dairyepoch_tests::generate::{any_timetable, overtaking};
 use dairyepoch_tests::host::Host;
 use dairyepoch_tests::lent::{noes, replies_to_tampered, Lent, LONGER_LENGTHS};
 use dairyepoch_tests::lines::{LINE_WORDS, WORK_WORDS};

@@ -1,8 +1,8 @@
 //! Sequences of changes that lead to the same words.
 
-use crate::{any_timetable, Room};
+use crate::Room;
 use dairyepoch_tests::ffi::Reply;
-use dairyepoch_tests::generate::{every_trip, largest, overtaking, with_shared_ways, LARGE};
+use dairyepoch_tests::generate::{any_timetable, every_trip, largest, overtaking, with_shared_ways, LARGE};
 use dairyepoch_tests::lines::lines;
 use dairyepoch_tests::random::Random;
 use dairyepoch_tests::timetable::{trip_text, Station, Timetable};

@@ -1,9 +1,9 @@
 //! Slices of any words, and of any length.
 
-use crate::{any_timetable, ask_both};
+use crate::ask_both;
 use dairyepoch_tests::examples::M;
 use dairyepoch_tests::ffi::{self, Reply};
-use dairyepoch_tests::generate::{overtaking, with_trips};
+use dairyepoch_tests::generate::{any_timetable, overtaking, with_trips};
 use dairyepoch_tests::host::{lent, Host};
 use dairyepoch_tests::lent::{damaged, Lent};
 use dairyepoch_tests::lines::LINE_WORDS;

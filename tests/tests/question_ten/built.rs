@@ -1,9 +1,9 @@
 //! Tables that were built, and those of another timetable.
 
-use crate::{any_timetable, ask_both, built_has_a_yes, timetables_at_the_limits};
+use crate::{ask_both, built_has_a_yes, timetables_at_the_limits};
 use dairyepoch_tests::examples::M;
 use dairyepoch_tests::generate::{
-    every_marking, every_trip, overtaking, timetable, with_shared_ways, with_trips, LARGE, MIDDLING,
+    any_timetable, every_marking, every_trip, overtaking, timetable, with_shared_ways, with_trips, LARGE, MIDDLING,
 };
 use dairyepoch_tests::host::{lent, Host};
 use dairyepoch_tests::lent::Lent;

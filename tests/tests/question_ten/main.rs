@@ -9,26 +9,12 @@ mod tampered;
 mod totals;
 
 use dairyepoch_tests::ffi::{self, Reply};
-use dairyepoch_tests::generate::{
-    crowded, largest, long_lines, one_way, overtaking, timetable, with_gaps, with_shared_ways, with_trips, CROWDED,
-    SMALL,
-};
+use dairyepoch_tests::generate::{largest, long_lines, one_way, overtaking, with_trips};
 use dairyepoch_tests::host::{lent, Host};
 use dairyepoch_tests::lines::{lines, LINE_WORDS, WORK_WORDS};
 use dairyepoch_tests::random::Random;
 use dairyepoch_tests::timetable::{Timetable, RIDE_PENALTY_MOST};
 use dairyepoch_tests::words::to_words;
-
-/// Timetables with lines of several trips and of one, overtaken trips, equal times and stations met twice, under
-/// numbers that may have gaps.
-fn any_timetable(random: &mut Random) -> Timetable {
-    let timetable = match random.below(4) {
-        0 => timetable(random, &SMALL),
-        1 => with_shared_ways(random, &SMALL),
-        _ => crowded(random, &CROWDED),
-    };
-    with_gaps(random, &timetable)
-}
 
 /// Timetables of 64 stations, 256 trips and 2,048 stops, of one line, of 256 and of any, and two of a single trip, the
 /// second with the greatest total.

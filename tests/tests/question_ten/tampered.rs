@@ -1,8 +1,8 @@
 //! Tables of which words were changed, left out, put in or cut off.
 
-use crate::{any_timetable, ask_both, tamper, timetables_at_the_limits, KINDS};
+use crate::{ask_both, tamper, timetables_at_the_limits, KINDS};
 use dairyepoch_tests::examples::M;
-use dairyepoch_tests::generate::{crowded, with_trips, CROWDED};
+use dairyepoch_tests::generate::{any_timetable, crowded, with_trips, CROWDED};
 use dairyepoch_tests::host::{lent, Host};
 use dairyepoch_tests::lent::Lent;
 use dairyepoch_tests::lines::{self, LINE_WORDS};
