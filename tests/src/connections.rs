@@ -35,12 +35,8 @@ pub fn ways(timetable: &Timetable, rule: Rule) -> Vec<Way> {
         minutes: station.change_minutes.into(),
         penalty: station.change_penalty.into(),
     };
-    let on_foot = |walk: &Walk| Way {
-        from: walk.from,
-        to: walk.to,
-        minutes: walk.minutes.into(),
-        penalty: walk.penalty.into(),
-    };
+    let on_foot =
+        |walk: &Walk| Way { from: walk.from, to: walk.to, minutes: walk.minutes.into(), penalty: walk.penalty.into() };
     let applies = |&(number, _): &(u16, &Station)| rule == Rule::BothOpen || timetable.along(number).is_none();
     let own = (1..).zip(&timetable.stations).filter(applies).map(here);
     own.chain(timetable.walks.iter().map(on_foot)).collect()

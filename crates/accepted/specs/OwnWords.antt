@@ -7,7 +7,7 @@ use mathlib.Core.List.{List, [], _∷_, _++_, map, map-append}
 use Prim.Native.Nat.{ℕ, zero, suc, _+_, _-_, _*_, _≤_, _<_}
 use lib.Dec.{T, leb, eqb}
 use lib.ListN.{length, getD, take, drop, length-map}
-use lib.Seq.{drop-cons, take-add, length-take-le}
+use lib.Seq.{take-add, length-take-le}
 use native.Mathlib.Nat.{zero-add, add-zero, suc-add}
 use native.Mathlib.Numerals.{add-one}
 use native.Mathlib.Omega.{arith}
@@ -22,7 +22,7 @@ use Rattle.timetable.specs.Words.{tripCount, stopCount, stationAt, stopPlace, s
 use Rattle.timetable.specs.Words.{footPlace, walksTo, walkCount, walkPlace, walkAt, timetableOf, rise, chained, footed}
 use Rattle.timetable.specs.Words.{isTimetable}
 use Rattle.timetable.specs.Check.{rise-most}
-use Rattle.timetable_writing.specs.Parts.{stops-back}
+use Rattle.timetable_writing.specs.Parts.{take-one, stops-back}
 use Rattle.timetable.specs.Access.{spelled-valid, is-chained, is-footed}
 use Rattle.accepted.specs.Valid.{is-valid}
 use Rattle.accepted.specs.Fits.{wordsCount, wordsMost}
@@ -54,10 +54,6 @@ module _ (a b : ℕ) (l : List ℕ) (n : ℕ) (e : rise a (b ∷ l) n ≡ true) 
   rise-on : rise b l n ≡ true
   unfolding rise
   rise-on = and-right (leb a b) (rise b l n) e
-
--- ---- the words from i on begin with word i
-take-one : (w : List ℕ) (i n : ℕ) → i < length w → take (suc n) (drop i w) ≡ getD w i 0 ∷ take n (drop (i + 1) w)
-take-one w i n h = rw (drop-cons w i 0 h, add-one i)
 
 module _ (w : List ℕ) where
   stations-back : (k n : ℕ) → 3 + 2 * (k + n) ≤ length w

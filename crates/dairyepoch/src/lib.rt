@@ -14,33 +14,12 @@ ghost use Rattle.promises.specs.Query.{askReply, askWords};
 ghost use Rattle.promises.specs.Changes.{cancelReply, cancelTimetable, cancelLines, addReply, addTimetable, addLines};
 ghost use Rattle.promises.specs.Packed.{packed, packedReply, packedCount};
 ghost use Rattle.dairyepoch.specs.Packed.{packedPlace};
-use reading::Reply;
-
-// What 1 in the upper half of a reply counts.
-const UPPER: u64 = 4294967296;
+use replies_packed::pack;
+use replies_packed::pack_count;
+use replies_packed::pack_reply;
 
 // What 1 in the index of a piece counts; its length stands below.
 const PIECE: u32 = 65536;
-
-// The refusal's number, or 0, in the upper half, and the count or line in the lower.
-fn pack(number: u32, low: u32) -> u64
-    ensures { λ r. ⌜ r ≡ packed number low ⌝ }
-{
-    number as u64 * UPPER + low as u64
-}
-
-fn pack_reply(reply: Reply) -> u64
-    ensures { λ r. ⌜ r ≡ packedReply reply ⌝ }
-{
-    match reply {
-        Reply::Done { lines } => {
-            return pack(0, lines);
-        }
-        Reply::Refused { number, line } => {
-            return pack(number, line);
-        }
-    }
-}
 
 // Reads a timetable text into the lent timetable words.
 #[no_mangle]
@@ -57,19 +36,6 @@ pub extern "C" fn dairyepoch_check_timetable(timetable: &[u16]) -> u64
     ensures { λ r. ⌜ r ≡ packed (timetableNumber (now (timetable .entry))) 0 ⌝ }
 {
     pack(timetable_check::timetable_number(timetable), 0)
-}
-
-fn pack_count(reply: replies::Reply) -> u64
-    ensures { λ r. ⌜ r ≡ packedCount reply ⌝ }
-{
-    match reply {
-        replies::Reply::Done { count } => {
-            return pack(0, count);
-        }
-        replies::Reply::Refused { number } => {
-            return pack(number, 0);
-        }
-    }
 }
 
 // Builds the line tables of timetable words, with lent working space.

@@ -9,18 +9,19 @@ use Rattle.timetable.specs.Timetable.{Timetable, lastMinute}
 use Rattle.timetable.specs.Words.{timetableOf}
 use Rattle.lines_check.specs.Question10.{tablesQuestions}
 
--- station a is one of the timetable's
-unfoldable pub listed : Timetable → (a : ℕ) → Bool
-listed t a = leb 1 a && leb a (length (t .stations))
+-- the station is one of the timetable's
+unfoldable pub listed : Timetable → (station : ℕ) → Bool
+listed timetable station = leb 1 station && leb station (length (timetable .stations))
 
 -- "Are the stations or line named there, and from and to different? 11"
-unfoldable pub named : Timetable → (a b : ℕ) → Bool
-named t a b = listed t a && listed t b && not (eqb a b)
+unfoldable pub named : Timetable → (from to : ℕ) → Bool
+named timetable from to = listed timetable from && listed timetable to && not (eqb from to)
 
--- from station a to station b at minute u; "Is the minute 0 to 2,879? 12"
-abbrev pub queryQuestions : (w v : List ℕ) (n a b u : ℕ) → List Question
-queryQuestions w v n a b u =
-    tablesQuestions w v n ++ (ask 11 (named (timetableOf w) a b) ∷ ask 12 (leb u lastMinute) ∷ [])
+-- from one station to another at a minute; "Is the minute 0 to 2,879? 12"
+abbrev pub queryQuestions : (timetable lines : List ℕ) (work from to minute : ℕ) → List Question
+queryQuestions timetable lines work from to minute =
+    tablesQuestions timetable lines work
+    ++ (ask 11 (named (timetableOf timetable) from to) ∷ ask 12 (leb minute lastMinute) ∷ [])
 
-unfoldable pub queryNumber : (w v : List ℕ) (n a b u : ℕ) → ℕ
-queryNumber w v n a b u = firstNo (queryQuestions w v n a b u)
+unfoldable pub queryNumber : (timetable lines : List ℕ) (work from to minute : ℕ) → ℕ
+queryNumber timetable lines work from to minute = firstNo (queryQuestions timetable lines work from to minute)

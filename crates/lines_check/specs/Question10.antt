@@ -14,20 +14,20 @@ use Rattle.lines_tables.specs.Tables.{tableWords}
 
 -- the words begin with those of the timetable's line tables: "no question judges the words past a table"
 unfoldable pub begins : List ℕ → Timetable → Bool
-begins v t = same (tableWords t) (take (length (tableWords t)) v)
+begins lines timetable = same (tableWords timetable) (take (length (tableWords timetable)) lines)
 
--- the line tables v are those of the timetable w
-abbrev pub areTables : (w v : List ℕ) → Bool
-areTables w v = begins v (timetableOf w)
+-- the line tables are those of the timetable
+abbrev pub areTables : (timetable lines : List ℕ) → Bool
+areTables timetable lines = begins lines (timetableOf timetable)
 
--- a timetable w, line tables v and working space of n words: "Are the slices long enough ..? 8", "Could the timetable
--- words come from an accepted text? 9", and question 10
-abbrev pub tablesQuestions : (w v : List ℕ) (n : ℕ) → List Question
-tablesQuestions w v n =
-    ask 8 (leb slicesLeast (length w) && leb slicesLeast (length v) && leb slicesLeast n)
-    ∷ ask 9 (isTimetable w)
-    ∷ ask 10 (areTables w v)
+-- a timetable, line tables and working space of that many words: "Are the slices long enough ..? 8", "Could the
+-- timetable words come from an accepted text? 9", and question 10
+abbrev pub tablesQuestions : (timetable lines : List ℕ) (work : ℕ) → List Question
+tablesQuestions timetable lines work =
+    ask 8 (leb slicesLeast (length timetable) && leb slicesLeast (length lines) && leb slicesLeast work)
+    ∷ ask 9 (isTimetable timetable)
+    ∷ ask 10 (areTables timetable lines)
     ∷ []
 
-unfoldable pub tablesNumber : (w v : List ℕ) (n : ℕ) → ℕ
-tablesNumber w v n = firstNo (tablesQuestions w v n)
+unfoldable pub tablesNumber : (timetable lines : List ℕ) (work : ℕ) → ℕ
+tablesNumber timetable lines work = firstNo (tablesQuestions timetable lines work)

@@ -17,30 +17,33 @@ use Rattle.lines_tables.specs.Tables.{tableWords}
 abbrev pub slicesLeast : ℕ
 slicesLeast = 16384
 
--- the timetable w, a slice of m words for line tables and working space of n words: "Are the slices long enough ..? 8",
--- "Could the timetable words come from an accepted text? 9"; 0 where both have a yes
-unfoldable pub buildNumber : List ℕ → (m n : ℕ) → ℕ
-buildNumber w m n =
+-- a timetable, a slice of that many words for line tables and working space: "Are the slices long enough ..? 8", "Could
+-- the timetable words come from an accepted text? 9"; 0 where both have a yes
+unfoldable pub buildNumber : (timetable : List ℕ) (room work : ℕ) → ℕ
+buildNumber timetable room work =
     firstNo
-    (ask 8 (leb slicesLeast (length w) && leb slicesLeast m && leb slicesLeast n)
-    ∷ ask 9 (isTimetable w)
+    (ask 8 (leb slicesLeast (length timetable) && leb slicesLeast room && leb slicesLeast work)
+    ∷ ask 9 (isTimetable timetable)
     ∷ [])
 
 -- "building the line tables their lines"
 abbrev pub lineCount : Timetable → ℕ
-lineCount t = length (lines (t .trips))
+lineCount timetable = length (lines (timetable .trips))
 
-unfoldable pub buildReply : List ℕ → (m n : ℕ) → Reply
-buildReply w m n = replyOf (buildNumber w m n) (lineCount (timetableOf w))
+unfoldable pub buildReply : (timetable : List ℕ) (room work : ℕ) → Reply
+buildReply timetable room work = replyOf (buildNumber timetable room work) (lineCount (timetableOf timetable))
 
 -- its number and count
-unfoldable pub buildValues : List ℕ → (m n : ℕ) → List ℕ
-buildValues w m n = valuesFor (buildNumber w m n) (lineCount (timetableOf w))
+unfoldable pub buildValues : (timetable : List ℕ) (room work : ℕ) → List ℕ
+buildValues timetable room work = valuesFor (buildNumber timetable room work) (lineCount (timetableOf timetable))
 
-pub build-values : (w : List ℕ) (m n : ℕ) (r : Reply) → r ≡ buildReply w m n → valuesOf r ≡ buildValues w m n
+pub build-values : (timetable : List ℕ) (room work : ℕ) (reply : Reply) → reply ≡ buildReply timetable room work
+    → valuesOf reply ≡ buildValues timetable room work
 unfolding buildReply buildValues
-build-values w m n r e = reply-values (buildNumber w m n) (lineCount (timetableOf w)) r e
+build-values timetable room work reply e =
+    reply-values (buildNumber timetable room work) (lineCount (timetableOf timetable)) reply e
 
--- the words of the slice after the call
-unfoldable pub buildWords : List ℕ → (old : List ℕ) (n : ℕ) → List ℕ
-buildWords w old n = wordsAfter (buildNumber w (length old) n) (tableWords (timetableOf w)) old
+-- the words of the slice after the call, which held these before
+unfoldable pub buildWords : (timetable before : List ℕ) (work : ℕ) → List ℕ
+buildWords timetable before work =
+    wordsAfter (buildNumber timetable (length before) work) (tableWords (timetableOf timetable)) before

@@ -10,75 +10,86 @@ use Rattle.timetable.specs.Timetable.{Stop, Trip, Timetable, numberOf}
 use Rattle.connections.specs.Rides.{noStop, ridePoints}
 use Rattle.lines.specs.Lines.{lines, course, calls}
 
--- the stop at place p of the trip at place z
-abbrev pub stopOf : List Trip → (z p : ℕ) → Stop
-stopOf t z p = getD (getD t z []) p noStop
+-- the stop at a place of the trip at a place, which count from 0
+abbrev pub stopOf : List Trip → (trip place : ℕ) → Stop
+stopOf trips trip place = getD (getD trips trip []) place noStop
 
--- arrivals, or departures, of the trips of a line at place p
-unfoldable pub timeRow : List Trip → (departs : Bool) (p : ℕ) (line : List ℕ) → List ℕ
-timeRow t departs p line = map (λ z. cond departs ((stopOf t z p) .depart) ((stopOf t z p) .arrive)) line
+-- arrivals, or departures, of the trips of a line at a place
+unfoldable pub timeRow : List Trip → (departs : Bool) (place : ℕ) (line : List ℕ) → List ℕ
+timeRow trips departs place line =
+    map (λ trip. cond departs ((stopOf trips trip place) .depart) ((stopOf trips trip place) .arrive)) line
 
 -- times by stop, then by trip
 unfoldable pub lineTimes : List Trip → (line : List ℕ) → List ℕ
-lineTimes t line =
-    concatMap (λ p. timeRow t false p line ++ timeRow t true p line) (range 0 (length (course t line)))
+lineTimes trips line =
+    concatMap
+    (λ place. timeRow trips false place line ++ timeRow trips true place line)
+    (range 0 (length (course trips line)))
 
 -- Document 02, Three: "keep totals from the line's first stop, two words each since one can reach 204,700, and take a
--- ride's penalty as the difference of two." The total at place p is the penalty of the ride from the first stop there.
-abbrev pub totalOn : Trip → (p : ℕ) → ℕ
-totalOn c p = ridePoints c 0 p
+-- ride's penalty as the difference of two." The total at a place is the penalty of the ride from the first stop there.
+abbrev pub totalOn : Trip → (place : ℕ) → ℕ
+totalOn trip place = ridePoints trip 0 place
 
 -- Document 02, Two: "The mark is kept with the stop". Station and mark have one word: stations are below 128.
 abbrev pub callWord : Stop → ℕ
-callWord s = s .station + 128 * s .mark
+callWord stop = stop .station + 128 * stop .mark
 
 -- the words of a position: its station and mark, and the total there, low word first
 abbrev pub positionWords : (call total : ℕ) → List ℕ
 positionWords call total = call ∷ total % 65536 ∷ total / 65536 ∷ []
 
 unfoldable pub courseWords : Trip → List ℕ
-courseWords c =
-    concatMap (λ p. positionWords (callWord (getD c p noStop)) (totalOn c p)) (range 0 (length c))
+courseWords trip =
+    concatMap
+    (λ place. positionWords (callWord (getD trip place noStop)) (totalOn trip place))
+    (range 0 (length trip))
 
 -- all words of one line: positions, trips, the trips' numbers, the course, the times
 unfoldable pub lineWords : Timetable → (line : List ℕ) → List ℕ
-lineWords t line =
-    length (course (t .trips) line)
+lineWords timetable line =
+    length (course (timetable .trips) line)
     ∷ length line
-    ∷ (map (numberOf t) line ++ courseWords (course (t .trips) line) ++ lineTimes (t .trips) line)
+    ∷ (map (numberOf timetable) line
+    ++ courseWords (course (timetable .trips) line)
+    ++ lineTimes (timetable .trips) line)
 
--- where the words of each line begin, those of the first at index k
-unfoldable pub linePlaces : Timetable → (k : ℕ) → List (List ℕ) → List ℕ
-linePlaces t k [] = []
-linePlaces t k (l ∷ ls) = k ∷ linePlaces t (k + length (lineWords t l)) ls
+-- where the words of each line begin, those of the first at this index
+unfoldable pub linePlaces : Timetable → (index : ℕ) → List (List ℕ) → List ℕ
+linePlaces timetable index [] = []
+linePlaces timetable index (line ∷ rest) =
+    index ∷ linePlaces timetable (index + length (lineWords timetable line)) rest
 
 unfoldable pub allLineWords : Timetable → List (List ℕ) → List ℕ
-allLineWords t ls = concatMap (lineWords t) ls
+allLineWords timetable found = concatMap (lineWords timetable) found
 
--- (line, position) at which lines call at station s
-unfoldable pub callPairs : List Trip → (s : ℕ) → List ℕ
-callPairs t s = concatMap (λ q. q) (calls t s)
+-- (line, position) at which lines call at a station
+unfoldable pub callPairs : List Trip → (station : ℕ) → List ℕ
+callPairs trips station = concatMap (λ pair. pair) (calls trips station)
 
--- those of n stations from s on, and where each station's begin, the first at index k
-unfoldable pub allCallPairs : List Trip → (s n : ℕ) → List ℕ
-allCallPairs t s n = concatMap (callPairs t) (range s n)
+-- those of so many stations from one on, and where each station's begin, the first at this index
+unfoldable pub allCallPairs : List Trip → (station count : ℕ) → List ℕ
+allCallPairs trips station count = concatMap (callPairs trips) (range station count)
 
-unfoldable pub callPlaces : List Trip → (k s n : ℕ) → List ℕ
-callPlaces t k s zero = k ∷ []
-callPlaces t k s (suc n) = k ∷ callPlaces t (k + length (callPairs t s)) (suc s) n
+unfoldable pub callPlaces : List Trip → (index station count : ℕ) → List ℕ
+callPlaces trips index station zero = index ∷ []
+callPlaces trips index station (suc count) =
+    index ∷ callPlaces trips (index + length (callPairs trips station)) (suc station) count
 
 -- where the lists of stations begin
 abbrev pub indexPlace : Timetable → ℕ
-indexPlace t = 4 + length (lines (t .trips)) + length (allLineWords t (lines (t .trips)))
+indexPlace timetable =
+    4 + length (lines (timetable .trips)) + length (allLineWords timetable (lines (timetable .trips)))
 
 -- the line tables of a timetable
 unfoldable pub tableWords : Timetable → List ℕ
-tableWords t =
-    length (t .stations)
-    ∷ length (lines (t .trips))
-    ∷ length (t .trips)
-    ∷ indexPlace t
-    ∷ (linePlaces t (4 + length (lines (t .trips))) (lines (t .trips))
-    ++ allLineWords t (lines (t .trips))
-    ++ callPlaces (t .trips) (indexPlace t + length (t .stations) + 1) 1 (length (t .stations))
-    ++ allCallPairs (t .trips) 1 (length (t .stations)))
+tableWords timetable =
+    length (timetable .stations)
+    ∷ length (lines (timetable .trips))
+    ∷ length (timetable .trips)
+    ∷ indexPlace timetable
+    ∷ (linePlaces timetable (4 + length (lines (timetable .trips))) (lines (timetable .trips))
+    ++ allLineWords timetable (lines (timetable .trips))
+    ++ callPlaces (timetable .trips) (indexPlace timetable + length (timetable .stations) + 1) 1
+    (length (timetable .stations))
+    ++ allCallPairs (timetable .trips) 1 (length (timetable .stations)))

@@ -1,5 +1,5 @@
 -- The words before here agree, so all depends on those from here on: one turn of each loop that compares, and its end.
-use mathlib.Core.Path.{_≡_, refl, sym, ap, _∙_}
+use mathlib.Core.Path.{_≡_, sym, ap, _∙_}
 use mathlib.Core.Bool.{Bool, true, false, not, _&&_}
 use mathlib.Core.List.{List}
 use Prim.Native.Nat.{ℕ, suc, _+_, _-_, _*_, _≤_, _<_}
@@ -9,6 +9,7 @@ use borrow.Author.Tests.{eq-eqb, ne-eqb, not-true, not-false}
 use lib.Dec.{eqb}
 use lib.ListN.{length, getD, drop}
 use lib.Seq.{slice, slice-cons, slice-empty, drop-cons, drop-drop, length-slice}
+use Rattle.lists.specs.Tests.{and-true}
 use Rattle.lines_lookup.specs.Lookup.{Line}
 use Rattle.lines_turned.specs.Turned.{
   stepped,
@@ -20,10 +21,6 @@ use Rattle.lines_turned.specs.Turned.{
   starts,
   starts-append,
 }
-
-and-true : (b : Bool) → (b && true) ≡ b
-and-true true = refl
-and-true false = refl
 
 -- ---- a part as it is
 module _ (v u : List ℕ) (from end k : ℕ)

@@ -13,43 +13,51 @@ use Rattle.lines_tables.specs.Tables.{stopOf, courseWords, linePlaces, callPlac
 use Rattle.lines_lookup.specs.Lookup.{Line, coursePlace}
 use Rattle.lists.specs.First.{firstFrom}
 
--- arrival and departure of the trip at place z, stop by stop, at so many stops
-unfoldable pub tripTimes : List Trip → (stops z : ℕ) → List ℕ
-tripTimes t stops z = concatMap (λ p. (stopOf t z p) .arrive ∷ (stopOf t z p) .depart ∷ []) (range 0 stops)
+-- arrival and departure of the trip at a place among the trips, stop by stop, at so many stops
+unfoldable pub tripTimes : List Trip → (stops trip : ℕ) → List ℕ
+tripTimes trips stops trip =
+    concatMap
+    (λ place. (stopOf trips trip place) .arrive ∷ (stopOf trips trip place) .depart ∷ [])
+    (range 0 stops)
 
 -- times by trip, then by stop
 unfoldable pub timesByTrip : List Trip → (line : List ℕ) → List ℕ
-timesByTrip t line = concatMap (tripTimes t (length (course t line))) line
+timesByTrip trips line = concatMap (tripTimes trips (length (course trips line))) line
 
 -- all words of one line: positions, trips, the trips' numbers, the course, the times
 unfoldable pub lineByTrip : Timetable → (line : List ℕ) → List ℕ
-lineByTrip t line =
-    length (course (t .trips) line)
+lineByTrip timetable line =
+    length (course (timetable .trips) line)
     ∷ length line
-    ∷ (map (numberOf t) line ++ courseWords (course (t .trips) line) ++ timesByTrip (t .trips) line)
+    ∷ (map (numberOf timetable) line
+    ++ courseWords (course (timetable .trips) line)
+    ++ timesByTrip (timetable .trips) line)
 
 -- the line tables of a timetable, times by trip; the places of lines and lists are the same in both layouts
 unfoldable pub wordsByTrip : Timetable → List ℕ
-wordsByTrip t =
-    length (t .stations)
-    ∷ length (lines (t .trips))
-    ∷ length (t .trips)
-    ∷ indexPlace t
-    ∷ (linePlaces t (4 + length (lines (t .trips))) (lines (t .trips))
-    ++ concatMap (lineByTrip t) (lines (t .trips))
-    ++ callPlaces (t .trips) (indexPlace t + length (t .stations) + 1) 1 (length (t .stations))
-    ++ allCallPairs (t .trips) 1 (length (t .stations)))
+wordsByTrip timetable =
+    length (timetable .stations)
+    ∷ length (lines (timetable .trips))
+    ∷ length (timetable .trips)
+    ∷ indexPlace timetable
+    ∷ (linePlaces timetable (4 + length (lines (timetable .trips))) (lines (timetable .trips))
+    ++ concatMap (lineByTrip timetable) (lines (timetable .trips))
+    ++ callPlaces (timetable .trips) (indexPlace timetable + length (timetable .stations) + 1) 1
+    (length (timetable .stations))
+    ++ allCallPairs (timetable .trips) 1 (length (timetable .stations)))
 
--- ---- looking up: where the times of the trip at place j begin, and its arrival and departure at place p
-abbrev pub tripPlace : Line → (j : ℕ) → ℕ
-tripPlace l j = coursePlace l + 3 * l .positions + j * (2 * l .positions)
+-- ---- looking up: where the times of the trip at a place among the line's trips begin, and its arrival and departure
+-- at a place of the line
+abbrev pub tripPlace : Line → (trip : ℕ) → ℕ
+tripPlace line trip = coursePlace line + 3 * line .positions + trip * (2 * line .positions)
 
-unfoldable pub arriveByTrip : List ℕ → Line → (p j : ℕ) → ℕ
-arriveByTrip u l p j = getD u (tripPlace l j + 2 * p) 0
+unfoldable pub arriveByTrip : (other : List ℕ) → Line → (place trip : ℕ) → ℕ
+arriveByTrip other line place trip = getD other (tripPlace line trip + 2 * place) 0
 
-unfoldable pub departByTrip : List ℕ → Line → (p j : ℕ) → ℕ
-departByTrip u l p j = getD u (tripPlace l j + 2 * p + 1) 0
+unfoldable pub departByTrip : (other : List ℕ) → Line → (place trip : ℕ) → ℕ
+departByTrip other line place trip = getD other (tripPlace line trip + 2 * place + 1) 0
 
 -- "the first trip of the line that leaves at or after the minute"
-abbrev pub firstByTrip : List ℕ → Line → (x minute : ℕ) → ℕ
-firstByTrip u l x minute = firstFrom (λ j. leb minute (departByTrip u l x j)) 0 (l .trips)
+abbrev pub firstByTrip : (other : List ℕ) → Line → (place minute : ℕ) → ℕ
+firstByTrip other line place minute =
+    firstFrom (λ trip. leb minute (departByTrip other line place trip)) 0 (line .trips)

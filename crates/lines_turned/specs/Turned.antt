@@ -6,7 +6,7 @@ use mathlib.Core.List.{List, [], _∷_, _++_}
 use Prim.Native.Nat.{ℕ, zero, suc, _+_, _*_}
 use native.Mathlib.Omega.{arith}
 use lib.Dec.{eqb}
-use lib.ListN.{length, getD, take, drop, length-append}
+use lib.ListN.{length, getD, take, drop}
 use lib.Seq.{slice}
 use Rattle.lists.specs.Lists.{same}
 use Rattle.lines_lookup.specs.Lookup.{Line, coursePlace}
@@ -38,17 +38,6 @@ module _ (v : List ℕ) where
   unfolding stepped
   length-stepped k trips zero = refl
   length-stepped k trips (suc n) = omega (arith, length-stepped (k + 2 * trips) trips n)
-
-  pub length-turnedTrips : (k trips stops n : ℕ) → length (turnedTrips v k trips stops n) ≡ n * (2 * stops)
-  unfolding turnedTrips
-  length-turnedTrips k trips stops zero = omega arith
-  length-turnedTrips k trips stops (suc n) =
-      omega (
-        arith,
-        length-append (stepped v k trips stops) (turnedTrips v (k + 1) trips stops n),
-        length-stepped k trips stops,
-        length-turnedTrips (k + 1) trips stops n,
-      )
 
 -- ---- words that begin with others
 unfoldable pub starts : (x z : List ℕ) → Bool

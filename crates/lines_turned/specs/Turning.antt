@@ -16,63 +16,82 @@ use Rattle.lines_tables.specs.Building.{slicesLeast, lineCount}
 use Rattle.lines_check.specs.Question10.{areTables}
 use Rattle.lines_turned.specs.ByTrip.{wordsByTrip}
 
--- question 10 in the other layout: the words u begin with those of the timetable's tables, times by trip
-unfoldable pub areByTrip : (w u : List ℕ) → Bool
-areByTrip w u = same (wordsByTrip (timetableOf w)) (take (length (wordsByTrip (timetableOf w))) u)
+-- question 10 in the other layout: the words begin with those of the timetable's tables, times by trip
+unfoldable pub areByTrip : (timetable other : List ℕ) → Bool
+areByTrip timetable other =
+    same (wordsByTrip (timetableOf timetable)) (take (length (wordsByTrip (timetableOf timetable))) other)
 
--- the timetable w, tables of k words, working space of n words, a result slice of m words: "Are the slices long
--- enough ..? 8", "Could the timetable words come from an accepted text? 9"
-abbrev pub slicesQuestions : (w : List ℕ) (k n m : ℕ) → List Question
-slicesQuestions w k n m =
-    ask 8 (leb slicesLeast (length w) && leb slicesLeast k && leb slicesLeast n && leb slicesLeast m)
-    ∷ ask 9 (isTimetable w)
+-- a timetable, and tables, working space and a result slice of that many words: "Are the slices long enough ..? 8",
+-- "Could the timetable words come from an accepted text? 9"
+abbrev pub slicesQuestions : (timetable : List ℕ) (tables work room : ℕ) → List Question
+slicesQuestions timetable tables work room =
+    ask 8
+    (leb slicesLeast (length timetable)
+    && leb slicesLeast tables
+    && leb slicesLeast work
+    && leb slicesLeast room)
+    ∷ ask 9 (isTimetable timetable)
     ∷ []
 
-unfoldable pub slicesNumber : (w : List ℕ) (k n m : ℕ) → ℕ
-slicesNumber w k n m = firstNo (slicesQuestions w k n m)
+unfoldable pub slicesNumber : (timetable : List ℕ) (tables work room : ℕ) → ℕ
+slicesNumber timetable tables work room = firstNo (slicesQuestions timetable tables work room)
 
 -- and question 10, which has this answer
-unfoldable pub turnNumber : (w : List ℕ) (k n m : ℕ) (own : Bool) → ℕ
-turnNumber w k n m own = firstNo (slicesQuestions w k n m ++ (ask 10 own ∷ []))
+unfoldable pub turnNumber : (timetable : List ℕ) (tables work room : ℕ) (own : Bool) → ℕ
+turnNumber timetable tables work room own =
+    firstNo (slicesQuestions timetable tables work room ++ (ask 10 own ∷ []))
 
 -- where the slices and the timetable have their yes, question 10 alone is left
-unfoldable pub ownReply : (w : List ℕ) (own : Bool) → Reply
-ownReply w own = replyOf (firstNo (ask 10 own ∷ [])) (lineCount (timetableOf w))
+unfoldable pub ownReply : (timetable : List ℕ) (own : Bool) → Reply
+ownReply timetable own = replyOf (firstNo (ask 10 own ∷ [])) (lineCount (timetableOf timetable))
 
-unfoldable pub ownWords : (own : Bool) (result old : List ℕ) → List ℕ
-ownWords own result old = wordsAfter (firstNo (ask 10 own ∷ [])) result old
+unfoldable pub ownWords : (own : Bool) (result before : List ℕ) → List ℕ
+ownWords own result before = wordsAfter (firstNo (ask 10 own ∷ [])) result before
 
--- ---- to times by trip: the timetable w, line tables v, working space of n words, the words of the result slice
-abbrev pub byTripNumber : (w v : List ℕ) (n m : ℕ) → ℕ
-byTripNumber w v n m = turnNumber w (length v) n m (areTables w v)
+-- ---- to times by trip: a timetable, line tables, working space of that many words, and a result slice, which has so
+-- much room, or held these words before
+abbrev pub byTripNumber : (timetable lines : List ℕ) (work room : ℕ) → ℕ
+byTripNumber timetable lines work room =
+    turnNumber timetable (length lines) work room (areTables timetable lines)
 
-unfoldable pub byTripReply : (w v : List ℕ) (n m : ℕ) → Reply
-byTripReply w v n m = replyOf (byTripNumber w v n m) (lineCount (timetableOf w))
+unfoldable pub byTripReply : (timetable lines : List ℕ) (work room : ℕ) → Reply
+byTripReply timetable lines work room =
+    replyOf (byTripNumber timetable lines work room) (lineCount (timetableOf timetable))
 
-unfoldable pub byTripValues : (w v : List ℕ) (n m : ℕ) → List ℕ
-byTripValues w v n m = valuesFor (byTripNumber w v n m) (lineCount (timetableOf w))
+unfoldable pub byTripValues : (timetable lines : List ℕ) (work room : ℕ) → List ℕ
+byTripValues timetable lines work room =
+    valuesFor (byTripNumber timetable lines work room) (lineCount (timetableOf timetable))
 
-unfoldable pub byTripWords : (w v : List ℕ) (n : ℕ) (old : List ℕ) → List ℕ
-byTripWords w v n old = wordsAfter (byTripNumber w v n (length old)) (wordsByTrip (timetableOf w)) old
+unfoldable pub byTripWords : (timetable lines : List ℕ) (work : ℕ) (before : List ℕ) → List ℕ
+byTripWords timetable lines work before =
+    wordsAfter (byTripNumber timetable lines work (length before)) (wordsByTrip (timetableOf timetable)) before
 
--- ---- and back: u are tables with times by trip
-abbrev pub byStopNumber : (w u : List ℕ) (n m : ℕ) → ℕ
-byStopNumber w u n m = turnNumber w (length u) n m (areByTrip w u)
+-- ---- and back from other tables, with times by trip
+abbrev pub byStopNumber : (timetable other : List ℕ) (work room : ℕ) → ℕ
+byStopNumber timetable other work room =
+    turnNumber timetable (length other) work room (areByTrip timetable other)
 
-unfoldable pub byStopReply : (w u : List ℕ) (n m : ℕ) → Reply
-byStopReply w u n m = replyOf (byStopNumber w u n m) (lineCount (timetableOf w))
+unfoldable pub byStopReply : (timetable other : List ℕ) (work room : ℕ) → Reply
+byStopReply timetable other work room =
+    replyOf (byStopNumber timetable other work room) (lineCount (timetableOf timetable))
 
-unfoldable pub byStopValues : (w u : List ℕ) (n m : ℕ) → List ℕ
-byStopValues w u n m = valuesFor (byStopNumber w u n m) (lineCount (timetableOf w))
+unfoldable pub byStopValues : (timetable other : List ℕ) (work room : ℕ) → List ℕ
+byStopValues timetable other work room =
+    valuesFor (byStopNumber timetable other work room) (lineCount (timetableOf timetable))
 
-unfoldable pub byStopWords : (w u : List ℕ) (n : ℕ) (old : List ℕ) → List ℕ
-byStopWords w u n old = wordsAfter (byStopNumber w u n (length old)) (tableWords (timetableOf w)) old
+unfoldable pub byStopWords : (timetable other : List ℕ) (work : ℕ) (before : List ℕ) → List ℕ
+byStopWords timetable other work before =
+    wordsAfter (byStopNumber timetable other work (length before)) (tableWords (timetableOf timetable)) before
 
 -- ---- number and count of a reply
-pub by-trip-values : (w v : List ℕ) (n m : ℕ) (r : Reply) → r ≡ byTripReply w v n m → valuesOf r ≡ byTripValues w v n m
+pub by-trip-values : (timetable lines : List ℕ) (work room : ℕ) (reply : Reply)
+    → reply ≡ byTripReply timetable lines work room → valuesOf reply ≡ byTripValues timetable lines work room
 unfolding byTripReply byTripValues
-by-trip-values w v n m r e = reply-values (byTripNumber w v n m) (lineCount (timetableOf w)) r e
+by-trip-values timetable lines work room reply e =
+    reply-values (byTripNumber timetable lines work room) (lineCount (timetableOf timetable)) reply e
 
-pub by-stop-values : (w u : List ℕ) (n m : ℕ) (r : Reply) → r ≡ byStopReply w u n m → valuesOf r ≡ byStopValues w u n m
+pub by-stop-values : (timetable other : List ℕ) (work room : ℕ) (reply : Reply)
+    → reply ≡ byStopReply timetable other work room → valuesOf reply ≡ byStopValues timetable other work room
 unfolding byStopReply byStopValues
-by-stop-values w u n m r e = reply-values (byStopNumber w u n m) (lineCount (timetableOf w)) r e
+by-stop-values timetable other work room reply e =
+    reply-values (byStopNumber timetable other work room) (lineCount (timetableOf timetable)) reply e

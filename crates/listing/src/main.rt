@@ -1,15 +1,13 @@
 // The listing: reads `timetable.txt` and queries from standard input, and writes what they print. It only moves bytes;
 // which ones it writes is said and proved in the crate listing_input.
-mod input;
-
 ghost use mathlib.Core.Path.{_≡_};
 ghost use Prim.Native.Nat.{_≤_};
 ghost use lib.ListN.{length};
-use input::CHUNK_BYTES;
-use input::Kept;
-use input::Unread;
 use libc::STDIN_FILENO;
 use libc::STDOUT_FILENO;
+use listing_chunks::CHUNK_BYTES;
+use listing_chunks::Kept;
+use listing_chunks::Unread;
 use listing_input::TABLE_WORDS;
 use listing_lines::LINE_BYTES;
 use listing_stores::OUT_BYTES;
@@ -32,7 +30,7 @@ fn read_text(text: &mut [u8]) -> Kept
             failed: false,
         };
     }
-    let kept = input::read_file(fd, text);
+    let kept = listing_chunks::read_file(fd, text);
     if kept.failed {
         os::fail(b"timetable.txt");
     }
@@ -91,7 +89,7 @@ fn answer_input(timetable: &[u16], lines: &[u16], work: &mut [u32], out: &mut [u
     let mut made = listing_stores::make(timetable, lines, work, NO_SOURCE, &mut store);
     let mut turns = u64::MAX;
     while turns > 0 {
-        unread = input::refill(STDIN_FILENO, &mut chunk, unread);
+        unread = listing_chunks::refill(STDIN_FILENO, &mut chunk, unread);
         let at = unread.at;
         let end = unread.end;
         if at == end {
@@ -112,11 +110,7 @@ fn answer_input(timetable: &[u16], lines: &[u16], work: &mut [u32], out: &mut [u
         write(out, taken.count);
         made = taken.made;
         kept = taken.kept;
-        unread = Unread {
-            at: at + taken.used,
-            end,
-            failed: false,
-        };
+        unread = listing_chunks::pass(unread, taken.used);
         turns -= 1;
     }
 }

@@ -20,57 +20,68 @@ use Rattle.lines_tables.specs.Tables.{tableWords}
 use Rattle.lines_tables.specs.Building.{lineCount}
 use Rattle.lines_check.specs.Question10.{tablesQuestions}
 
--- ---- cancelling trip n, where a timetable w, line tables v and working space of m words are lent
+-- ---- cancelling a trip by its number, where a timetable, line tables and working space of that many words are lent
 -- "Turned away: 18, cancelling a trip that isn't running, .. after 10"
-unfoldable pub cancelNumber : (w v : List ℕ) (m n : ℕ) → ℕ
-cancelNumber w v m n = firstNo (tablesQuestions w v m ++ (ask 18 (runsAs n ((timetableOf w) .numbers)) ∷ []))
+unfoldable pub cancelNumber : (timetable lines : List ℕ) (work trip : ℕ) → ℕ
+cancelNumber timetable lines work trip =
+    firstNo
+    (tablesQuestions timetable lines work ++ (ask 18 (runsAs trip ((timetableOf timetable) .numbers)) ∷ []))
 
 -- the timetable of the trips that now run
-abbrev pub afterCancel : (w : List ℕ) (n : ℕ) → Timetable
-afterCancel w n = cancelled (timetableOf w) n
+abbrev pub afterCancel : (timetable : List ℕ) (trip : ℕ) → Timetable
+afterCancel timetable trip = cancelled (timetableOf timetable) trip
 
 -- "Cancelling and adding return the tables' number of lines."
-unfoldable pub cancelReply : (w v : List ℕ) (m n : ℕ) → Reply
-cancelReply w v m n = replyOf (cancelNumber w v m n) (lineCount (afterCancel w n))
+unfoldable pub cancelReply : (timetable lines : List ℕ) (work trip : ℕ) → Reply
+cancelReply timetable lines work trip =
+    replyOf (cancelNumber timetable lines work trip) (lineCount (afterCancel timetable trip))
 
 -- the words of both slices after the call
-unfoldable pub cancelTimetable : (w v : List ℕ) (m n : ℕ) → List ℕ
-cancelTimetable w v m n = wordsAfter (cancelNumber w v m n) (words (afterCancel w n)) w
+unfoldable pub cancelTimetable : (timetable lines : List ℕ) (work trip : ℕ) → List ℕ
+cancelTimetable timetable lines work trip =
+    wordsAfter (cancelNumber timetable lines work trip) (words (afterCancel timetable trip)) timetable
 
-unfoldable pub cancelLines : (w v : List ℕ) (m n : ℕ) → List ℕ
-cancelLines w v m n = wordsAfter (cancelNumber w v m n) (tableWords (afterCancel w n)) v
+unfoldable pub cancelLines : (timetable lines : List ℕ) (work trip : ℕ) → List ℕ
+cancelLines timetable lines work trip =
+    wordsAfter (cancelNumber timetable lines work trip) (tableWords (afterCancel timetable trip)) lines
 
--- ---- adding trip n by its lines
+-- ---- adding a trip by its number and its lines
 -- "and 19, adding one that is, both after 10"
-unfoldable pub addNumber : (w v : List ℕ) (m n : ℕ) → ℕ
-addNumber w v m n = firstNo (tablesQuestions w v m ++ (ask 19 (not (runsAs n ((timetableOf w) .numbers))) ∷ []))
+unfoldable pub addNumber : (timetable lines : List ℕ) (work trip : ℕ) → ℕ
+addNumber timetable lines work trip =
+    firstNo
+    (tablesQuestions timetable lines work
+    ++ (ask 19 (not (runsAs trip ((timetableOf timetable) .numbers))) ∷ []))
 
 -- "An extra trip comes as its number and its T lines, read after 10 and 19 under 2 to 7"; the others have no line
-unfoldable pub addOutcome : (w v : List ℕ) (m n : ℕ) (text : List ℕ) → Outcome
-addOutcome w v m n text =
-    cond (eqb (addNumber w v m n) 0) (readExtra (timetableOf w) n text) (Refused (addNumber w v m n) 0)
+unfoldable pub addOutcome : (timetable lines : List ℕ) (work trip : ℕ) (text : List ℕ) → Outcome
+addOutcome timetable lines work trip text =
+    cond
+    (eqb (addNumber timetable lines work trip) 0)
+    (readExtra (timetableOf timetable) trip text)
+    (Refused (addNumber timetable lines work trip) 0)
 
 -- the timetable of the trips that now run, where the extra trip is that of `one`
-abbrev pub afterAdd : (w : List ℕ) (n : ℕ) → (one : Timetable) → Timetable
-afterAdd w n one = added (timetableOf w) n (getD (one .trips) 0 [])
+abbrev pub afterAdd : (timetable : List ℕ) (trip : ℕ) → (one : Timetable) → Timetable
+afterAdd timetable trip one = added (timetableOf timetable) trip (getD (one .trips) 0 [])
 
-abbrev pub replyTo : (w : List ℕ) (n : ℕ) → Outcome → LineReply
-replyTo w n (Accepted one lines) = LinesDone (lineCount (afterAdd w n one))
-replyTo w n (Refused number line) = LineRefused number line
+abbrev pub replyTo : (timetable : List ℕ) (trip : ℕ) → Outcome → LineReply
+replyTo timetable trip (Accepted one count) = LinesDone (lineCount (afterAdd timetable trip one))
+replyTo timetable trip (Refused number line) = LineRefused number line
 
-abbrev timetableAfter : (w : List ℕ) (n : ℕ) → Outcome → List ℕ
-timetableAfter w n (Accepted one lines) = put 0 (words (afterAdd w n one)) w
-timetableAfter w n (Refused number line) = w
+abbrev timetableAfter : (timetable : List ℕ) (trip : ℕ) → Outcome → List ℕ
+timetableAfter timetable trip (Accepted one count) = put 0 (words (afterAdd timetable trip one)) timetable
+timetableAfter timetable trip (Refused number line) = timetable
 
-abbrev linesAfter : (w v : List ℕ) (n : ℕ) → Outcome → List ℕ
-linesAfter w v n (Accepted one lines) = put 0 (tableWords (afterAdd w n one)) v
-linesAfter w v n (Refused number line) = v
+abbrev linesAfter : (timetable lines : List ℕ) (trip : ℕ) → Outcome → List ℕ
+linesAfter timetable lines trip (Accepted one count) = put 0 (tableWords (afterAdd timetable trip one)) lines
+linesAfter timetable lines trip (Refused number line) = lines
 
-unfoldable pub addReply : (w v : List ℕ) (m n : ℕ) (text : List ℕ) → LineReply
-addReply w v m n text = replyTo w n (addOutcome w v m n text)
+unfoldable pub addReply : (timetable lines : List ℕ) (work trip : ℕ) (text : List ℕ) → LineReply
+addReply timetable lines work trip text = replyTo timetable trip (addOutcome timetable lines work trip text)
 
-unfoldable pub addTimetable : (w v : List ℕ) (m n : ℕ) (text : List ℕ) → List ℕ
-addTimetable w v m n text = timetableAfter w n (addOutcome w v m n text)
+unfoldable pub addTimetable : (timetable lines : List ℕ) (work trip : ℕ) (text : List ℕ) → List ℕ
+addTimetable timetable lines work trip text = timetableAfter timetable trip (addOutcome timetable lines work trip text)
 
-unfoldable pub addLines : (w v : List ℕ) (m n : ℕ) (text : List ℕ) → List ℕ
-addLines w v m n text = linesAfter w v n (addOutcome w v m n text)
+unfoldable pub addLines : (timetable lines : List ℕ) (work trip : ℕ) (text : List ℕ) → List ℕ
+addLines timetable lines work trip text = linesAfter timetable lines trip (addOutcome timetable lines work trip text)

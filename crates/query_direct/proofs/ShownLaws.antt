@@ -14,8 +14,8 @@ use Rattle.lines_check.specs.Asked.{queryNumber}
 use Rattle.lines_check.specs.Yes.{yes-all}
 use Rattle.query_places.specs.Candidates.{firstRead, nearRead}
 use Rattle.query_minutes.specs.Minutes.{noPoints, noteAll, blank, leads}
-use Rattle.query_direct.specs.Choosing.{rowsFrom}
-use Rattle.query_direct.specs.Keeping.{Keeps, rowsKept, rows-kept}
+use Rattle.query_kept.specs.Choosing.{rowsFrom}
+use Rattle.query_kept.specs.Keeping.{Keeps, rowsKept, rows-kept}
 use Rattle.query_direct.specs.Shown.{bestOf, leadsOf, foundNumber, foundWords, foundReply, foundAnswer}
 
 pub best-found : (v filled best : List ℕ) (a b u : ℕ) → filled ≡ blank → best ≡ noteAll filled (firstRead v a u b)

@@ -17,7 +17,7 @@ use Rattle.connections.specs.Connections.{Connection, direct, duration, penalty
 use Rattle.connections.specs.Planner.{tieKey, measure, rowsOf}
 use Rattle.query_nearest.specs.Bounds.{Bounds}
 use Rattle.query_minutes.specs.Minutes.{noPoints, noteAll, blank, leads}
-use Rattle.query_direct.specs.Choosing.{pickFor, rowFor, rowsFrom}
+use Rattle.query_kept.specs.Choosing.{pickFor, rowFor, rowsFrom}
 use Rattle.query_minutes.specs.Noted.{LeastNoted, least-noted, Led, led-exactly, Rises, leads-rise}
 use Rattle.query_direct.specs.Picking.{rideFor, found-for, Shown, ride-for}
 

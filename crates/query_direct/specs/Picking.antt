@@ -16,7 +16,7 @@ use Rattle.connections.specs.Rides.{Ride}
 use Rattle.connections.specs.Connections.{direct}
 use Rattle.connections.specs.Planner.{tieKey}
 use Rattle.query_nearest.specs.Bounds.{Bounds}
-use Rattle.query_direct.specs.Choosing.{foundOf, goesBefore, pickFrom, ofCost, pickFor}
+use Rattle.query_kept.specs.Choosing.{foundOf, goesBefore, pickFrom, ofCost, pickFor}
 
 -- ---- one ride against another
 abbrev pub key : Ride → List ℕ

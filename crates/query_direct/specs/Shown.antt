@@ -33,7 +33,7 @@ use Rattle.promises.specs.Query.{rowWords}
 use Rattle.promises.specs.DirectQuery.{rides, rows, lastQuestions, directNumber, directReply, directWords}
 use Rattle.query_places.specs.Candidates.{firstRead, nearRead}
 use Rattle.query_minutes.specs.Minutes.{noPoints, noteAll, blank, leads}
-use Rattle.query_direct.specs.Choosing.{rowsFrom}
+use Rattle.query_kept.specs.Choosing.{rowsFrom}
 use Rattle.query_direct.specs.Chosen.{rows-chosen, rows-count, none-chosen, rows-long}
 use Rattle.query_nearest.specs.Gathered.{read-costs, first-bounds, near-bounds, near-rows, near-none}
 

@@ -1,18 +1,16 @@
 // Direct rides: the costs of the query from the first trips of the lines, and for each cost the ride that is shown.
 mod costs;
-mod rides;
-mod rows;
 
 ghost use mathlib.Core.Path.{_≡_};
 ghost use lib.ListN.{length};
 ghost use Rattle.replies.specs.Replies.{valuesOf};
 ghost use Rattle.promises.specs.DirectQuery.{directReply, directValues, directWords};
 ghost use Rattle.query_direct.specs.Shown.{foundReply, foundAnswer};
+use query_kept::KEPT_WORDS;
+use query_kept::ROW_WORDS;
 use query_minutes::MINUTES;
 use query_minutes::NO_POINTS;
 use replies::Reply;
-use rides::KEPT_WORDS;
-use rows::ROW_WORDS;
 
 // Answers a query from line tables that belong to the timetable. The answer is measured before a word is written.
 fn show(
@@ -35,8 +33,8 @@ fn show(
     if answer.len() < ROW_WORDS * count {
         return Reply::Refused { number: 15 };
     }
-    rides::find_rides(v, from, to, minute, &best, kept);
-    rows::write_rows(&best, kept, minute, answer);
+    query_kept::find_rides(v, from, to, minute, &best, kept);
+    query_kept::write_rows(&best, kept, minute, answer);
     Reply::Done {
         count: count as u32,
     }

@@ -30,11 +30,6 @@ odd-length [] o = absurd o
 odd-length (x ∷ []) o = (0, refl)
 odd-length (x ∷ y ∷ q) o = let r = odd-length q o in (suc (r .0), omega (arith, r .1))
 
-pub even-length : (q : List ℕ) → Even q → (k : ℕ) × (length q ≡ 2 * k)
-even-length [] o = (0, refl)
-even-length (x ∷ []) o = absurd o
-even-length (x ∷ y ∷ q) o = let r = even-length q o in (suc (r .0), omega (arith, r .1))
-
 pub odd-full : (q : List ℕ) → Odd q → q ≢ []
 odd-full [] o e = o
 odd-full (x ∷ q) o e = omega (arith, ap length e)

@@ -16,19 +16,21 @@ use Rattle.connections.specs.Planner.{plannerList, measure}
 abbrev pub minutes : List ℕ
 minutes = range 0 (suc lastMinute)
 
-abbrev pub targets : Net → (a : ℕ) → List ℕ
-targets n a = filter (λ b. not (eqb b a)) (range 1 (n .stations))
+abbrev pub targets : Net → (source : ℕ) → List ℕ
+targets n source = filter (λ target. not (eqb target source)) (range 1 (n .stations))
 
 -- every optimal connection, of equal cost or not
-unfoldable pub optimals : Net → (a t b : ℕ) → List Connection
-optimals n a t b = let l = plannerList n a t b in filter (undominated (measure t) l) l
+unfoldable pub optimals : Net → (source minute target : ℕ) → List Connection
+optimals n source minute target =
+    let list = plannerList n source minute target in filter (undominated (measure minute) list) list
 
--- the stations of the optimal connections from a, at one of the minutes given and to one of the targets given
-unfoldable pub optimalStations : Net → (a : ℕ) (minutes targets : List ℕ) → List (List ℕ)
-optimalStations n a ts bs = concatMap (λ t. concatMap (λ b. map stations (optimals n a t b)) bs) ts
+-- the stations of the optimal connections from the source, at one of the minutes given and to one of the targets given
+unfoldable pub optimalStations : Net → (source : ℕ) (minutes targets : List ℕ) → List (List ℕ)
+optimalStations n source ms ts =
+    concatMap (λ minute. concatMap (λ target. map stations (optimals n source minute target)) ts) ms
 
-unfoldable pub stored : Net → (a : ℕ) → List (List ℕ)
-stored n a = sort (optimalStations n a minutes (targets n a))
+unfoldable pub stored : Net → (source : ℕ) → List (List ℕ)
+stored n source = sort (optimalStations n source minutes (targets n source))
 
 -- of the timetable that words spell
 abbrev pub sequences : (timetable : List ℕ) (source : ℕ) → List (List ℕ)
@@ -36,18 +38,18 @@ sequences timetable source = stored (net (timetableOf timetable)) source
 
 -- The same in words.
 
-pub record Target (n : Net) (a b : ℕ) : Type 0 where
-  pub first : 1 ≤ b
-  pub last : b ≤ n .stations
-  pub other : b ≢ a
+pub record Target (n : Net) (source target : ℕ) : Type 0 where
+  pub first : 1 ≤ target
+  pub last : target ≤ n .stations
+  pub other : target ≢ source
 
 -- "a store, where one is made, holds a sequence exactly if it is the pattern, by Definition 3, of an optimal connection
--- at some minute of the timetable"; q is that pattern without the source, with which every pattern begins
-pub record Sequence (n : Net) (a : ℕ) (q : List ℕ) : Type 0 where
+-- at some minute of the timetable"; the sequence is that pattern without the source, with which every pattern begins
+pub record Sequence (n : Net) (source : ℕ) (sequence : List ℕ) : Type 0 where
   pub minute : ℕ
   pub target : ℕ
   pub connection : Connection
   pub in-time : minute ≤ lastMinute
-  pub elsewhere : Target n a target
-  pub optimal : Optimal n a minute target connection
-  pub is : pattern a connection ≡ a ∷ q
+  pub elsewhere : Target n source target
+  pub optimal : Optimal n source minute target connection
+  pub is : pattern source connection ≡ source ∷ sequence

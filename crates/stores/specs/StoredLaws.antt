@@ -2,8 +2,8 @@
 -- minutes of the source are enough to find them all, and by theorem 3 the words of a store are well made.
 use mathlib.Core.Path.{_≡_, sym, ap, subst}
 use mathlib.Core.Bool.{not}
-use mathlib.Core.Logic.{_≢_, _↔_}
-use mathlib.Core.List.{List, [], _∷_, _++_, map, Memᴰ·map, Memᴰ·of-map, Memᴰ·cast}
+use mathlib.Core.Logic.{_↔_}
+use mathlib.Core.List.{List, _∷_, _++_, map, Memᴰ·map, Memᴰ·of-map, Memᴰ·cast}
 use Prim.Native.Nat.{ℕ, suc, _*_, _≤_}
 use native.Mathlib.Omega.{arith}
 use lib.Dec.{T, eqb, eqb→eq, T-not, not-T}
@@ -24,7 +24,7 @@ use Rattle.connections.specs.Listed.{optimal-in, optimal-out}
 use Rattle.connections.specs.OptimalLaws.{pattern-short}
 use Rattle.stores.specs.Stored.{minutes, targets, optimals, optimalStations, stored, Target, Sequence}
 use Rattle.stores.specs.Words.{nodes, arcs, ridesMost, entriesMost, readable, storeWords, wellMade}
-use Rattle.stores.specs.Sequences.{Odd, odd-full}
+use Rattle.stores.specs.Sequences.{Odd}
 use Rattle.stores.specs.RoundTrip.{read-back}
 use Rattle.stores.specs.WellMade.{well-made}
 
@@ -139,9 +139,6 @@ module _ (n : Net) (ok : Sound n) where
   stored-odd a q m =
       let s = stored-out a q m in
       subst Odd (sequence-is a q s) (stations-odd (s .connection))
-
-  pub stored-full : (a : ℕ) (q : List ℕ) → q ∈ stored n a → q ≢ []
-  stored-full a q m = odd-full q (stored-odd a q m)
 
   -- theorem 4 for the store of a source
   pub store-read : (a : ℕ) (post q : List ℕ) → q ∈ readable (storeWords n a ++ post) ↔ q ∈ stored n a

@@ -10,7 +10,7 @@ use Rattle.lists.specs.Tests.{either, reads}
 use Rattle.timetable.specs.Timetable.{Timetable, numberOf, numberMost, climb, numbered, valid}
 
 -- ---- numbers that rise
-pub climb-above : (a : ℕ) (l : List ℕ) → T (climb a l) → (i : ℕ) → i < length l → a < getD l i 0
+climb-above : (a : ℕ) (l : List ℕ) → T (climb a l) → (i : ℕ) → i < length l → a < getD l i 0
 unfolding climb
 climb-above a [] t i h = absurd (omega arith)
 climb-above a (n ∷ l) t zero h = search reads
@@ -51,9 +51,6 @@ module _ (t : Timetable) (ok : T (valid t)) where
   pub numbers-many : length (t .numbers) ≡ length (t .trips)
   unfolding numbered
   numbers-many = let h = is-numbered in search reads
-
-  pub number-some : (z : ℕ) → z < length (t .trips) → 1 ≤ numberOf t z
-  number-some z h = climb-above 0 (t .numbers) climbs z (omega (arith, numbers-many))
 
   pub number-most : (z : ℕ) → z < length (t .trips) → numberOf t z ≤ numberMost
   number-most z h = climb-most 0 (t .numbers) climbs z (omega (arith, numbers-many))

@@ -169,10 +169,6 @@ count-rise (w ∷ l) y z h = go (leb (w .from) y) refl (leb (w .from) z) refl (c
     go false f true g i = omega arith
     go false f false g i = i
 
-none-below : (c : ℕ) → (0 < c → ⊥) → c ≡ 0
-none-below zero h = refl
-none-below (suc c) h = absurd (h (omega arith))
-
 -- ---- the walks of a timetable
 walk-is : (w : List ℕ) (k : ℕ) (d : Walk) → k < walkCount w → getD ((timetableOf w) .walks) k d ≡ walkAt w k
 unfolding timetableOf
@@ -204,17 +200,6 @@ module _ (w : List ℕ) (yes : isTimetable w ≡ true) where
       ∙ ap (λ l. getD l y 0) whole
       ∙ map-numbers (countTo all) 0 (suc (stationCount w)) y 0 (omega arith)
       ∙ ap (countTo all) here
-
-  pub walks-none : walksTo w 0 ≡ 0
-  walks-none =
-      count-is 0 (omega arith)
-      ∙ none-below (countTo all 0) (λ h. omega (
-        arith,
-        count-out (stationCount w) first all 0 0 all-valid h,
-        is-good (stationCount w) (getD all 0 first)
-            (valid-at (stationCount w) first all 0 all-valid (omega (arith, count-few (stationCount w) first all 0)))
-            .from-first,
-      ))
 
   pub walks-few : walkCount w ≤ walksMost
   walks-few =

@@ -27,7 +27,7 @@ use Rattle.timetable.specs.Words.{
 use Rattle.timetable.specs.Check.{stationsAt, stopsAt, numbersAt, walksAt, between}
 
 -- the words from i on begin with word i
-take-one : (w : List ℕ) (i n : ℕ) → i < length w → take (suc n) (drop i w) ≡ getD w i 0 ∷ take n (drop (i + 1) w)
+pub take-one : (w : List ℕ) (i n : ℕ) → i < length w → take (suc n) (drop i w) ≡ getD w i 0 ∷ take n (drop (i + 1) w)
 take-one w i n h = ap (take (suc n)) (drop-cons w i 0 h) ∙ ap (λ k. getD w i 0 ∷ take n (drop k w)) (sym (add-one i))
 
 module _ (w : List ℕ) where
