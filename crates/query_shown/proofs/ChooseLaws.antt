@@ -15,7 +15,8 @@ use Rattle.query_rides.specs.declared.Way.{Way}
 use Rattle.query_rides.specs.Riding.{Tells, nearLeft, rideOf, near-none}
 use Rattle.query_shown.specs.Prices.{frontPrice}
 use Rattle.query_shown.specs.Heads.{noRide, headOf}
-use Rattle.query_shown.specs.Turns.{tellsOf, tells-is, comesBefore, tried, triedOnto, triedAll, tried-all, Sized}
+use Rattle.query_rests.specs.Turns.{tellsOf, tells-is}
+use Rattle.query_shown.specs.Turns.{comesBefore, tried, triedOnto, triedAll, tried-all, Sized}
 
 pub sized-told : (s : RideStruct) (lines : List ℕ) (c : Cursor) → Tells s (rideOf lines c) → Sized s
 sized-told s lines c t =

@@ -9,15 +9,16 @@ ghost use Rattle.words.specs.Put.{put};
 ghost use Rattle.query_places.specs.Candidates.{nearRead};
 ghost use Rattle.query_rides.specs.Ways.{costOf, wayBetween};
 ghost use Rattle.query_shown.specs.Prices.{stepPrice, frontPrice};
-ghost use Rattle.query_shown.specs.Showing.{Given};
-ghost use Rattle.query_shown.specs.Rests.{RestsAt};
+ghost use Rattle.query_rests.specs.Given.{Given};
+ghost use Rattle.query_rests.specs.Rests.{RestsAt};
 ghost use Rattle.query_shown.specs.Heads.{lateness, headOf};
 ghost use Rattle.query_shown.specs.OnTheWay.{boardedAt, Standing, Headed, Moved, Rode};
-ghost use Rattle.query_shown.specs.Turns.{tellsOf, numbersBefore, comesBefore, tried, triedOnto, Sized};
+ghost use Rattle.query_rests.specs.Turns.{tellsOf};
+ghost use Rattle.query_shown.specs.Turns.{numbersBefore, comesBefore, tried, triedOnto, Sized};
 use crate::At;
 use crate::Next;
 use crate::Step;
-use crate::rests;
+use query_layers::Sought;
 use query_minutes::NO_POINTS;
 use query_rides::Ride;
 use query_rides::Way;
@@ -112,7 +113,7 @@ fn try_ride(first: bool, z: &[u32], left: Points, best: Ride, ride: Ride) -> Rid
     requires { ⌜ Sized best × Sized ride ⌝ }
     ensures { λ r. ⌜ (r ≡ tried first (now (z .entry)) (left .0) best ride) × Sized r ⌝ }
 {
-    let rest = rests::rest_at(z, ride.arrive);
+    let rest = query_rests::rest_at(z, ride.arrive);
     if !query_minutes::less(rest, Points(NO_POINTS)) {
         return best;
     }
@@ -190,35 +191,7 @@ fn boarded(path: &[u16], i: usize, first: bool, alighted: usize) -> usize
     if first {
         return alighted;
     }
-    rests::station(path, 2 * i - 1)
-}
-
-// Ride i along the path, if there is one to take, from where one is; z holds what is left after it.
-fn take_ride(
-    words: &[u16],
-    lines: &[u16],
-    minute: usize,
-    path: &[u16],
-    i: usize,
-    r: usize,
-    v: usize,
-    at: At,
-    first: bool,
-    from: usize,
-    way: Way,
-    z: &[u32],
-) -> Ride
-    requires { ⌜ Given (now words) (now lines) (now path) r v
-        × (i < r)
-        × Standing (now words) minute first i at
-        × (from ≡ boardedAt (now path) first i (at .alighted))
-        × (way ≡ wayBetween (now words) (at .alighted) from)
-        × RestsAt (now words) (now path) r v minute i (now z) ⌝ }
-    ensures { λ s. ⌜ Headed (now (words .entry)) (now (path .entry)) r v first i at s × Sized s ⌝ }
-{
-    let left = at.left;
-    let to = rests::station(path, 2 * i);
-    choose(lines, from, to, at.arrive, first, way, left, z)
+    query_rests::station(path, 2 * i - 1)
 }
 
 // Writes the numbers of ride i.
@@ -241,7 +214,7 @@ fn move_on(path: &[u16], i: usize, left: Points, price: Points, ride: Ride, ride
     ensures { λ _. ⌜ length (now (rides .exit)) ≡ length (now (rides .entry)) ⌝ }
 {
     put_ride(rides, i, ride);
-    let alighted = rests::station(path, 2 * i);
+    let alighted = query_rests::station(path, 2 * i);
     let points = ride.points;
     let rest = query_minutes::left_of(query_minutes::left_of(left, price), points);
     At {
@@ -255,28 +228,29 @@ fn move_on(path: &[u16], i: usize, left: Points, price: Points, ride: Ride, ride
 pub fn ride_on(
     words: &[u16],
     lines: &[u16],
-    minute: usize,
+    sought: Sought,
     path: &[u16],
     i: usize,
     r: usize,
-    v: usize,
     at: At,
     first: bool,
     rides: &mut [u32],
     z: &[u32],
 ) -> Next
-    requires { ⌜ Given (now words) (now lines) (now path) r v
+    requires { ⌜ Given (now words) (now lines) (now path) r (sought .arrive)
         × (i < r)
-        × Standing (now words) minute first i at
+        × Standing (now words) (sought .minute) first i at
         × (length (now rides) ≡ 192)
-        × RestsAt (now words) (now path) r v minute i (now z) ⌝ }
-    ensures { λ s. ⌜ Rode (now (words .entry)) (now (path .entry)) r v first i at (now (rides .entry))
+        × RestsAt (now words) (now path) r (sought .arrive) (sought .minute) i (now z) ⌝ }
+    ensures { λ s. ⌜ Rode (now (words .entry)) (now (path .entry)) r (sought .arrive) first i at (now (rides .entry))
         (now (rides .exit)) s ⌝ }
     ensures { λ _. ⌜ length (now (rides .exit)) ≡ length (now (rides .entry)) ⌝ }
 {
     let from = boarded(path, i, first, at.alighted);
+    let to = query_rests::station(path, 2 * i);
     let way = query_rides::way_between(words, at.alighted, from);
-    let ride = take_ride(words, lines, minute, path, i, r, v, at, first, from, way, z);
+    let left = at.left;
+    let ride = choose(lines, from, to, at.arrive, first, way, left, z);
     if ride.trip == NO_TRIP {
         return Next {
             found: false,
@@ -284,7 +258,6 @@ pub fn ride_on(
             at,
         };
     }
-    let left = at.left;
     let price = front_price(first, way, at.arrive, ride);
     let next = move_on(path, i, left, price, ride, rides);
     Next {

@@ -6,7 +6,8 @@ use Rattle.query_places.specs.Candidates.{nearRead}
 use Rattle.query_rides.specs.Riding.{Good, nearLeft, near-falls}
 use Rattle.query_shown.specs.Prices.{frontPrice}
 use Rattle.query_shown.specs.Heads.{noRide}
-use Rattle.query_shown.specs.Turns.{tellsOf, triedAll, Sized}
+use Rattle.query_rests.specs.Turns.{tellsOf}
+use Rattle.query_shown.specs.Turns.{triedAll, Sized}
 use Rattle.query_shown.proofs.ChooseLaws.{sized-told, choose-begins, choose-more, choose-done}
 use Rattle.query_shown.proofs.rides.choose.Statement.{statement}
 use Rattle.query_shown.proofs.rides.choose.Tie as tie
