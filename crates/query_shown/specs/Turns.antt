@@ -5,8 +5,12 @@ use mathlib.Core.List.{List, [], _∷_}
 use Prim.Native.Nat.{ℕ, _+_, _-_, _≤_}
 use lib.Dec.{leb, ltb}
 use lib.ListN.{getD}
-use Rattle.lists.specs.Lists.{before, keep, filter}
+use Rattle.lists.specs.Lists.{before, keep, filter, concatMap}
 use Rattle.connections.specs.Rides.{Ride}
+use Rattle.lines_lookup.specs.Calls.{Boarding}
+use Rattle.lines_lookup.specs.First.{firstTrip}
+use Rattle.query_places.specs.Candidates.{nearest, reachBy}
+use Rattle.query_places.specs.Turns.{tripsFrom}
 use Rattle.query_minutes.specs.Minutes.{noPoints}
 use Rattle.query_rides.specs.declared.Ride.{Ride as RideStruct}
 use Rattle.query_rests.specs.Turns.{tellsOf}
@@ -90,6 +94,11 @@ module _ (first : Bool) (price : ℕ → ℕ) (z : List ℕ) (p : ℕ) where
       → triedAll first price z p (tellsOf noRide) l ≡ tellsOf (headOf first price z p l)
   unfolding headOf
   tried-all l = tried-head l noRide
+
+-- the rides from a call to the nearest place of its line, on the trips that leave at minute u or later
+unfoldable pub callRides : List ℕ → Boarding → (u : ℕ) → List Ride
+callRides v g u =
+    concatMap (tripsFrom v (g .line) (g .call .place) (firstTrip v (g .line) (g .call .place) u)) (nearest (reachBy v g))
 
 -- its numbers fit words of 32 bits
 pub record Sized (s : RideStruct) : Type 0 where

@@ -9,14 +9,14 @@ returns c = (search chosen-none, search needs)
 
 front-price-requires : tie.Need-front-price-requires
 front-price-requires c κs =
-    let chosen = c .before .before in
-    let entry = chosen .before .before .before .before .before .before .before .before .before .before in
+    let chosen = c .before .before .before in
+    let entry = chosen .before .before .before .before .before .before .before .before .before in
     (entry .pre .2) .soon
 
 move-on-requires : tie.Need-move-on-requires
 move-on-requires c κs =
-    let chosen = c .before .before .before .before in
-    let entry = chosen .before .before .before .before .before .before .before .before .before .before in
+    let chosen = c .before .before .before .before .before in
+    let entry = chosen .before .before .before .before .before .before .before .before .before in
     let given = entry .pre .0 in
     let inside = entry .pre .1 in (
       next-inside _ _ _ _ _ _ given inside,
@@ -29,14 +29,14 @@ returns-2 : tie.Need-returns-2
 returns-2 c =
     let moved = c .before .before in
     let paid = moved .before .before in
-    let chosen = paid .before .before .before in
-    let way = chosen .before .before in
+    let chosen = paid .before .before .before .before in
+    let way = chosen .before in
     let to = way .before in
     let from = to .before in
     let entry = from .before .before .before .before .before .before in (
       chosen-one _ _ _ _ _ _ _ (entry .pre .0) (entry .pre .1) _ _ (entry .pre .2) _ (entry .pre .4) _
           (from .boarded .ensures) _ (way .way-between .ensures) _ (to .station .ensures .0) _
-          (chosen .choose .ensures .0) _ (paid .front-price .ensures) _ _ _ (paid .before .if1 .left)
+          (chosen .choose .ensures .0) _ (paid .front-price .ensures) _ _ _ (paid .before .before .if1 .left)
           (moved .move-on .ensures .0),
       search needs,
     )
