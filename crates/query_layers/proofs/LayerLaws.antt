@@ -13,7 +13,7 @@ use Rattle.query_rests.specs.Rests.{RestsAt}
 use Rattle.query_rests.specs.Spans.{Spans, Arrived, Stored, stored-more, stored-all, stored-spans, stored-is}
 use Rattle.query_layers.specs.Layers.{widthOf, placeOf, KeptRide, KeptRest, Layers, Keeps}
 use Rattle.query_layers.specs.Layers.{place-next, place-rise}
-use Rattle.query_rests.proofs.PatternLaws.{Back, rest-begins}
+use Rattle.query_rests.proofs.PatternLaws.{Back, rest-begins, rest-done}
 
 -- ---- where the words of a ride stand
 module _ (t v low i : ℕ) where
@@ -158,6 +158,18 @@ pub kept-begins : (w lines path : List ℕ) (r v : ℕ) → Given w lines path r
     → Back w path r v minute low (r - 1) z
 kept-begins w lines path r v given minute low high z some few arrived =
     rest-begins w lines path r v given minute low z (omega arith) arrived
+
+-- ---- after the last ride
+pub last-rest : (w lines path : List ℕ) (r v : ℕ) → Given w lines path r v → (minute i : ℕ) (z : List ℕ) → i < r
+    → r ≤ i + 1
+    → Arrived minute v z
+    → RestsAt w path r v minute i z
+last-rest w lines path r v given minute i z inside last arrived =
+    rest-done w lines path r v given minute i (r - 1) z (rest-begins w lines path r v given minute i z inside arrived)
+    (omega arith)
+
+pub last-spans : (t v : ℕ) (z : List ℕ) → Arrived t v z → Spans t v z
+last-spans t v z arrived = arrived .spans
 
 -- ---- what is kept for a ride
 module _ (w path : List ℕ) (r v t i : ℕ) (kept : Kept) (work : List ℕ) (keeps : Keeps w path r v t i kept work) where

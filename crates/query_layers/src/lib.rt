@@ -177,6 +177,11 @@ pub fn rest(
         look_up(work, at, z, sought.minute, sought.arrive);
         return kept;
     }
+    if r <= i + 1 {
+        // After the last ride nothing is left, and no ride after it asks for what is kept.
+        query_rests::fill_last(z, sought.minute, sought.arrive);
+        return kept;
+    }
     let high = reach(work.len(), sought.minute, sought.arrive, i, r);
     let next = Kept { low: i, high };
     keep_rests(words, lines, sought, path, next, r, work, z, old);

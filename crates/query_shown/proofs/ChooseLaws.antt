@@ -1,13 +1,13 @@
 -- One ride more is tried, and all rides one after the other: from trip to trip of a line, and from call to call.
 use mathlib.Core.Path.{_≡_, refl, sym, ap, _∙_}
-use mathlib.Core.Bool.{Bool, true, false, not, cond}
+use mathlib.Core.Bool.{Bool, true, false, not, cond, _&&_}
 use mathlib.Core.List.{List, [], _∷_, _++_, map, append-nil}
 use Prim.Native.Nat.{ℕ, _+_, _-_, _≤_, _<_}
 use native.Mathlib.Omega.{arith}
 use borrow.Author.Tests.{le-leb, lt-leb, ltb-true, ltb-false, not-true, not-false}
-use lib.Dec.{ltb}
+use lib.Dec.{leb, ltb}
 use lib.ListN.{length, getD}
-use Rattle.lists.specs.Lists.{concatMap}
+use Rattle.lists.specs.Lists.{concatMap, range}
 use Rattle.lists.specs.Ranges.{range-more, range-none}
 use Rattle.connections.specs.Rides.{Ride}
 use Rattle.lines_lookup.specs.Calls.{Piece, Boarding, callsOf, callsIn, BoardsAt, Within}
@@ -21,7 +21,7 @@ use Rattle.query_rides.specs.declared.Ride.{Ride as RideStruct}
 use Rattle.query_rides.specs.declared.Way.{Way}
 use Rattle.query_rides.specs.Riding.{Tells}
 use Rattle.query_shown.specs.Prices.{frontPrice}
-use Rattle.query_shown.specs.Heads.{noRide, headOf}
+use Rattle.query_shown.specs.Heads.{noRide, payable, headOf}
 use Rattle.query_rests.specs.Turns.{tellsOf, tells-is}
 use Rattle.query_shown.specs.Turns.{comesBefore, tried, triedOnto, triedAll, tried-all, callRides, Sized}
 
@@ -172,6 +172,36 @@ module _ (first : Bool) (way : Way) (u : ℕ) (z : List ℕ) (p : ℕ) where
       unfolding triedAll
       trips-done h = sym (so-far ∙ ap (λ js. with best (map on js)) (range-none j (g .line .trips) h))
 
+  -- a ride that costs more than is left
+  module _ (k : ℕ) (best s : RideStruct) (h : p < s .points .0) where
+    not-taken : (b : Bool) (x : RideStruct) → cond (b && false) x best ≡ best
+    not-taken true x = refl
+    not-taken false x = refl
+
+    either-way : (b : Bool) → cond b best best ≡ best
+    either-way true = refl
+    either-way false = refl
+
+    too-dear : triedOnto first z p k best s ≡ best
+    unfolding triedOnto tried
+    too-dear =
+        let rest = getD z (s .arrive) noPoints in
+        let dear : leb (s .points .0 + rest) (p - k) ≡ false = lt-leb (s .points .0 + rest) (p - k) (omega arith) in
+        let same : tried first z (p - k) best s ≡ best
+        = rw dear (not-taken (ltb rest noPoints) (cond (comesBefore first s best) s best)) in
+        ap (λ b. cond (payable k p) b best) same ∙ either-way (payable k p)
+
+  -- on no trip of the line is it taken
+  trips-dear : (v : List ℕ) (g : Boarding) (to : Place) → p < to .points .0 → (js : List ℕ) (best : RideStruct)
+      → best ≡ with best (map (λ i. rideOn v (g .line) (g .call .place) i (reachAt to)) js)
+  unfolding triedAll
+  trips-dear v g to h [] best = refl
+  trips-dear v g to h (i ∷ js) best =
+      let r = rideOn v (g .line) (g .call .place) i (reachAt to) in
+      trips-dear v g to h js best
+      ∙ ap (λ b. with b (map (λ i. rideOn v (g .line) (g .call .place) i (reachAt to)) js))
+      (sym (too-dear (frontPrice first way u (r .depart)) best (tellsOf r) h))
+
   -- from a call to the nearest place
   module _ (v : List ℕ) (g : Boarding) (best : RideStruct) (to : Place) (is : nearest (reachBy v g) ≡ foundAt to)
     where
@@ -179,6 +209,15 @@ module _ (first : Bool) (way : Way) (u : ℕ) (z : List ℕ) (p : ℕ) where
           → best ≡ triedAll first (frontPrice first way u) z p best (callRides v g u)
       unfolding triedAll callRides
       call-none e = rw (nearest-none v g to is e)
+
+      pub call-dear : not (to .found) ≡ false → (poor : Bool) → poor ≡ ltb p (to .points .0) → poor ≡ true
+          → best ≡ triedAll first (frontPrice first way u) z p best (callRides v g u)
+      unfolding callRides
+      call-dear e poor is-poor h =
+          let start = firstTrip v (g .line) (g .call .place) u in
+          let dear = ltb-true p (to .points .0) (sym is-poor ∙ h) in
+          trips-dear v g to dear (range start (g .line .trips - start)) best
+          ∙ rw (nearest-found v g to is e, append-nil)
 
       pub call-tried : not (to .found) ≡ false → (start : ℕ)
           → start ≡ firstTrip v (g .line) (g .call .place) u

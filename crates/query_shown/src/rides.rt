@@ -205,6 +205,12 @@ fn choose_call(
     if !to.found {
         return best;
     }
+    // Who has too little left for the rides to that place takes none of them, whatever the trip.
+    let left = at.left;
+    let points = to.points;
+    if query_minutes::less(left, points) {
+        return best;
+    }
     let start = lines_lookup::first_trip(lines, g.line, g.call.place, at.arrive);
     choose_trips(lines, g, to, start, at, first, way, z, best)
 }
