@@ -13,9 +13,9 @@ use Rattle.replies.specs.declared.Reply.the-variants.{Done, Refused}
 use Rattle.replies.specs.Replies.{reply-done, reply-refused, words-done, words-kept}
 use Rattle.query_minutes.specs.Minutes.{noPoints, leads}
 use Rattle.promises.specs.Query.{kept, rows, rowWords}
-use Rattle.query_rows.specs.Rowed.{LeastKept}
+use Rattle.query_arcs.specs.Kept.{LeastKept}
 use Rattle.query_rows.specs.Leading.{leads-count, leads-none, leads-some}
-use Rattle.query_rows.specs.Granted.{Granted, all-bounds}
+use Rattle.query_arcs.specs.Granted.{Granted, all-bounds}
 use Rattle.query_rows.proofs.PassLaws.{rows-are}
 use Rattle.query_answer.specs.Answer.{shownNumber, shownReply, shownWords}
 

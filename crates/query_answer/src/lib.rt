@@ -5,14 +5,14 @@ ghost use lib.ListN.{length};
 ghost use Rattle.promises.specs.Query.{kept};
 ghost use Rattle.query_minutes.specs.Minutes.{noPoints, leads};
 ghost use Rattle.query_minutes.specs.Ending.{LeadsEnd};
-ghost use Rattle.query_rows.specs.Rowed.{LeastKept};
-ghost use Rattle.query_rows.specs.Leader.{AllNamed};
-ghost use Rattle.query_rows.specs.Granted.{Granted};
+ghost use Rattle.query_arcs.specs.Kept.{LeastKept};
+ghost use Rattle.query_arcs.specs.Granted.{Granted};
+ghost use Rattle.query_rows.specs.Named.{AllNamed};
 ghost use Rattle.query_answer.specs.Answer.{shownReply, shownWords};
+use query_arcs::Query;
 use query_minutes::MINUTES;
 use query_minutes::NO_POINTS;
 use query_minutes::Rows;
-use query_rows::Query;
 use replies::Reply;
 
 // Writes the rows, of which there are some, if the answer has room for them: it is measured before a word is written.
@@ -91,7 +91,7 @@ pub fn show(
     let mut best = [NO_POINTS; MINUTES];
     let mut who = [0u16; MINUTES];
     let asked = Query { from, to, minute };
-    query_rows::note_arcs(words, lines, store, asked, &mut best, &mut who);
+    query_arcs::note_arcs(words, lines, store, asked, &mut best, &mut who);
     let rows = query_minutes::find_rows(&best);
     if rows.count < 1 {
         return Reply::Refused { number: 14 };

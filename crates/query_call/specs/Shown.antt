@@ -18,7 +18,7 @@ use Rattle.stores.specs.Words.{wellMade}
 use Rattle.lines_check.specs.Asked.{queryQuestions, queryNumber}
 use Rattle.lines_check.specs.Yes.{Yes, query-asked, yes-all}
 use Rattle.promises.specs.Query.{rows, rowWords, lastQuestions, askNumber, askReply, askWords}
-use Rattle.query_rows.specs.Granted.{Granted}
+use Rattle.query_arcs.specs.Granted.{Granted}
 use Rattle.query_answer.specs.Answer.{twoQuestions, shownNumber, shownReply, shownWords}
 
 -- a refusal, whatever its number

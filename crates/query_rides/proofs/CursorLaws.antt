@@ -13,11 +13,12 @@ use Rattle.timetable.specs.Words.{stationAt}
 use Rattle.connections.specs.Rides.{Ride}
 use Rattle.lines_lookup.specs.Lookup.{Line, numberAt, arriveAt, departAt}
 use Rattle.lines_lookup.specs.First.{firstTrip}
-use Rattle.lines_lookup.specs.Calls.{Piece, Boarding, callsOf, callsIn, BoardsAt}
+use Rattle.lines_lookup.specs.Calls.{Piece, Boarding, callsOf, callsIn, BoardsAt, Within}
 use Rattle.query_places.specs.Candidates.{Reach, nearest, reachBy, legs, rideOn, nearLeg, nearRead}
 use Rattle.query_places.specs.Turns.{nearCalls, legs-none, legs-more}
 use Rattle.query_places.specs.Places.{reachAt, foundAt}
 use Rattle.query_places.specs.declared.Place.{Place}
+use Rattle.query_rides.specs.declared.Ride.{Ride as RideStruct}
 use Rattle.query_rides.specs.declared.Cursor.{Cursor}
 use Rattle.query_rides.specs.Riding.{tripsOf, rideOf, nearFrom, nearLeft, Good, Tells, near-none}
 
@@ -162,35 +163,50 @@ module _
         }
 
 -- ---- what the code tells of a ride
-pub told : (v : List ℕ) (c : Cursor) → Good v c → (l : Line) → l ≡ c .boarding .line → (z d m : ℕ)
-    → z ≡ numberAt v l (c .j) → z < 65536
-    → d ≡ departAt v l (c .boarding .call .place) (c .j) → d < 65536
-    → m ≡ arriveAt v l (c .to .place) (c .j) → m < 65536
+pub told : (v : List ℕ) (g : Boarding) → Within v g → (to : Place) → to .place < 65536 → (l : Line) → l ≡ g .line
+    → (j z d m : ℕ)
+    → z ≡ numberAt v l j → z < 65536
+    → d ≡ departAt v l (g .call .place) j → d < 65536
+    → m ≡ arriveAt v l (to .place) j → m < 65536
     → Tells
     (record {
       trip = z;
-      board = c .boarding .call .place + 1;
-      alight = c .to .place + 1;
+      board = g .call .place + 1;
+      alight = to .place + 1;
       depart = d;
       arrive = m;
-      points = c .to .points;
+      points = to .points;
     })
-    (rideOf v c)
-unfolding rideOf
-told v c good l is-l z d m is-z z-few is-d d-few is-m m-few =
+    (rideOn v (g .line) (g .call .place) j (reachAt to))
+told v g within to to-few l is-l j z d m is-z z-few is-d d-few is-m m-few =
     record {
-      trip = is-z ∙ ap (λ l. numberAt v l (c .j)) is-l;
+      trip = is-z ∙ ap (λ l. numberAt v l j) is-l;
       board = refl;
       alight = refl;
-      depart = is-d ∙ ap (λ l. departAt v l (c .boarding .call .place) (c .j)) is-l;
-      arrive = is-m ∙ ap (λ l. arriveAt v l (c .to .place) (c .j)) is-l;
+      depart = is-d ∙ ap (λ l. departAt v l (g .call .place) j) is-l;
+      arrive = is-m ∙ ap (λ l. arriveAt v l (to .place) j) is-l;
       points = refl;
       trip-few = z-few;
-      board-few = omega (arith, good .within .place-few);
-      alight-few = omega (arith, good .place-few);
+      board-few = omega (arith, within .place-few);
+      alight-few = omega (arith, to-few);
       depart-few = d-few;
       arrive-few = m-few;
     }
+
+module _ (v : List ℕ) (c : Cursor) (good : Good v c) (g : Boarding) (is-g : g ≡ c .boarding) (to : Place)
+    (is-to : to ≡ c .to) where
+  pub cursor-within : Within v g
+  cursor-within = rw is-g (good .within)
+
+  pub cursor-place : to .place < 65536
+  cursor-place = rw is-to (good .place-few)
+
+  pub cursor-told : (s : RideStruct) → Tells s (rideOn v (g .line) (g .call .place) (c .j) (reachAt to))
+      → Tells s (rideOf v c)
+  unfolding rideOf
+  cursor-told s t =
+      subst (λ to. Tells s (rideOn v (c .boarding .line) (c .boarding .call .place) (c .j) (reachAt to))) is-to
+      (subst (λ g. Tells s (rideOn v (g .line) (g .call .place) (c .j) (reachAt to))) is-g t)
 
 -- ---- what a change takes and costs
 module _ (w : List ℕ) (i : ℕ) (s : Station) (is : s ≡ stationAt w i) where

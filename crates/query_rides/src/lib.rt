@@ -3,11 +3,12 @@
 ghost use mathlib.Core.Path.{_≡_};
 ghost use mathlib.Core.Bool.{true};
 ghost use mathlib.Core.List.{_∷_};
-ghost use Prim.Native.Nat.{_-_, _≤_};
+ghost use Prim.Native.Nat.{_-_, _≤_, _<_};
 ghost use lib.ListN.{length};
 ghost use Rattle.timetable.specs.Words.{stationCount, stationAt, isTimetable};
-ghost use Rattle.lines_lookup.specs.Calls.{Inside};
-ghost use Rattle.query_places.specs.Candidates.{nearRead};
+ghost use Rattle.lines_lookup.specs.Calls.{Inside, Within};
+ghost use Rattle.query_places.specs.Candidates.{rideOn, nearRead};
+ghost use Rattle.query_places.specs.Places.{reachAt};
 ghost use Rattle.query_rides.specs.Riding.{Good, Tells, nearLeft, rideOf, nearFrom};
 ghost use Rattle.query_rides.specs.Ways.{costOf, wayBetween};
 use lines_lookup::Boarding;
@@ -124,18 +125,18 @@ pub fn next_nearest(v: &[u16], minute: usize, c: Cursor) -> Cursor
     }
 }
 
-// The ride at which c stands.
-pub fn tell(v: &[u16], c: Cursor) -> Ride
-    requires { ⌜ Good (now v) c ⌝ }
-    ensures { λ r. ⌜ Tells r (rideOf (now (v .entry)) c) ⌝ }
+// The ride on the trip at place j of the line that is boarded, to a place further on.
+pub fn ride_at(v: &[u16], g: Boarding, to: Place, j: usize) -> Ride
+    requires { ⌜ Within (now v) g × (to .place < 65536) × (j < 65536) ⌝ }
+    ensures { λ r. ⌜ Tells r (rideOn (now (v .entry)) (g .line) (g .call .place) j (reachAt to)) ⌝ }
 {
-    let l = c.boarding.line;
-    let x = c.boarding.call.place;
-    let p = c.to.place;
-    let points = c.to.points;
-    let trip = lines_lookup::number_at(v, l, c.j);
-    let depart = lines_lookup::depart_at(v, l, x, c.j);
-    let arrive = lines_lookup::arrive_at(v, l, p, c.j);
+    let l = g.line;
+    let x = g.call.place;
+    let p = to.place;
+    let points = to.points;
+    let trip = lines_lookup::number_at(v, l, j);
+    let depart = lines_lookup::depart_at(v, l, x, j);
+    let arrive = lines_lookup::arrive_at(v, l, p, j);
     Ride {
         trip,
         board: x + 1,
@@ -144,6 +145,16 @@ pub fn tell(v: &[u16], c: Cursor) -> Ride
         arrive,
         points,
     }
+}
+
+// The ride at which c stands.
+pub fn tell(v: &[u16], c: Cursor) -> Ride
+    requires { ⌜ Good (now v) c ⌝ }
+    ensures { λ r. ⌜ Tells r (rideOf (now (v .entry)) c) ⌝ }
+{
+    let g = c.boarding;
+    let to = c.to;
+    ride_at(v, g, to, c.j)
 }
 
 // A way of changing: at the station itself, or by a walk.

@@ -20,11 +20,15 @@ use Rattle.query_minutes.specs.Minutes.{noPoints, leads}
 use Rattle.query_minutes.specs.Noted.{getD-any}
 use Rattle.query_minutes.proofs.LeadLaws.{leads-here, leads-not}
 use Rattle.promises.specs.Query.{kept, rows, rowWords}
-use Rattle.query_rows.specs.Rowed.{LeastKept, RowFor}
+use Rattle.query_arcs.specs.Kept.{LeastKept}
+use Rattle.query_rows.specs.Rowed.{RowFor}
 use Rattle.query_minutes.specs.Ending.{Floor, LeadsEnd}
 use Rattle.query_rows.specs.Leading.{noCost, leads-count, lead-row}
-use Rattle.query_rows.specs.Granted.{Granted, all-bounds, costOf, Leading, Written, Room}
-use Rattle.query_rows.specs.Leader.{Leader, Named, NamedRow, AllNamed, AllLed, all-led}
+use Rattle.query_arcs.specs.Granted.{Granted, all-bounds}
+use Rattle.query_winner.specs.Winning.{costOf, Leading}
+use Rattle.query_rows.specs.Written.{Written, Room}
+use Rattle.query_winner.specs.Leader.{Leader, Named}
+use Rattle.query_rows.specs.Named.{NamedRow, AllNamed, AllLed, all-led}
 use Rattle.query_minutes.proofs.EndLaws.{floor-none, floor-more, leads-over}
 
 -- ---- the next of a list

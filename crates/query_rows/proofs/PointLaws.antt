@@ -1,19 +1,21 @@
 -- The laws of the pass where the points of the minute are read as a value: p is what stands for minute m.
-use mathlib.Core.Path.{_≡_, sym, subst, _∙_, ap}
+use mathlib.Core.Path.{_≡_, sym, subst, _∙_}
 use mathlib.Core.Bool.{Bool, true, false, not}
 use mathlib.Core.List.{List}
-use Prim.Native.Nat.{ℕ, _+_, _-_, _≤_, _<_, min}
+use Prim.Native.Nat.{ℕ, _+_, _-_, _≤_, _<_}
 use native.Mathlib.Omega.{arith}
 use borrow.Author.Tests.{ltb-true, ltb-false, not-true, not-false}
 use lib.Dec.{ltb}
-use lib.ListN.{length, getD, take, set}
+use lib.ListN.{length, getD, take}
 use Rattle.words.specs.Put.{put}
 use Rattle.promises.specs.Query.{kept, rows, rowWords}
-use Rattle.query_rows.specs.Rowed.{LeastKept}
+use Rattle.query_arcs.specs.Kept.{LeastKept}
 use Rattle.query_minutes.specs.Ending.{LeadsEnd}
-use Rattle.query_rows.specs.Merged.{soleOf}
-use Rattle.query_rows.specs.Granted.{Granted, Leading, Written, Room}
-use Rattle.query_rows.specs.Leader.{Leader, Named, NamedRow, AllNamed, AllLed, named-kept}
+use Rattle.query_arcs.specs.Granted.{Granted}
+use Rattle.query_winner.specs.Winning.{Leading}
+use Rattle.query_rows.specs.Written.{Written, Room}
+use Rattle.query_winner.specs.Leader.{Leader, Named}
+use Rattle.query_rows.specs.Named.{NamedRow, AllNamed, AllLed, named-kept}
 use Rattle.query_rows.proofs.PassLaws.{Going, going-skip, now-leading, now-some, now-leader, now-room}
 use Rattle.query_rows.proofs.PassLaws.{going-written, held-written}
 use Rattle.query_rows.proofs.PassLaws.{Counting, counting-skip, count-leading, count-named, counting-row}
@@ -126,12 +128,3 @@ module _
       named-at n new long-who z all =
           named-kept w s best who new a b u m n (subst (λ q. NamedRow w s a b u m q n who new) is z) all inside long
           long-who
-
--- ---- a minute merged
-pub least-stored : (old new : List ℕ) (m l x y : ℕ) → new ≡ set old m l → l ≡ min x y
-    → (a b : ℕ) → x ≡ a → y ≡ b → new ≡ set old m (min a b)
-least-stored old new m l x y e f a b g h = e ∙ ap (set old m) (f ∙ (λ i. min (g i) (h i)))
-
-pub sole-stored : (old : List ℕ) (k m o r x y : ℕ) → r ≡ soleOf k x o y → (a b c : ℕ) → x ≡ a → o ≡ c → y ≡ b
-    → set old m r ≡ set old m (soleOf k a c b)
-sole-stored old k m o r x y e a b c f g h = ap (set old m) (e ∙ (λ i. soleOf k (f i) (g i) (h i)))

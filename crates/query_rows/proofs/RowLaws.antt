@@ -10,8 +10,9 @@ use Rattle.results.specs.Results.{row}
 use Rattle.connections.specs.Planner.{row-says}
 use Rattle.promises.specs.Query.{kept}
 use Rattle.query_rows.specs.Rowed.{RowFor}
-use Rattle.query_rows.specs.Granted.{costOf, Winning, Written, Room}
-use Rattle.query_rows.specs.declared.Winner.{Winner}
+use Rattle.query_rows.specs.Written.{Written, Room}
+use Rattle.query_winner.specs.Winning.{costOf, Winning}
+use Rattle.query_winner.specs.declared.Winner.{Winner}
 
 -- ---- two words, one, and the rest
 module _ (old one : List ℕ) (at r : ℕ) (room : at + (3 + 3 * r) ≤ length old) where

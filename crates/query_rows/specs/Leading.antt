@@ -2,7 +2,7 @@
 -- result, whichever connection it was found by.
 use mathlib.Core.Path.{_≡_, refl, sym, ap, _∙_}
 use mathlib.Core.List.{List, [], _∷_, List·Memᴰ·head as here, List·Memᴰ·tail as there}
-use Prim.Native.Nat.{ℕ, zero, suc, _-_, _*_, _≤_, _<_}
+use Prim.Native.Nat.{ℕ, zero, suc, _-_, _≤_, _<_}
 use native.Mathlib.Omega.{arith}
 use lib.ListN.{length, getD, set}
 use lib.Seq.{getD-set-same}
@@ -11,10 +11,11 @@ use Rattle.lists.specs.Places.{no-length}
 use Rattle.results.specs.Results.{Cost, row}
 use Rattle.results.specs.Picks.{lead, pick}
 use Rattle.results.specs.Answered.{result-none}
-use Rattle.connections.specs.Connections.{Connection, direct, onward, arrival, duration, penalty}
-use Rattle.connections.specs.Planner.{rideCount, numbers, measure, rowsOf}
+use Rattle.connections.specs.Connections.{Connection, arrival, duration, penalty}
+use Rattle.connections.specs.Planner.{measure, rowsOf}
 use Rattle.query_minutes.specs.Minutes.{noPoints, leads}
-use Rattle.query_rows.specs.Rowed.{Bounds, LeastKept, RowFor, Rowed, led-leads, led-cost, rowed}
+use Rattle.query_arcs.specs.Kept.{Bounds, LeastKept}
+use Rattle.query_rows.specs.Rowed.{RowFor, Rowed, led-leads, led-cost, rowed}
 
 abbrev pub noCost : Cost
 noCost = record { minutes = 0; points = 0 }
@@ -103,8 +104,3 @@ module _ (u : ℕ) (d : List Connection) where
         go : (l : List Connection) → d ≡ l → 1 ≤ length d
         go [] e = absurd (omega (arith, leads-count, ap length (result-none (measure u) d .1 e)))
         go (c ∷ l) e = omega (arith, ap length e)
-
--- ---- the words of a row
-pub numbers-long : (c : Connection) → length (numbers c) ≡ 3 * rideCount c
-numbers-long (direct r) = refl
-numbers-long (onward r w c) = omega (arith, numbers-long c)

@@ -1,12 +1,4 @@
 pub mod Rowed
-pub mod Merged
-pub mod Collected
-pub mod Sole
-pub mod Won
-pub mod Keys
 pub mod Leading
-pub mod Granted
-pub mod Arcs
-pub mod Trying
-pub mod Leader
-pub mod Found
+pub mod Written
+pub mod Named

@@ -17,39 +17,14 @@ use Rattle.connections.specs.Connections.{Connection, arrival, duration, penalt
 use Rattle.connections.specs.Planner.{tieKey, measure, rowsOf}
 use Rattle.query_minutes.specs.Minutes.{noPoints, leads}
 use Rattle.query_minutes.specs.Noted.{Led, led-exactly, Rises, leads-rise}
-use Rattle.query_costs.specs.Lowered.{kept}
+use Rattle.query_arcs.specs.Kept.{Bounds, At, LeastKept}
+use Rattle.query_winner.specs.Winning.{Shows}
 
 -- for a query at minute u, over the list d
 module _ (u : ℕ) (d : List Connection) where
-  -- it arrives at u or later, for less than what is kept where no one arrives
-  pub record Bounds (c : Connection) : Type 0 where
-    pub from : u ≤ arrival c
-    pub small : penalty c < noPoints
-
-  -- one on the list arrives at minute m for p points
-  pub record At (m p : ℕ) : Type 0 where
-    pub one : Connection
-    pub listed : one ∈ d
-    pub arrives : arrival one ≡ m
-    pub pays : penalty one ≡ p
-
-  -- w has for minutes the penalty of one who arrives then; for each of the list there is one that arrives no later and
-  -- costs no more
-  pub record LeastKept (w : List ℕ) : Type 0 where
-    pub attained : (m : ℕ) → getD w m noPoints < noPoints → At m (getD w m noPoints)
-    pub low : (c : Connection) → c ∈ d → ByThen (kept w) (arrival c) (penalty c)
-
-  -- what is shown for an arrival minute and a penalty: of those of that cost the first by the rule
-  pub record Shows (c : Cost) (one : Connection) : Type 0 where
-    pub listed : one ∈ d
-    pub arrives : arrival one ≡ c .minutes
-    pub pays : penalty one ≡ c .points
-    pub first : (e : Connection) → e ∈ d → arrival e ≡ c .minutes → penalty e ≡ c .points
-        → ¬ T (before (tieKey e) (tieKey one))
-
   pub record RowFor (c : Cost) (r : List ℕ) : Type 0 where
     pub one : Connection
-    pub shows : Shows c one
+    pub shows : Shows u d c one
     pub is : row (measure u) one ≡ r
 
   -- a row for each cost
@@ -59,12 +34,12 @@ module _ (u : ℕ) (d : List Connection) where
   Rowed (c ∷ cs) [] = ⊥
   Rowed (c ∷ cs) (r ∷ rs) = RowFor c r × Rowed cs rs
 
-  module _ (bounds : (c : Connection) → c ∈ d → Bounds c) (w : List ℕ) (least : LeastKept w) where
+  module _ (bounds : (c : Connection) → c ∈ d → Bounds u d c) (w : List ℕ) (least : LeastKept u d w) where
     -- by duration
     abbrev pub best : ℕ → ℕ
     best e = getD w (u + e) noPoints
 
-    at-from : (m p : ℕ) (a : At m p) → u ≤ m
+    at-from : (m p : ℕ) (a : At u d m p) → u ≤ m
     at-from m p a = omega (arith, a .arrives, bounds (a .one) (a .listed) .from)
 
     least-points : LeastPoints (measure u) d best noPoints
@@ -144,7 +119,7 @@ module _ (u : ℕ) (d : List Connection) where
     led-cost = leads-exactly (measure u) d best noPoints least-points
 
     -- what is shown for a cost that leads is picked
-    picked : (c : Cost) (one : Connection) → c ∈ leads noPoints 0 w → Shows c one → Picked (measure u) d one
+    picked : (c : Cost) (one : Connection) → c ∈ leads noPoints 0 w → Shows u d c one → Picked (measure u) d one
     picked c one i s = record { best = undominated; first = first }
       where
         from : u ≤ c .minutes

@@ -1,8 +1,4 @@
-pub mod RestLaws
-pub mod GatherLaws
-pub mod PatternLaws
-pub mod LayerLaws
-pub mod KeyLaws
 pub mod PriceLaws
+pub mod KeyLaws
 pub mod ChooseLaws
 pub mod WayLaws

@@ -25,15 +25,16 @@ use Rattle.query_rides.specs.Ridden.{near-rides, rides-near}
 use Rattle.query_rides.specs.Ways.{wayBetween, open-way}
 use Rattle.query_shown.specs.declared.At.{At}
 use Rattle.query_shown.specs.declared.Next.{Next}
-use Rattle.query_shown.specs.Showing.{Given, Fitting, FoundAt}
-use Rattle.query_shown.specs.Rests.{RestsAt}
+use Rattle.query_rests.specs.Given.{Given}
+use Rattle.query_shown.specs.Showing.{Fitting, FoundAt}
+use Rattle.query_rests.specs.Rests.{RestsAt}
 use Rattle.query_shown.specs.Prices.{frontPrice, Fronts, fronts-start, fronts-change}
 use Rattle.query_shown.specs.Heads.{noRide, headOf, Chosen, head-cases}
 use Rattle.query_shown.specs.Going.{Left, Going, goes, begins}
-use Rattle.query_shown.specs.Turns.{tellsOf}
+use Rattle.query_rests.specs.Turns.{tellsOf}
 use Rattle.query_shown.specs.OnTheWay.{boardedAt, Standing, FrontAt, priceAt, Taken, Nothing, Headed, Under}
 use Rattle.query_shown.specs.OnTheWay.{Moved, Stopped, Gone, Rode}
-use Rattle.query_shown.proofs.PatternLaws.{is-valid, station-inside}
+use Rattle.query_rests.proofs.PatternLaws.{is-valid, station-inside}
 
 -- ---- one ride
 pub three-put : (i a b c : ℕ) (old mid : List ℕ) → 3 * i + 3 ≤ length old → mid ≡ put (3 * i) (a ∷ b ∷ []) old
@@ -545,6 +546,41 @@ module _
               taken = h;
               moved = subst (λ k. Moved path i (at .left .0) k s old new next) paid move;
             })
+
+-- the ride is the one that was chosen, with what is left at hand
+module _
+    (w lines path : List ℕ)
+    (r v i minute : ℕ)
+    (given : Given w lines path r v)
+    (inside : i < r)
+    (first : Bool)
+    (at : At)
+    (stands : Standing w minute first i at)
+    (z : List ℕ)
+    (rests : RestsAt w path r v minute i z)
+    (from : ℕ)
+    (is-from : from ≡ boardedAt path first i (at .alighted))
+    (g : Way)
+    (is-g : g ≡ wayBetween w (at .alighted) from)
+    (to : ℕ)
+    (is-to : to ≡ getD path (2 * i) 0)
+    (s : RideStruct)
+    (is :
+    s
+    ≡ tellsOf (headOf first (frontPrice first g (at .arrive)) z (at .left .0) (nearRead lines from (at .arrive) to)))
+  where
+    headed : Headed w path r v first i at s
+    headed = head-taken w lines path r v given i minute inside at first stands from is-from g is-g z rests to is-to s is
+
+    pub chosen-none : (old new : List ℕ) → s .trip ≡ 65536
+        → Rode w path r v first i at old new (record { found = false; depart = 0; at = at })
+    chosen-none = rode-none w path r v first i at s headed
+
+    pub chosen-one : (price : ℕ) → price ≡ frontPrice first g (at .arrive) (s .depart)
+        → (old new : List ℕ) (next : At) → ¬ (s .trip ≡ 65536)
+        → Moved path i (at .left .0) price s old new next
+        → Rode w path r v first i at old new (record { found = true; depart = s .depart; at = next })
+    chosen-one = rode-one w path r v first i at s headed from is-from g is-g
 
 pub starts-there : (w : List ℕ) (source minute v : ℕ) (p : Points) → 1 ≤ source → source ≤ stationCount w
     → minute ≤ v → v ≤ 2879

@@ -24,7 +24,7 @@ use Rattle.optimality.specs.AlongLaws.{boards-at}
 use Rattle.optimality.specs.Greedy.{rideNumbers, Continues}
 use Rattle.query_minutes.specs.Minutes.{noPoints}
 use Rattle.query_nearest.specs.Nearest.{Nearer, nearer-sooner}
-use Rattle.query_shown.specs.Rests.{Rests, rest-earlier, begun, parted}
+use Rattle.query_rests.specs.Rests.{Rests, rest-earlier, begun, parted}
 use Rattle.query_shown.specs.Prices.{Fronts}
 use Rattle.query_shown.specs.Foremost.{foremost, foremost-cases, Leading}
 

@@ -1,12 +1,7 @@
 pub mod Showing
-pub mod Rests
-pub mod Settling
-pub mod Spans
-pub mod Layers
-pub mod Stepping
 pub mod Prices
 pub mod Foremost
 pub mod Heads
-pub mod Going
 pub mod Turns
+pub mod Going
 pub mod OnTheWay

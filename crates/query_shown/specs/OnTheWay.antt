@@ -19,7 +19,7 @@ use Rattle.query_shown.specs.declared.Next.{Next}
 use Rattle.query_shown.specs.Prices.{frontPrice}
 use Rattle.query_shown.specs.Heads.{Chosen}
 use Rattle.query_shown.specs.Going.{Going}
-use Rattle.query_shown.specs.Turns.{tellsOf}
+use Rattle.query_rests.specs.Turns.{tellsOf}
 
 -- the station at which ride i of a path is boarded: the first one at the source, where one is
 unfoldable pub boardedAt : (path : List ℕ) (first : Bool) (i alighted : ℕ) → ℕ

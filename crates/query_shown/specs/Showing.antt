@@ -4,32 +4,16 @@
 use mathlib.Core.Path.{_≡_}
 use mathlib.Core.Bool.{Bool, true, false}
 use mathlib.Core.List.{List}
-use Prim.Native.Nat.{ℕ, _-_, _*_, _≤_, _<_}
+use Prim.Native.Nat.{ℕ, _-_, _*_}
 use lib.Dec.{T}
-use lib.ListN.{length, getD, take}
+use lib.ListN.{getD, take}
 use Rattle.timetable.specs.Timetable.{Timetable}
-use Rattle.timetable.specs.Words.{stationCount, timetableOf, isTimetable}
+use Rattle.timetable.specs.Words.{timetableOf}
 use Rattle.lists.specs.Lists.{before}
 use Rattle.connections.specs.Connections.{net, Connection, departure}
 use Rattle.connections.specs.Planner.{numbers, tieKey}
-use Rattle.lines_check.specs.Question10.{areTables}
 use Rattle.optimality.specs.Greedy.{Fits}
 use Rattle.query_shown.specs.declared.First.{First}
-
--- the first r numbers of a path are stations, of n
-pub record Listed (n : ℕ) (path : List ℕ) (r : ℕ) : Type 0 where
-  pub at : (i : ℕ) → i < r → (1 ≤ getD path i 0) × (getD path i 0 ≤ n)
-
--- what is known of the words lent, and of a path of r rides to the end of which one is to come by minute v: it names
--- the stations alighted and boarded at of each change, and then the end
-pub record Given (w lines path : List ℕ) (r v : ℕ) : Type 0 where
-  pub enough : 16384 ≤ length w
-  pub accepted : isTimetable w ≡ true
-  pub own : areTables w lines ≡ true
-  pub listed : Listed (stationCount w) path (2 * r - 1)
-  pub few : r ≤ 64
-  pub long : 2 * r - 1 ≤ length path
-  pub timely : v ≤ 2879
 
 module _ (timetable : Timetable) (b v : ℕ) where
   -- from station x at minute u by the stations q to b, there by minute v, for p points at the most

@@ -1,16 +1,16 @@
-// The connection of one stored pattern that is shown for a row: what is left after each ride, from the target back, and
-// then ride by ride the first that can be taken.
-mod layers;
-mod rests;
+// The connection of one stored pattern that is shown for a row: ride by ride the first that can be taken, where what is
+// left after it can be paid.
 mod rides;
 
 ghost use mathlib.Core.Path.{_≡_};
 ghost use Prim.Native.Nat.{_≤_};
 ghost use lib.ListN.{length};
 ghost use Rattle.timetable.specs.Words.{stationCount};
-ghost use Rattle.query_shown.specs.Showing.{Given, FoundAt};
-ghost use Rattle.query_shown.specs.Spans.{Spans};
-use crate::layers::Kept;
+ghost use Rattle.query_rests.specs.Given.{Given};
+ghost use Rattle.query_shown.specs.Showing.{FoundAt};
+ghost use Rattle.query_rests.specs.Spans.{Spans};
+use query_layers::Kept;
+use query_layers::Sought;
 use query_minutes::MINUTES;
 use query_minutes::NO_POINTS;
 use query_rides::Change;
@@ -44,43 +44,42 @@ pub struct First {
     pub depart: usize,
 }
 
-// The connection along a path of r rides, from the source at the minute, that is shown for a row: there by minute v,
-// which is no earlier, for p points at the most. Its rides are written.
+// The connection along a path of r rides that is shown for a row, where what is sought arrives no earlier than at the
+// minute of the query. Its rides are written.
 fn first_in_time(
     words: &[u16],
     lines: &[u16],
-    source: usize,
-    minute: usize,
+    sought: Sought,
     path: &[u16],
     r: usize,
-    v: usize,
-    p: Points,
     rides: &mut [u32],
     work: &mut [u32],
     z: &mut [u32],
     old: &mut [u32],
 ) -> First
-    requires { ⌜ Given (now words) (now lines) (now path) r v
+    requires { ⌜ Given (now words) (now lines) (now path) r (sought .arrive)
         × (1 ≤ r)
-        × (1 ≤ source)
-        × (source ≤ stationCount (now words))
+        × (1 ≤ sought .source)
+        × (sought .source ≤ stationCount (now words))
         × (length (now rides) ≡ 192)
         × (2880 ≤ length (now work))
-        × (minute ≤ v)
-        × Spans minute v (now z)
-        × Spans minute v (now old) ⌝ }
-    ensures { λ f. ⌜ FoundAt (now (words .entry)) (now (path .entry)) r v source minute (p .0) f (now (rides .exit)) ⌝ }
+        × (sought .minute ≤ sought .arrive)
+        × Spans (sought .minute) (sought .arrive) (now z)
+        × Spans (sought .minute) (sought .arrive) (now old) ⌝ }
+    ensures { λ f. ⌜ FoundAt (now (words .entry)) (now (path .entry)) r (sought .arrive) (sought .source)
+        (sought .minute) (sought .points .0) f (now (rides .exit)) ⌝ }
     ensures { λ _. ⌜ (length (now (rides .exit)) ≡ length (now (rides .entry)))
         × (length (now (work .exit)) ≡ length (now (work .entry))) ⌝ }
 {
+    let left = sought.points;
     let start = At {
-        alighted: source,
-        arrive: minute,
-        left: p,
+        alighted: sought.source,
+        arrive: sought.minute,
+        left,
     };
     let none = Kept { low: 0, high: 0 };
-    let mut kept = layers::rest(words, lines, minute, path, 0, r, v, none, work, z, old);
-    let head = rides::ride_on(words, lines, minute, path, 0, r, v, start, true, rides, z);
+    let mut kept = query_layers::rest(words, lines, sought, path, 0, r, none, work, z, old);
+    let head = rides::ride_on(words, lines, sought, path, 0, r, start, true, rides, z);
     if !head.found {
         return First {
             found: false,
@@ -91,8 +90,8 @@ fn first_in_time(
     let mut at = head.at;
     let mut i = 1;
     while i < r {
-        kept = layers::rest(words, lines, minute, path, i, r, v, kept, work, z, old);
-        let next = rides::ride_on(words, lines, minute, path, i, r, v, at, false, rides, z);
+        kept = query_layers::rest(words, lines, sought, path, i, r, kept, work, z, old);
+        let next = rides::ride_on(words, lines, sought, path, i, r, at, false, rides, z);
         at = next.at;
         i += 1;
     }
@@ -102,30 +101,28 @@ fn first_in_time(
     }
 }
 
-// The same for any minute v: there is none by a minute before the query's.
+// The same for any arrival that is sought: there is none before the minute of the query.
 pub fn first_of_pattern(
     words: &[u16],
     lines: &[u16],
-    source: usize,
-    minute: usize,
+    sought: Sought,
     path: &[u16],
     r: usize,
-    v: usize,
-    p: Points,
     rides: &mut [u32],
     work: &mut [u32],
 ) -> First
-    requires { ⌜ Given (now words) (now lines) (now path) r v
+    requires { ⌜ Given (now words) (now lines) (now path) r (sought .arrive)
         × (1 ≤ r)
-        × (1 ≤ source)
-        × (source ≤ stationCount (now words))
+        × (1 ≤ sought .source)
+        × (sought .source ≤ stationCount (now words))
         × (length (now rides) ≡ 192)
         × (2880 ≤ length (now work)) ⌝ }
-    ensures { λ f. ⌜ FoundAt (now (words .entry)) (now (path .entry)) r v source minute (p .0) f (now (rides .exit)) ⌝ }
+    ensures { λ f. ⌜ FoundAt (now (words .entry)) (now (path .entry)) r (sought .arrive) (sought .source)
+        (sought .minute) (sought .points .0) f (now (rides .exit)) ⌝ }
     ensures { λ _. ⌜ (length (now (rides .exit)) ≡ length (now (rides .entry)))
         × (length (now (work .exit)) ≡ length (now (work .entry))) ⌝ }
 {
-    if v < minute {
+    if sought.arrive < sought.minute {
         return First {
             found: false,
             depart: 0,
@@ -133,18 +130,5 @@ pub fn first_of_pattern(
     }
     let mut z = [NO_POINTS; MINUTES];
     let mut old = [NO_POINTS; MINUTES];
-    first_in_time(
-        words,
-        lines,
-        source,
-        minute,
-        path,
-        r,
-        v,
-        p,
-        rides,
-        work,
-        &mut z,
-        &mut old,
-    )
+    first_in_time(words, lines, sought, path, r, rides, work, &mut z, &mut old)
 }

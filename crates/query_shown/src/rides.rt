@@ -6,19 +6,25 @@ ghost use mathlib.Core.Bool.{cond};
 ghost use Prim.Native.Nat.{_+_, _*_, _≤_, _<_};
 ghost use lib.ListN.{length};
 ghost use Rattle.words.specs.Put.{put};
+ghost use Rattle.lines_lookup.specs.Calls.{Within};
 ghost use Rattle.query_places.specs.Candidates.{nearRead};
-ghost use Rattle.query_rides.specs.Ways.{costOf, wayBetween};
+ghost use Rattle.query_places.specs.Places.{reachAt};
+ghost use Rattle.query_places.specs.Turns.{tripsFrom};
+ghost use Rattle.query_rides.specs.Ways.{costOf};
 ghost use Rattle.query_shown.specs.Prices.{stepPrice, frontPrice};
-ghost use Rattle.query_shown.specs.Showing.{Given};
-ghost use Rattle.query_shown.specs.Rests.{RestsAt};
+ghost use Rattle.query_rests.specs.Given.{Given};
+ghost use Rattle.query_rests.specs.Rests.{RestsAt};
 ghost use Rattle.query_shown.specs.Heads.{lateness, headOf};
-ghost use Rattle.query_shown.specs.OnTheWay.{boardedAt, Standing, Headed, Moved, Rode};
-ghost use Rattle.query_shown.specs.Turns.{tellsOf, numbersBefore, comesBefore, tried, triedOnto, Sized};
+ghost use Rattle.query_shown.specs.OnTheWay.{boardedAt, Standing, Moved, Rode};
+ghost use Rattle.query_rests.specs.Turns.{tellsOf};
+ghost use Rattle.query_shown.specs.Turns.{numbersBefore, comesBefore, tried, triedOnto, triedAll, callRides, Sized};
 use crate::At;
 use crate::Next;
 use crate::Step;
-use crate::rests;
+use lines_lookup::Boarding;
+use query_layers::Sought;
 use query_minutes::NO_POINTS;
+use query_places::Place;
 use query_rides::Ride;
 use query_rides::Way;
 use results::Cost;
@@ -112,7 +118,7 @@ fn try_ride(first: bool, z: &[u32], left: Points, best: Ride, ride: Ride) -> Rid
     requires { ⌜ Sized best × Sized ride ⌝ }
     ensures { λ r. ⌜ (r ≡ tried first (now (z .entry)) (left .0) best ride) × Sized r ⌝ }
 {
-    let rest = rests::rest_at(z, ride.arrive);
+    let rest = query_rests::rest_at(z, ride.arrive);
     if !query_minutes::less(rest, Points(NO_POINTS)) {
         return best;
     }
@@ -144,24 +150,78 @@ fn try_onto(first: bool, z: &[u32], left: Points, price: Points, best: Ride, rid
     try_ride(first, z, over, best, ride)
 }
 
-// The ride to take from one station to the next, for one who arrived at a minute, with points left to pay. Of the rides
-// from one stop of a trip the one to the nearest place comes first, arrives first and costs no more: the others are not
-// looked at.
-fn choose(
+// The choice once the rides to a place are tried too, on the trips of the line that is boarded from one on.
+fn choose_trips(
     lines: &[u16],
-    from: usize,
-    to: usize,
-    arrive: usize,
+    g: Boarding,
+    to: Place,
+    start: usize,
+    at: At,
     first: bool,
     way: Way,
-    left: Points,
     z: &[u32],
+    old: Ride,
 ) -> Ride
-    requires { ⌜ arrive ≤ 65536 ⌝ }
+    requires { ⌜ Within (now lines) g
+        × (to .place < 65536)
+        × (start ≤ g .line .trips)
+        × (at .arrive ≤ 65536)
+        × Sized old ⌝ }
+    ensures { λ r. ⌜ (r
+        ≡ triedAll first (frontPrice first way (at .arrive)) (now (z .entry)) (at .left .0) old
+        (tripsFrom (now (lines .entry)) (g .line) (g .call .place) start (reachAt to)))
+        × Sized r ⌝ }
+{
+    let left = at.left;
+    let mut best = old;
+    let mut j = start;
+    while j < g.line.trips {
+        let ride = query_rides::ride_at(lines, g, to, j);
+        let price = front_price(first, way, at.arrive, ride);
+        best = try_onto(first, z, left, price, best, ride);
+        j += 1;
+    }
+    best
+}
+
+// The choice once the rides from one call are tried too. Of the rides from one stop of a trip the one to the nearest
+// place comes first, arrives first and costs no more: the others are not looked at.
+fn choose_call(
+    lines: &[u16],
+    g: Boarding,
+    at: At,
+    first: bool,
+    way: Way,
+    z: &[u32],
+    best: Ride,
+) -> Ride
+    requires { ⌜ Within (now lines) g × (at .arrive ≤ 65536) × Sized best ⌝ }
+    ensures { λ r. ⌜ (r
+        ≡ triedAll first (frontPrice first way (at .arrive)) (now (z .entry)) (at .left .0) best
+        (callRides (now (lines .entry)) g (at .arrive)))
+        × Sized r ⌝ }
+{
+    let to = query_places::seek_place(lines, g);
+    if !to.found {
+        return best;
+    }
+    // Who has too little left for the rides to that place takes none of them, whatever the trip.
+    let left = at.left;
+    let points = to.points;
+    if query_minutes::less(left, points) {
+        return best;
+    }
+    let start = lines_lookup::first_trip(lines, g.line, g.call.place, at.arrive);
+    choose_trips(lines, g, to, start, at, first, way, z, best)
+}
+
+// The ride to take from one station to the next, from where one is; z holds what is left after it.
+fn choose(lines: &[u16], from: usize, to: usize, at: At, first: bool, way: Way, z: &[u32]) -> Ride
+    requires { ⌜ at .arrive ≤ 65536 ⌝ }
     ensures { λ r. ⌜ (r
         ≡ tellsOf
-        (headOf first (frontPrice first way arrive) (now (z .entry)) (left .0)
-        (nearRead (now (lines .entry)) from arrive to)))
+        (headOf first (frontPrice first way (at .arrive)) (now (z .entry)) (at .left .0)
+        (nearRead (now (lines .entry)) from (at .arrive) to)))
         × Sized r ⌝ }
 {
     let mut best = Ride {
@@ -172,12 +232,15 @@ fn choose(
         arrive: 0,
         points: Points(0),
     };
-    let mut c = query_rides::begin(lines, from, to, arrive);
-    while c.more {
-        let ride = query_rides::tell(lines, c);
-        let price = front_price(first, way, arrive, ride);
-        best = try_onto(first, z, left, price, best, ride);
-        c = query_rides::next_nearest(lines, arrive, c);
+    let mut rest = lines_lookup::list_of(lines, to);
+    let list = lines_lookup::list_of(lines, from);
+    let end = list.end;
+    let mut k = list.from;
+    while k + 1 < end {
+        let g = lines_lookup::boarding_at(lines, k, rest);
+        rest = g.rest;
+        best = choose_call(lines, g, at, first, way, z, best);
+        k += 2;
     }
     best
 }
@@ -190,35 +253,7 @@ fn boarded(path: &[u16], i: usize, first: bool, alighted: usize) -> usize
     if first {
         return alighted;
     }
-    rests::station(path, 2 * i - 1)
-}
-
-// Ride i along the path, if there is one to take, from where one is; z holds what is left after it.
-fn take_ride(
-    words: &[u16],
-    lines: &[u16],
-    minute: usize,
-    path: &[u16],
-    i: usize,
-    r: usize,
-    v: usize,
-    at: At,
-    first: bool,
-    from: usize,
-    way: Way,
-    z: &[u32],
-) -> Ride
-    requires { ⌜ Given (now words) (now lines) (now path) r v
-        × (i < r)
-        × Standing (now words) minute first i at
-        × (from ≡ boardedAt (now path) first i (at .alighted))
-        × (way ≡ wayBetween (now words) (at .alighted) from)
-        × RestsAt (now words) (now path) r v minute i (now z) ⌝ }
-    ensures { λ s. ⌜ Headed (now (words .entry)) (now (path .entry)) r v first i at s × Sized s ⌝ }
-{
-    let left = at.left;
-    let to = rests::station(path, 2 * i);
-    choose(lines, from, to, at.arrive, first, way, left, z)
+    query_rests::station(path, 2 * i - 1)
 }
 
 // Writes the numbers of ride i.
@@ -241,7 +276,7 @@ fn move_on(path: &[u16], i: usize, left: Points, price: Points, ride: Ride, ride
     ensures { λ _. ⌜ length (now (rides .exit)) ≡ length (now (rides .entry)) ⌝ }
 {
     put_ride(rides, i, ride);
-    let alighted = rests::station(path, 2 * i);
+    let alighted = query_rests::station(path, 2 * i);
     let points = ride.points;
     let rest = query_minutes::left_of(query_minutes::left_of(left, price), points);
     At {
@@ -255,28 +290,28 @@ fn move_on(path: &[u16], i: usize, left: Points, price: Points, ride: Ride, ride
 pub fn ride_on(
     words: &[u16],
     lines: &[u16],
-    minute: usize,
+    sought: Sought,
     path: &[u16],
     i: usize,
     r: usize,
-    v: usize,
     at: At,
     first: bool,
     rides: &mut [u32],
     z: &[u32],
 ) -> Next
-    requires { ⌜ Given (now words) (now lines) (now path) r v
+    requires { ⌜ Given (now words) (now lines) (now path) r (sought .arrive)
         × (i < r)
-        × Standing (now words) minute first i at
+        × Standing (now words) (sought .minute) first i at
         × (length (now rides) ≡ 192)
-        × RestsAt (now words) (now path) r v minute i (now z) ⌝ }
-    ensures { λ s. ⌜ Rode (now (words .entry)) (now (path .entry)) r v first i at (now (rides .entry))
+        × RestsAt (now words) (now path) r (sought .arrive) (sought .minute) i (now z) ⌝ }
+    ensures { λ s. ⌜ Rode (now (words .entry)) (now (path .entry)) r (sought .arrive) first i at (now (rides .entry))
         (now (rides .exit)) s ⌝ }
     ensures { λ _. ⌜ length (now (rides .exit)) ≡ length (now (rides .entry)) ⌝ }
 {
     let from = boarded(path, i, first, at.alighted);
+    let to = query_rests::station(path, 2 * i);
     let way = query_rides::way_between(words, at.alighted, from);
-    let ride = take_ride(words, lines, minute, path, i, r, v, at, first, from, way, z);
+    let ride = choose(lines, from, to, at, first, way, z);
     if ride.trip == NO_TRIP {
         return Next {
             found: false,

@@ -4,7 +4,7 @@ use Prim.Native.Nat.{_≤_, _*_, _-_}
 use lib.ListN.{length}
 use Rattle.promises.specs.Query.{rows}
 use Rattle.query_minutes.specs.Ending.{LeadsEnd}
-use Rattle.query_rows.specs.Leader.{AllNamed}
+use Rattle.query_rows.specs.Named.{AllNamed}
 use Rattle.query_rows.proofs.PassLaws.{Counting, counting-begin, all-counted, all-led-now}
 use Rattle.query_rows.proofs.PointLaws.{count-skip-at, count-leading-at, count-named-at, count-row-at, named-at}
 use borrow.Author.Needs.{needs}

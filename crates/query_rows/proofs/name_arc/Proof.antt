@@ -1,6 +1,7 @@
 -- The arc is found, and the length of the row follows from its sequence.
-use Rattle.query_rows.specs.Arcs.{store-made}
-use Rattle.query_rows.specs.Leader.{named-read, leader-named}
+use Rattle.query_arcs.specs.Arcs.{store-made}
+use Rattle.query_winner.specs.Leader.{named-read}
+use Rattle.query_rows.specs.Named.{leader-named}
 use borrow.Author.Needs.{needs}
 use Rattle.query_rows.proofs.name_arc.Statement.{statement}
 use Rattle.query_rows.proofs.name_arc.Tie as tie

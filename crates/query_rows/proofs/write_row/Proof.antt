@@ -1,5 +1,5 @@
 -- The row is that of what is found along the arc named.
-use Rattle.query_rows.specs.Leader.{leader-read}
+use Rattle.query_winner.specs.Leader.{leader-read}
 use Rattle.query_rows.proofs.RowLaws.{row-room, row-written}
 use borrow.Author.Needs.{needs}
 use Rattle.query_rows.proofs.write_row.Statement.{statement}

@@ -4,27 +4,27 @@ use mathlib.Core.Path.{_≡_}
 use Prim.Native.Nat.{_-_, _≤_}
 use lib.ListN.{length}
 use borrow.Author.Needs.{needs}
-use Rattle.query_shown.specs.Spans.{Spans}
-use Rattle.query_shown.specs.Layers.{Keeps}
-use Rattle.query_shown.proofs.LayerLaws.{keeps-none}
+use Rattle.query_rests.specs.Spans.{Spans}
+use Rattle.query_layers.specs.Layers.{Keeps}
+use Rattle.query_layers.proofs.LayerLaws.{keeps-none}
 use Rattle.query_shown.proofs.WayLaws.{starts-there, starts, none-there}
 use Rattle.query_shown.proofs.WayLaws.{Onward, onward-first, onward-stands, onward-more, onward-arrives}
 use Rattle.query_shown.proofs.first_in_time.Statement.{statement}
 use Rattle.query_shown.proofs.first_in_time.Tie as tie
 
 abbrev Inv-loop : tie.InvT-loop
-Inv-loop words lines source minute path r v rides₀ work₀ z₀ old₀ kept₀ depart at₀ i₀ rides work z old kept at i =
-    Onward words lines path r v source minute depart rides₀ at₀ i rides at
-    × Keeps words path r v minute i kept work
+Inv-loop words lines sought path r rides₀ work₀ z₀ old₀ kept₀ depart at₀ i₀ rides work z old kept at i =
+    Onward words lines path r (sought .arrive) (sought .source) (sought .minute) depart rides₀ at₀ i rides at
+    × Keeps words path r (sought .arrive) (sought .minute) i kept work
     × (r ≤ 64)
     × (2880 ≤ length work)
     × (length work ≡ length work₀)
-    × (minute ≤ v)
-    × Spans minute v z
-    × Spans minute v old
+    × (sought .minute ≤ sought .arrive)
+    × Spans (sought .minute) (sought .arrive) z
+    × Spans (sought .minute) (sought .arrive) old
 
 abbrev μ-loop : tie.MeasureT-loop
-μ-loop words lines source minute path r v rides₀ work₀ z₀ old₀ kept₀ depart at₀ i₀ rides work z old kept at i = r - i
+μ-loop words lines sought path r rides₀ work₀ z₀ old₀ kept₀ depart at₀ i₀ rides work z old kept at i = r - i
 
 rest-requires : tie.Need-rest-requires Inv-loop μ-loop
 rest-requires c κs =
@@ -37,15 +37,17 @@ returns : tie.Need-returns Inv-loop μ-loop
 returns c =
     let ridden = c .before .before .before .before in
     let rested = ridden .before .before .before .before .before .before .before .before .before in
-    let entry = rested .before .before .before .before .before .before .before .before .before .before .before in
+    let begun = rested .before .before .before .before in
+    let entry = begun .before .before .before .before .before .before .before .before in
     (search (none-there, entry .pre, ridden .ride-on .ensures), search needs)
 
 loop-holds : tie.Need-loop-holds Inv-loop μ-loop
 loop-holds c =
     let ridden = c .before .before .before .before .before in
     let rested = ridden .before .before .before .before .before .before .before .before .before in
-    let entry = rested .before .before .before .before .before .before .before .before .before .before .before in (
-      onward-first (entry .args .p) (search (starts, entry .pre, ridden .ride-on .ensures)),
+    let begun = rested .before .before .before .before in
+    let entry = begun .before .before .before .before .before .before .before .before in (
+      onward-first (entry .args .sought .points) (search (starts, entry .pre, ridden .ride-on .ensures)),
       search (rested .rest .ensures),
       entry .pre .0 .few,
       search needs,
@@ -81,21 +83,24 @@ same-length-7 : tie.Need-same-length-7 Inv-loop μ-loop
 same-length-7 c =
     let ridden = c .before .before .before .before .before .before .before in
     let rested = ridden .before .before .before .before .before .before .before .before .before in
-    let entry = rested .before .before .before .before .before .before .before .before .before .before .before in
+    let begun = rested .before .before .before .before in
+    let entry = begun .before .before .before .before .before .before .before .before in
     search (needs, entry .pre)
 
 same-length-8 : tie.Need-same-length-8 Inv-loop μ-loop
 same-length-8 c =
     let ridden = c .before .before .before .before .before .before .before in
     let rested = ridden .before .before .before .before .before .before .before .before .before in
-    let entry = rested .before .before .before .before .before .before .before .before .before .before .before in
+    let begun = rested .before .before .before .before in
+    let entry = begun .before .before .before .before .before .before .before .before in
     search (needs, entry .pre)
 
 returns-2 : tie.Need-returns-2 Inv-loop μ-loop
 returns-2 c =
     let ridden = c .before .before .before .before .before .before .before in
     let rested = ridden .before .before .before .before .before .before .before .before .before in
-    let entry = rested .before .before .before .before .before .before .before .before .before .before .before in
+    let begun = rested .before .before .before .before in
+    let entry = begun .before .before .before .before .before .before .before .before in
     (search (onward-arrives, entry .pre, ridden .ride-on .ensures, c .before .loop .inv .0), search needs)
 
 pub first-in-time-spec : {M : Type 1} → statement M

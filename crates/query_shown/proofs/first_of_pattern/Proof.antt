@@ -1,6 +1,6 @@
 -- Nothing is noted in new arrays; and nobody arrives before the query.
 use borrow.Author.Needs.{needs}
-use Rattle.query_shown.specs.Spans.{spans-blank}
+use Rattle.query_rests.specs.Spans.{spans-blank}
 use Rattle.query_shown.proofs.WayLaws.{none-late}
 use Rattle.query_shown.proofs.first_of_pattern.Statement.{statement}
 use Rattle.query_shown.proofs.first_of_pattern.Tie as tie

@@ -1,0 +1,6 @@
+pub mod Kept
+pub mod Merged
+pub mod Collected
+pub mod Sole
+pub mod Granted
+pub mod Arcs
