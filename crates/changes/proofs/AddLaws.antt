@@ -1,8 +1,8 @@
 -- The ways out of the call that adds a trip.
-use mathlib.Core.Path.{_≡_, refl, sym, ap, _∙_}
+use mathlib.Core.Path.{_≡_, refl, sym, ap, subst, _∙_}
 use mathlib.Core.Bool.{Bool, true, false, not, _&&_}
 use mathlib.Core.List.{List, [], _∷_, _++_, append-assoc}
-use Prim.Native.Nat.{ℕ, zero, suc}
+use Prim.Native.Nat.{ℕ, zero, suc, _≤_, _<_}
 use native.Mathlib.Omega.{arith}
 use lib.Dec.{eqb·suc-zero}
 use lib.ListN.{length, getD, take, drop, length-append}
@@ -10,16 +10,17 @@ use Rattle.questions.specs.Question.{ask, firstNo}
 use Rattle.replies.specs.Later.{asked-on, asked-out}
 use Rattle.words.specs.Put.{put}
 use Rattle.timetable.specs.Timetable.{Trip, Timetable, stopsOf, climb, validStations, validWalks, validTrips, valid}
-use Rattle.timetable.specs.Words.{words, timetableOf, isTimetable}
+use Rattle.timetable.specs.Words.{words, tripCount, timetableOf, isTimetable}
 use Rattle.timetable.specs.Check.{length-stations, length-trips}
 use Rattle.timetable.specs.Access.{spelled-valid}
-use Rattle.timetable.specs.Changes.{runsAs, placeOf, added}
+use Rattle.timetable.specs.Changes.{without, inserted, runsAs, placeOf, added}
 use Rattle.reading.specs.Reading.{Outcome, Accepted, Refused, readExtra}
 use Rattle.reading.specs.declared.Reply.{Reply}
 use Rattle.reading.specs.declared.Reply.the-variants.{Done, Refused as ReplyRefused}
 use Rattle.accepted.specs.Valid.{is-valid, valid-is}
 use Rattle.accepted.specs.Changed.{climb-more}
 use Rattle.accepted.specs.Extra.{ExtraRead, extra-one, extra-valid}
+use Rattle.lines_order.specs.Order.{OrderOf}
 use Rattle.lines_tables.specs.Tables.{tableWords}
 use Rattle.lines_tables.specs.Building.{lineCount}
 use Rattle.lines_check.specs.Question10.{tablesQuestions, tablesNumber}
@@ -30,7 +31,7 @@ use Rattle.changes_extra.specs.Extra.{TripIs, TripRead}
 use Rattle.changes_extra.specs.declared.Found.{Found}
 use Rattle.changes_extra.specs.declared.Found.the-variants.{Whole, Refused as FoundRefused}
 use Rattle.changes.proofs.AskedLaws.{tables-yes, granted}
-use Rattle.changes.proofs.AfterLaws.{after-yes, after-spells}
+use Rattle.changes.proofs.AfterLaws.{after-yes, after-spells, back, length-inserted}
 use Rattle.changes_places.specs.Runs.{all-stops}
 
 module _ (w v : List ℕ) (m n : ℕ) (text : List ℕ) where
@@ -247,6 +248,31 @@ module _ (w v : List ℕ) (m n : ℕ) (text : List ℕ) where
 
             spells : timetableOf out ≡ added (timetableOf w) n trip
             spells = after-spells (added (timetableOf w) n trip) added-okay w out written
+
+            trips-are : (timetableOf out) .trips ≡ inserted place trip ((timetableOf w) .trips)
+            unfolding added
+            trips-are =
+                ap (λ (t : Timetable). t .trips) spells
+                ∙ ap (λ k. inserted k trip ((timetableOf w) .trips)) (sym is-place)
+
+            module _ (listed : place ≤ tripCount w) where
+              pub added-inside : place < tripCount out
+              added-inside =
+                  omega (
+                    arith,
+                    length-trips w,
+                    length-trips out,
+                    ap length trips-are,
+                    length-inserted place trip ((timetableOf w) .trips),
+                  )
+
+              pub added-order : (order : List ℕ) → OrderOf ((timetableOf w) .trips) order
+                  → OrderOf (without place ((timetableOf out) .trips)) order
+              added-order order given =
+                  let same : without place ((timetableOf out) .trips) ≡ (timetableOf w) .trips =
+                  ap (without place) trips-are
+                  ∙ back place trip ((timetableOf w) .trips) (omega (arith, length-trips w)) in
+                  subst (λ l. OrderOf l order) (sym same) given
 
             is-accepted : addOutcome w v m n text ≡ Accepted one (kept .lines)
             is-accepted = is-outcome ∙ kept .accepted

@@ -16,7 +16,8 @@ use Rattle.timetable.specs.Words.{words, tripCount, timetableOf, isTimetable}
 use Rattle.timetable.specs.Check.{length-numbers}
 use Rattle.timetable.specs.Access.{spelled-valid}
 use Rattle.timetable.specs.Numbers.{climbs}
-use Rattle.timetable.specs.Changes.{runsAs, placeOf}
+use Rattle.timetable.specs.Changes.{without, runsAs, placeOf}
+use Rattle.lines_order.specs.Order.{OrderOf}
 use Rattle.lines_tables.specs.Tables.{tableWords}
 use Rattle.lines_tables.specs.Building.{lineCount}
 use Rattle.lines_check.specs.Question10.{tablesQuestions, tablesNumber}
@@ -25,7 +26,7 @@ use Rattle.promises.specs.Changes.{cancelNumber, afterCancel, cancelReply, canc
 use Rattle.changes_words.specs.Appended.{leftOut}
 use Rattle.changes_places.specs.Places.{running-inside}
 use Rattle.changes.proofs.AskedLaws.{tables-yes, granted}
-use Rattle.changes.proofs.AfterLaws.{left-written, left-yes, left-spells}
+use Rattle.changes.proofs.AfterLaws.{left-written, left-yes, left-spells, left-order}
 
 -- ---- a refusal
 module _ (w v : List ℕ) (m n : ℕ) where
@@ -114,6 +115,10 @@ module _ (w v : List ℕ) (m n : ℕ) where
         module _ (out : List ℕ) (e : out ≡ put 0 (words (leftOut (timetableOf w) place)) w) where
           pub done-yes : isTimetable out ≡ true
           done-yes = left-yes w okay n place is-place out e
+
+          pub done-order : (order : List ℕ) → OrderOf (without place ((timetableOf w) .trips)) order
+              → OrderOf ((timetableOf out) .trips) order
+          done-order order given = left-order w okay n place is-place out e order given
 
           pub done-timetable : out ≡ cancelTimetable w v m n
           unfolding cancelTimetable

@@ -2,11 +2,13 @@
 // those built afresh from the trips that now run, in rising number.
 ghost use mathlib.Core.Path.{_≡_};
 ghost use mathlib.Core.Bool.{true, false};
-ghost use Prim.Native.Nat.{_≤_};
+ghost use Prim.Native.Nat.{_≤_, _<_};
 ghost use lib.ListN.{length};
 ghost use Rattle.words.specs.Put.{put};
-ghost use Rattle.timetable.specs.Changes.{runsAs, placeOf};
-ghost use Rattle.timetable.specs.Words.{tripCount, timetableOf, isTimetable};
+ghost use Rattle.timetable.specs.Changes.{without, runsAs, placeOf};
+ghost use Rattle.timetable.specs.Words.{words, tripCount, timetableOf, isTimetable};
+ghost use Rattle.changes_words.specs.Appended.{leftOut};
+ghost use Rattle.lines_order.specs.Order.{OrderOf};
 ghost use Rattle.lines_tables.specs.Tables.{tableWords};
 ghost use Rattle.lines_tables.specs.Building.{lineCount};
 ghost use Rattle.lines_check.specs.Question10.{tablesNumber};
@@ -14,22 +16,53 @@ ghost use Rattle.promises.specs.Changes.{cancelReply, cancelTimetable, cancelLi
 use changes_extra::Found;
 use replies::Reply;
 
-// Builds the line tables of the timetable after a change. Returns the number of lines.
-fn rebuild(timetable: &[u16], lines: &mut [u16], work: &mut [u32]) -> u32
+// Builds the line tables of the timetable after a change, whose trips are given in order. Returns the number of lines.
+fn rebuild(timetable: &[u16], order: &[u16], lines: &mut [u16], work: &mut [u32]) -> u32
     requires { ⌜ (16384 ≤ length (now timetable))
         × (isTimetable (now timetable) ≡ true)
+        × (length (now order) ≡ 256)
+        × OrderOf ((timetableOf (now timetable)) .trips) (now order)
         × (16384 ≤ length (now lines))
         × (16384 ≤ length (now work)) ⌝ }
     ensures { λ _. ⌜ now (lines .exit)
         ≡ put 0 (tableWords (timetableOf (now (timetable .entry)))) (now (lines .entry)) ⌝ }
     ensures { λ r. ⌜ r ≡ lineCount (timetableOf (now (timetable .entry))) ⌝ }
 {
-    lines_call::build_tables(timetable, lines, &mut work[0..lines_tables::WORDS_LEAST])
+    lines_call::build_tables(
+        timetable,
+        order,
+        lines,
+        &mut work[0..lines_tables::WORDS_LEAST],
+    )
 }
 
-// Cancels the trip of this number, where questions 8 to 10 have their yes.
-fn cancel_asked(timetable: &mut [u16], lines: &mut [u16], work: &mut [u32], trip: u32) -> Reply
+// Takes the trip at this place out of the timetable, and out of its trips in order.
+fn take_out(timetable: &mut [u16], order: &mut [u16], place: usize)
+    requires { ⌜ (16384 ≤ length (now timetable))
+        × (isTimetable (now timetable) ≡ true)
+        × (place < tripCount (now timetable))
+        × (length (now order) ≡ 256)
+        × OrderOf ((timetableOf (now timetable)) .trips) (now order) ⌝ }
+    ensures { λ _. ⌜ now (timetable .exit)
+        ≡ put 0 (words (leftOut (timetableOf (now (timetable .entry))) place)) (now (timetable .entry)) ⌝ }
+    ensures { λ _. ⌜ OrderOf (without place ((timetableOf (now (timetable .entry))) .trips)) (now (order .exit)) ⌝ }
+    ensures { λ _. ⌜ (length (now (timetable .exit)) ≡ length (now (timetable .entry)))
+        × (length (now (order .exit)) ≡ 256) ⌝ }
+{
+    lines_order::leave_out(timetable, order, place as u16);
+    changes_words::leave_out(timetable, place);
+}
+
+// Cancels the trip of this number, where questions 8 to 10 have their yes and the trips are given in order.
+fn cancel_asked(
+    timetable: &mut [u16],
+    lines: &mut [u16],
+    work: &mut [u32],
+    order: &mut [u16],
+    trip: u32,
+) -> Reply
     requires { ⌜ tablesNumber (now timetable) (now lines) (length (now work)) ≡ 0 ⌝ }
+    requires { ⌜ (length (now order) ≡ 256) × OrderOf ((timetableOf (now timetable)) .trips) (now order) ⌝ }
     ensures { λ r. ⌜ r
         ≡ cancelReply (now (timetable .entry)) (now (lines .entry)) (length (now (work .entry))) trip ⌝ }
     ensures { λ _. ⌜ now (timetable .exit)
@@ -41,8 +74,8 @@ fn cancel_asked(timetable: &mut [u16], lines: &mut [u16], work: &mut [u32], trip
     if !changes_places::is_running(timetable, place, trip) {
         return Reply::Refused { number: 18 };
     }
-    changes_words::leave_out(timetable, place);
-    let count = rebuild(timetable, lines, work);
+    take_out(timetable, order, place);
+    let count = rebuild(timetable, order, lines, work);
     Reply::Done { count }
 }
 
@@ -55,11 +88,12 @@ pub fn cancel(timetable: &mut [u16], lines: &mut [u16], work: &mut [u32], trip: 
     ensures lines { λ _. ⌜ now (lines .exit)
         ≡ cancelLines (now (timetable .entry)) (now (lines .entry)) (length (now (work .entry))) trip ⌝ }
 {
-    let number = lines_check::tables_number(timetable, lines, work);
+    let mut order = [0u16; lines_order::ORDER_WORDS];
+    let number = lines_check::order_number(timetable, lines, work, &mut order);
     if number != 0 {
         return Reply::Refused { number };
     }
-    cancel_asked(timetable, lines, work, trip)
+    cancel_asked(timetable, lines, work, &mut order, trip)
 }
 
 // Adds a trip of this number, which does not run, at its place.
@@ -67,6 +101,7 @@ fn add_free(
     timetable: &mut [u16],
     lines: &mut [u16],
     work: &mut [u32],
+    order: &mut [u16],
     trip: u32,
     text: &[u8],
     place: usize,
@@ -75,6 +110,7 @@ fn add_free(
         × (place ≡ placeOf trip ((timetableOf (now timetable)) .numbers))
         × (place ≤ tripCount (now timetable))
         × (runsAs trip ((timetableOf (now timetable)) .numbers) ≡ false) ⌝ }
+    requires { ⌜ (length (now order) ≡ 256) × OrderOf ((timetableOf (now timetable)) .trips) (now order) ⌝ }
     ensures { λ r. ⌜ r
         ≡ addReply (now (timetable .entry)) (now (lines .entry)) (length (now (work .entry))) trip
         (now (text .entry)) ⌝ }
@@ -92,21 +128,24 @@ fn add_free(
         }
         Found::Whole => {
             changes_words::put_in(timetable, place, &extra);
-            let count = rebuild(timetable, lines, work);
+            lines_order::put_in(timetable, order, place as u16);
+            let count = rebuild(timetable, order, lines, work);
             return reading::Reply::Done { lines: count };
         }
     }
 }
 
-// Adds a trip of this number, where questions 8 to 10 have their yes.
+// Adds a trip of this number, where questions 8 to 10 have their yes and the trips are given in order.
 fn add_asked(
     timetable: &mut [u16],
     lines: &mut [u16],
     work: &mut [u32],
+    order: &mut [u16],
     trip: u32,
     text: &[u8],
 ) -> reading::Reply
     requires { ⌜ tablesNumber (now timetable) (now lines) (length (now work)) ≡ 0 ⌝ }
+    requires { ⌜ (length (now order) ≡ 256) × OrderOf ((timetableOf (now timetable)) .trips) (now order) ⌝ }
     ensures { λ r. ⌜ r
         ≡ addReply (now (timetable .entry)) (now (lines .entry)) (length (now (work .entry))) trip
         (now (text .entry)) ⌝ }
@@ -124,7 +163,7 @@ fn add_asked(
             line: 0,
         };
     }
-    add_free(timetable, lines, work, trip, text, place)
+    add_free(timetable, lines, work, order, trip, text, place)
 }
 
 // Adds a trip of this number by its lines. Working space may hold any words afterwards.
@@ -145,9 +184,10 @@ pub fn add(
         ≡ addLines (now (timetable .entry)) (now (lines .entry)) (length (now (work .entry))) trip
         (now (text .entry)) ⌝ }
 {
-    let number = lines_check::tables_number(timetable, lines, work);
+    let mut order = [0u16; lines_order::ORDER_WORDS];
+    let number = lines_check::order_number(timetable, lines, work, &mut order);
     if number != 0 {
         return reading::Reply::Refused { number, line: 0 };
     }
-    add_asked(timetable, lines, work, trip, text)
+    add_asked(timetable, lines, work, &mut order, trip, text)
 }

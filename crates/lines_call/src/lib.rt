@@ -4,22 +4,26 @@ ghost use mathlib.Core.Bool.{true};
 ghost use Prim.Native.Nat.{_≤_};
 ghost use lib.ListN.{length};
 ghost use Rattle.words.specs.Put.{put};
-ghost use Rattle.timetable.specs.Words.{isTimetable};
+ghost use Rattle.timetable.specs.Words.{timetableOf, isTimetable};
+ghost use Rattle.lines_order.specs.Order.{OrderOf};
 ghost use Rattle.lines_tables.specs.Model.{linesAt, tableAt};
 ghost use Rattle.replies.specs.Replies.{valuesOf};
 ghost use Rattle.lines_tables.specs.Building.{buildReply, buildValues, buildWords};
 use replies::Reply;
 
-// Writes the line tables of a timetable to working space, and then as words of 16 bits. Returns the number of lines.
-pub fn build_tables(words: &[u16], lines: &mut [u16], work: &mut [u32]) -> u32
+// Writes the line tables of a timetable, whose trips are given in order, to working space, and then as words of 16
+// bits. Returns the number of lines.
+pub fn build_tables(words: &[u16], order: &[u16], lines: &mut [u16], work: &mut [u32]) -> u32
     requires { ⌜ (16384 ≤ length (now words))
         × (isTimetable (now words) ≡ true)
+        × (length (now order) ≡ 256)
+        × OrderOf ((timetableOf (now words)) .trips) (now order)
         × (16384 ≤ length (now lines))
         × (length (now work) ≡ 16384) ⌝ }
     ensures { λ _. ⌜ now (lines .exit) ≡ put 0 (tableAt (now (words .entry))) (now (lines .entry)) ⌝ }
     ensures { λ r. ⌜ r ≡ length (linesAt (now (words .entry))) ⌝ }
 {
-    let count = lines_tables::write_tables(words, work);
+    let count = lines_tables::write_in_order(words, order, work);
     words::narrow(lines, work, count);
     work[1]
 }
@@ -43,7 +47,14 @@ fn build_asked(words: &[u16], lines: &mut [u16], work: &mut [u32]) -> Reply
     if !timetable_check::is_timetable(words) {
         return Reply::Refused { number: 9 };
     }
-    let count = build_tables(words, lines, &mut work[0..lines_tables::WORDS_LEAST]);
+    let mut order = [0u16; lines_order::ORDER_WORDS];
+    lines_order::order_trips(words, words::word(words, 1) as usize, &mut order);
+    let count = build_tables(
+        words,
+        &order,
+        lines,
+        &mut work[0..lines_tables::WORDS_LEAST],
+    );
     Reply::Done { count }
 }
 

@@ -6,10 +6,11 @@ ghost use Prim.Native.Nat.{_≤_};
 ghost use lib.Dec.{eqb};
 ghost use lib.ListN.{length, take};
 ghost use Rattle.lists.specs.Lists.{same};
-ghost use Rattle.timetable.specs.Words.{isTimetable};
+ghost use Rattle.timetable.specs.Words.{timetableOf, isTimetable};
+ghost use Rattle.lines_order.specs.Order.{OrderOf};
 ghost use Rattle.lines_check.specs.Question10.{areTables, tablesNumber};
 ghost use Rattle.lines_check.specs.Asked.{listed, named, queryNumber};
-ghost use Rattle.timetable.specs.Words.{timetableOf};
+ghost use Rattle.lines_check.specs.Ordered.{Ordered};
 
 // The last minute of the two days that a timetable has.
 const LAST_MINUTE: u32 = timetable::LAST_MINUTE;
@@ -39,6 +40,21 @@ fn same_words(lines: &[u16], work: &[u32], count: usize) -> bool
     others == 0
 }
 
+// Whether the line tables are those of the timetable, whose trips are given in order. Working space may hold any words
+// afterwards.
+fn match_tables(words: &[u16], order: &[u16], lines: &[u16], work: &mut [u32]) -> bool
+    requires { ⌜ (16384 ≤ length (now words))
+        × (isTimetable (now words) ≡ true)
+        × (length (now order) ≡ 256)
+        × OrderOf ((timetableOf (now words)) .trips) (now order)
+        × (16384 ≤ length (now lines))
+        × (length (now work) ≡ 16384) ⌝ }
+    ensures { λ r. ⌜ r ≡ areTables (now (words .entry)) (now (lines .entry)) ⌝ }
+{
+    let count = lines_tables::write_in_order(words, order, work);
+    same_words(lines, work, count)
+}
+
 // Whether the line tables are those of the timetable. Working space may hold any words afterwards.
 pub fn are_tables(words: &[u16], lines: &[u16], work: &mut [u32]) -> bool
     requires { ⌜ (16384 ≤ length (now words))
@@ -47,15 +63,19 @@ pub fn are_tables(words: &[u16], lines: &[u16], work: &mut [u32]) -> bool
         × (length (now work) ≡ 16384) ⌝ }
     ensures { λ r. ⌜ r ≡ areTables (now (words .entry)) (now (lines .entry)) ⌝ }
 {
-    let count = lines_tables::write_tables(words, work);
-    same_words(lines, work, count)
+    let mut order = [0u16; lines_order::ORDER_WORDS];
+    lines_order::order_trips(words, words::word(words, 1) as usize, &mut order);
+    match_tables(words, &order, lines, work)
 }
 
-// Questions 8, 9 and 10 to a timetable and line tables lent with it: 0, or the number of the first no. Working space
-// may hold any words afterwards.
-pub fn tables_number(words: &[u16], lines: &[u16], work: &mut [u32]) -> u32
+// Questions 8, 9 and 10 to a timetable and line tables lent with it: 0, or the number of the first no. If it is 0, the
+// array has the trips in order afterwards. Working space may hold any words.
+pub fn order_number(words: &[u16], lines: &[u16], work: &mut [u32], order: &mut [u16]) -> u32
+    requires { ⌜ length (now order) ≡ 256 ⌝ }
     ensures { λ r. ⌜ r
         ≡ tablesNumber (now (words .entry)) (now (lines .entry)) (length (now (work .entry))) ⌝ }
+    ensures { λ r. ⌜ Ordered r (now (words .entry)) (now (order .exit)) ⌝ }
+    ensures { λ _. ⌜ length (now (order .exit)) ≡ 256 ⌝ }
 {
     if words.len() < timetable::WORDS_LEAST {
         return 8;
@@ -69,10 +89,21 @@ pub fn tables_number(words: &[u16], lines: &[u16], work: &mut [u32]) -> u32
     if !timetable_check::is_timetable(words) {
         return 9;
     }
-    if are_tables(words, lines, &mut work[0..lines_tables::WORDS_LEAST]) {
+    lines_order::order_trips(words, words::word(words, 1) as usize, order);
+    if match_tables(words, order, lines, &mut work[0..lines_tables::WORDS_LEAST]) {
         return 0;
     }
     10
+}
+
+// Questions 8, 9 and 10 to a timetable and line tables lent with it: 0, or the number of the first no. Working space
+// may hold any words afterwards.
+pub fn tables_number(words: &[u16], lines: &[u16], work: &mut [u32]) -> u32
+    ensures { λ r. ⌜ r
+        ≡ tablesNumber (now (words .entry)) (now (lines .entry)) (length (now (work .entry))) ⌝ }
+{
+    let mut order = [0u16; lines_order::ORDER_WORDS];
+    order_number(words, lines, work, &mut order)
 }
 
 // Whether the timetable lists this station.

@@ -1,8 +1,9 @@
 -- The loop over the trips in order: what it keeps, and its ways on and out. A turn adds the next trip to the first line
 -- that it can join, which is what the definition does with it.
 use mathlib.Core.Path.{_≡_, refl, sym, ap, subst, _∙_}
+use mathlib.Core.Bool.{true}
 use mathlib.Core.List.{List, [], _∷_, _++_, map}
-use Prim.Native.Nat.{ℕ, suc, _+_, _^_, _≤_, _<_}
+use Prim.Native.Nat.{ℕ, suc, _+_, _≤_, _<_}
 use native.Mathlib.Numerals.{add-one}
 use native.Mathlib.Decide.{ℕ-discrete}
 use native.Mathlib.Omega.{arith}
@@ -13,15 +14,15 @@ use Rattle.lists.specs.Lists.{_∈_}
 use Rattle.lists.specs.Members.{none}
 use Rattle.lists.specs.Places.{getD-in}
 use Rattle.timetable.specs.Timetable.{Trip}
-use Rattle.timetable.specs.Words.{tripCount, timetableOf}
+use Rattle.timetable.specs.Words.{tripCount, timetableOf, isTimetable}
 use Rattle.timetable.specs.Check.{length-trips}
 use Rattle.timetable.specs.Access.{trip-is}
 use Rattle.lines.specs.Lines.{lastOf, addTrip, addTrips, inOrder, lines}
 use Rattle.lines.specs.Once.{onLines}
 use Rattle.lines_found.specs.Grouped.{endsFrom}
-use Rattle.lines_order.specs.Steps.{Below, firstPlace, same-place, held}
+use Rattle.lines_order.specs.Steps.{Below, firstPlace, same-place, held, trips-most}
 use Rattle.lines_found.specs.Steps.{runsBefore}
-use Rattle.lines_order.specs.Order.{all-in-order, in-order-out, length-order}
+use Rattle.lines_order.specs.Order.{OrderOf, all-in-order, in-order-out, length-order}
 use Rattle.lines_found.specs.Joined.{joinAt, Holds, Joined, joinable, add-joins, ends-below, length-ends}
 use Rattle.lines_found.specs.Joined.{length-joins, length-founds, lasts-join, lasts-found, lasts-below}
 use Rattle.lines_found.specs.Taken.{TakenTo, OfLasts}
@@ -91,22 +92,32 @@ lasts-after lasts i z n m ls is e h g count = elim (ℕ-discrete i n) [ yes d �
 order-long : (w : List ℕ) → length (inOrder (tripsOf w)) ≡ tripCount w
 order-long w = length-order (tripsOf w) ∙ length-trips w
 
-module _ (w : List ℕ) (order : List ℕ) (trips : ℕ) (is-order : take trips order ≡ inOrder (tripsOf w))
-    (is-trips : trips ≡ tripCount w) (k : ℕ) (h : k < trips) where
+-- so many trips, in order
+pub record Given (w order : List ℕ) (trips : ℕ) : Type 0 where
+  pub is-order : OrderOf (tripsOf w) order
+  pub is-trips : trips ≡ tripCount w
+  pub few : trips ≤ 256
+
+pub given-order : (w order : List ℕ) (trips : ℕ) → isTimetable w ≡ true → trips ≡ tripCount w
+    → OrderOf (tripsOf w) order → Given w order trips
+given-order w order trips good is-trips is-order =
+    record { is-order = is-order; is-trips = is-trips; few = trips-most w trips good is-trips }
+
+module _ (w : List ℕ) (order : List ℕ) (trips : ℕ) (given : Given w order trips) (k : ℕ) (h : k < trips) where
   order-at : getD order k 0 ≡ getD (inOrder (tripsOf w)) k 0
-  order-at = sym (getD-take trips order k 0 h) ∙ ap (λ l. getD l k 0) is-order
+  unfolding OrderOf
+  order-at =
+      sym (getD-take (length (tripsOf w)) order k 0 (omega (arith, length-trips w, given .is-trips)))
+      ∙ ap (λ l. getD l k 0) (given .is-order)
 
   pub next-listed : getD order k 0 < tripCount w
   next-listed =
-      let inside = getD-in (inOrder (tripsOf w)) k 0 (omega (arith, order-long w)) in
+      let inside = getD-in (inOrder (tripsOf w)) k 0 (omega (arith, order-long w, given .is-trips)) in
       let number : ℕ = getD (inOrder (tripsOf w)) k 0 in
       let among =
       in-order-out (tripsOf w) 0 (length (tripsOf w)) number
       (subst (λ l. number ∈ l) (sym (all-in-order (tripsOf w))) inside) in
       omega (arith, among, order-at, length-trips w)
-
-  pub next-fits : trips ≤ 256 → getD order k 0 < 2 ^ 64
-  next-fits g = omega (arith, next-listed)
 
 -- ---- a turn
 module _
@@ -119,10 +130,8 @@ module _
     (count′ : ℕ)
     (joined : Joined line (getD order k 0) k count count′ numbers ends numbers′ ends′)
     (trips : ℕ)
-    (is-order : take trips order ≡ inOrder (tripsOf w))
-    (is-trips : trips ≡ tripCount w)
+    (given : Given w order trips)
     (h : k < trips)
-    (few : trips ≤ 256)
     (g : count ≤ k)
     (long : length lasts ≡ 256)
     (inside : line ≤ count)
@@ -134,7 +143,7 @@ module _
 
     z-listed : z < tripCount w
     unfolding z
-    z-listed = next-listed w order trips is-order is-trips k h
+    z-listed = next-listed w order trips given k h
 
     next : List (List ℕ)
     next = joinAt line z (kept .ls)
@@ -161,8 +170,8 @@ module _
     unfolding z
     left-next =
         let order-left : drop k (inOrder (tripsOf w)) ≡ z ∷ drop (suc k) (inOrder (tripsOf w)) =
-        drop-cons (inOrder (tripsOf w)) k 0 (omega (arith, order-long w))
-        ∙ ap (λ y. y ∷ drop (suc k) (inOrder (tripsOf w))) (sym (order-at w order trips is-order is-trips k h)) in
+        drop-cons (inOrder (tripsOf w)) k 0 (omega (arith, order-long w, given .is-trips))
+        ∙ ap (λ y. y ∷ drop (suc k) (inOrder (tripsOf w))) (sym (order-at w order trips given k h)) in
         rw (add-one k)
         (kept .left
         ∙ ap (λ zs. addTrips (tripsOf w) zs (kept .ls)) order-left
@@ -178,7 +187,7 @@ module _
           left = left-next;
           is-lasts =
               lasts-after lasts line z count count′ (kept .ls) (kept .is-lasts) (kept .holds .lines) inside
-              (omega arith) (holds-next .lines);
+              (omega (arith, given .few)) (holds-next .lines);
           listed = lasts-below (tripCount w) line z (kept .ls) z-listed (kept .listed);
         })
 

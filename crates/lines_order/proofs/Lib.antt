@@ -1,3 +1,4 @@
 pub mod MoveLaws
 pub mod PlaceLaws
 pub mod OrderLaws
+pub mod ChangedLaws

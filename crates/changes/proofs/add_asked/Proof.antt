@@ -7,12 +7,15 @@ use Rattle.changes.proofs.add_asked.Tie as tie
 
 add-free-requires : tie.Need-add-free-requires
 add-free-requires c κs =
-    let other = c .before .before .before in
+    let other = c .before .before .before .before in
     let asked = other .before in (
-      search needs,
-      search needs,
-      search needs,
-      is-free _ _ (asked .is-running .result) (asked .is-running .ensures) (other .if1 .left),
+      (
+        search needs,
+        search needs,
+        search needs,
+        is-free _ _ (asked .is-running .result) (asked .is-running .ensures) (other .if1 .left),
+      ),
+      (search needs, search needs),
     )
 
 pub add-asked-spec : {M : Type 1} → statement M
@@ -24,6 +27,7 @@ add-asked-spec =
     (λ c. search needs)
     (λ c. (search running-reply, (search running-timetable, search running-lines)))
     add-free-requires
+    (λ c. search needs)
     (λ c. search needs)
     (λ c. search needs)
     (λ c. search needs)

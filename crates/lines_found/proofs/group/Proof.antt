@@ -5,23 +5,25 @@ use borrow.Author.Needs.{needs}
 use lib.ListN.{length}
 use Rattle.lines_found.specs.Taken.{OfLasts, opened-chains}
 use Rattle.lines_order.specs.Steps.{trips-most}
-use Rattle.lines_found.proofs.GroupLaws.{Kept, kept-starts, next-listed, kept-next, lasts-listed, chains-next}
-use Rattle.lines_found.proofs.GroupLaws.{ends-inside, is-count, are-numbers, are-ends}
+use Rattle.lines_found.proofs.GroupLaws.{Kept, Given, kept-starts, given-order, next-listed, kept-next}
+use Rattle.lines_found.proofs.GroupLaws.{lasts-listed, chains-next, ends-inside, is-count, are-numbers, are-ends}
 use Rattle.lines_found.proofs.group.Statement.{statement}
 use Rattle.lines_found.proofs.group.Tie as tie
 
 abbrev Inv-loop : tie.InvT-loop
-Inv-loop words trips numbers₀ ends₀ order lasts₀ chains₀ count₀ k₀ numbers ends lasts chains count k =
-    (k ≤ trips) × (trips ≤ 256) × (count ≤ k) × (length numbers ≡ 256) × (length ends ≡ 256) × (length lasts ≡ 256)
+Inv-loop words trips order numbers₀ ends₀ lasts₀ chains₀ count₀ k₀ numbers ends lasts chains count k =
+    (k ≤ trips) × (trips ≤ 256) × Given words order trips × (count ≤ k) × (length numbers ≡ 256)
+    × (length ends ≡ 256) × (length lasts ≡ 256)
     × (length chains ≡ 1024) × Kept words numbers₀ ends₀ numbers ends lasts count k × OfLasts words lasts count chains
 
 abbrev μ-loop : tie.MeasureT-loop
-μ-loop words trips numbers₀ ends₀ order lasts₀ chains₀ count₀ k₀ numbers ends lasts chains count k = trips - k
+μ-loop words trips order numbers₀ ends₀ lasts₀ chains₀ count₀ k₀ numbers ends lasts chains count k = trips - k
 
 loop-holds : tie.Need-loop-holds Inv-loop μ-loop
 loop-holds c = (
   search needs,
   search trips-most,
+  search given-order,
   search needs,
   search needs,
   search needs,
@@ -49,6 +51,7 @@ loop-again c = (
   search needs,
   search needs,
   search needs,
+  search needs,
   search kept-next,
   search chains-next,
 )
@@ -62,8 +65,6 @@ group-spec =
     (tie.spec
     Inv-loop
     μ-loop
-    (λ c. search needs)
-    (λ c κs. search needs)
     (λ c. search needs)
     (λ c κs. search needs)
     loop-holds
