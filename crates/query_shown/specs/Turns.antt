@@ -98,7 +98,9 @@ module _ (first : Bool) (price : ℕ → ℕ) (z : List ℕ) (p : ℕ) where
 -- the rides from a call to the nearest place of its line, on the trips that leave at minute u or later
 unfoldable pub callRides : List ℕ → Boarding → (u : ℕ) → List Ride
 callRides v g u =
-    concatMap (tripsFrom v (g .line) (g .call .place) (firstTrip v (g .line) (g .call .place) u)) (nearest (reachBy v g))
+    concatMap
+    (tripsFrom v (g .line) (g .call .place) (firstTrip v (g .line) (g .call .place) u))
+    (nearest (reachBy v g))
 
 -- its numbers fit words of 32 bits
 pub record Sized (s : RideStruct) : Type 0 where

@@ -396,9 +396,9 @@ fn least_parent(work: &[u32], lo: usize, hi: usize) -> usize
     least
 }
 
-// Raises the flags of the arcs and kids of the nodes from lo up to hi, none being up before. For each minute reach has a
-// number: behind those of the nodes before lo that stand from there on nobody goes on at that minute, and afterwards the
-// same of those before hi.
+// Raises the flags of the arcs and kids of the nodes from lo up to hi, none being up before. For each minute reach has
+// a number: behind those of the nodes before lo that stand from there on nobody goes on at that minute, and afterwards
+// the same of those before hi.
 pub fn mark_chunk(
     words: &[u16],
     order: &[u16],

@@ -1,6 +1,7 @@
 -- What is kept is looked up; after the last ride nothing is left; else it is found from the target back, and kept.
 use borrow.Author.Needs.{needs}
-use Rattle.query_layers.proofs.LayerLaws.{rest-room, rest-is, rest-spans, keeps-on, keeps-more, last-rest, last-spans}
+use Rattle.query_layers.proofs.LayerLaws.{rest-room, rest-is, rest-spans, keeps-on, keeps-more}
+use Rattle.query_layers.proofs.LayerLaws.{last-rest, last-spans}
 use Rattle.query_layers.proofs.rest.Statement.{statement}
 use Rattle.query_layers.proofs.rest.Tie as tie
 
