@@ -101,7 +101,7 @@ extern "C" {
  *   dairyepoch_make_store          2 on a rural timetable and on random trips, 6 at worst; 14 for one trip of 2,048
  *                                  stops; on a rural timetable with 64 walks 3 and 11 at worst, with 256 walks 5.5 and
  *                                  20 at worst; more in cases that docs/SPEED.md names
- *   dairyepoch_query               0.04 on a rural timetable; up to 20 for a hundred rows or more, 31 for a store of
+ *   dairyepoch_query               0.04 on a rural timetable; up to 12 for hundreds of rows, 30 for a store of
  *                                  thousands of sequences of equal cost, and more in cases that docs/SPEED.md names
  *   dairyepoch_cancel_trip         0.02 for one line, 0.03 on a rural timetable and for 256 lines
  *   dairyepoch_add_trip            likewise, and 0.05 for each thousand lines of its text
