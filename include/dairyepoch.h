@@ -98,9 +98,9 @@ extern "C" {
  *   dairyepoch_check_lines_alone   0.02 for one line, 0.03 for 256; dairyepoch_line_trips likewise
  *   dairyepoch_times_by_trip       up to 1.3 times dairyepoch_check_lines; dairyepoch_times_by_stop up to 1.6 times
  *   dairyepoch_direct              0.02 for one line, 0.03 for 256 and for an answer of 507 rows, 0.04 at worst
- *   dairyepoch_make_store          2 on a rural timetable and on random trips, 6 at worst; 14 for one trip of 2,048
- *                                  stops; on a rural timetable with 64 walks 3 and 11 at worst, with 256 walks 5.5 and
- *                                  20 at worst; more in cases that docs/SPEED.md names
+ *   dairyepoch_make_store          2 to 3 on a rural timetable and on random trips, 7 at worst; 14 for one trip of
+ *                                  2,048 stops; on a rural timetable with 64 walks 4 and 13 at worst, with 256 walks 8
+ *                                  and 30 at worst; more in cases that docs/SPEED.md names
  *   dairyepoch_query               0.04 on a rural timetable; up to 12 for hundreds of rows, 30 for a store of
  *                                  thousands of sequences of equal cost, and more in cases that docs/SPEED.md names
  *   dairyepoch_cancel_trip         0.02 for one line, 0.03 on a rural timetable and for 256 lines
