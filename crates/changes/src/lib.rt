@@ -1,5 +1,7 @@
-// Trips cancelled and trips added during the day: the timetable's words and its line tables after a change, which are
-// those built afresh from the trips that now run, in rising number.
+//! Trips cancelled and trips added during the day: the timetable's words and its line tables after a change, which are
+//! those built afresh from the trips that now run, in rising number.
+#![tactic(auto)]
+
 ghost use Rattle.std.specs.Prelude.{◌≡◌, true, false, ◌≤◌, ◌<◌, length};
 ghost use Rattle.words.specs.Put.{put};
 ghost use Rattle.timetable.specs.Changes.{without, runs_as, place_of};

@@ -1,4 +1,6 @@
-// An extra trip: its lines, read into the words of a timetable that has this trip alone.
+//! An extra trip: its lines, read into the words of a timetable that has this trip alone.
+#![tactic(auto)]
+
 ghost use Rattle.std.specs.Prelude.{◌≡◌, true, false, ◌≤◌, ◌<◌, [], ◌∷◌, length};
 ghost use Rattle.words.specs.Put.{put};
 ghost use Rattle.timetable.specs.Changes.{runs_as};
@@ -10,7 +12,7 @@ use reading::Lines;
 use reading_lines::Rules;
 
 // The lines of an extra trip: all of them read, or the refusal's number with its line.
-#[derive(Drop)]
+#[derive(Clone, Copy)]
 pub enum Found {
     Whole,
     Refused { number: u32, line: u32 },

@@ -1,4 +1,6 @@
-// Trips by their places: where a trip of some number stands among those of a timetable, and whether it runs.
+//! Trips by their places: where a trip of some number stands among those of a timetable, and whether it runs.
+#![tactic(auto)]
+
 ghost use Rattle.std.specs.Prelude.{◌≡◌, true, ◌≤◌, length};
 ghost use Rattle.timetable.specs.Changes.{runs_as, place_of};
 ghost use Rattle.timetable.specs.Words.{trip_count, timetable_of, is_timetable};

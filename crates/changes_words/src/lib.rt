@@ -1,5 +1,7 @@
-// The words of a timetable without one of its trips, or with one more. They are put together in local arrays: the
-// stations, then trips behind trips; and written over the old ones when all of them stand there.
+//! The words of a timetable without one of its trips, or with one more. They are put together in local arrays: the
+//! stations, then trips behind trips; and written over the old ones when all of them stand there.
+#![tactic(auto)]
+
 ghost use Rattle.std.specs.Prelude.{◌≡◌, true, ◌+◌, ◌-◌, ◌≤◌, ◌<◌, [], ◌∷◌, length};
 ghost use Rattle.words.specs.Put.{put};
 ghost use Rattle.timetable.specs.Words.{words, trip_count, stop_count, start_at, timetable_of, is_timetable};
@@ -8,7 +10,7 @@ ghost use Rattle.changes_words.specs.Appended.{left_out, put_in, Extends, Front,
 ghost use Rattle.changes_words.specs.Appended.{Fitting};
 
 // How many trips and stops stand in the arrays in which a timetable is put together.
-#[derive(Drop)]
+#[derive(Clone, Copy)]
 pub struct Counts {
     pub trips: usize,
     pub stops: usize,

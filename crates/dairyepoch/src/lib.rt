@@ -1,5 +1,7 @@
-// The public calls as a display's host of C or Rust sees them: numbers and slices only, and no condition is left for
-// the host to meet. Each passes on to a proved call and has that call's equations. include/dairyepoch.h declares them.
+//! The public calls as a display's host of C or Rust sees them: numbers and slices only, and no condition is left for
+//! the host to meet. Each passes on to a proved call and has that call's equations. include/dairyepoch.h declares them.
+#![tactic(auto)]
+
 ghost use Rattle.std.specs.Prelude.{◌≡◌, length};
 ghost use Rattle.timetable.specs.Words.{timetable_number};
 ghost use Rattle.reading.specs.Reading.{read_reply, read_words};

@@ -1,4 +1,6 @@
-// The call that builds line tables: questions 8 and 9, then the tables in the words that are lent.
+//! The call that builds line tables: questions 8 and 9, then the tables in the words that are lent.
+#![tactic(auto)]
+
 ghost use Rattle.std.specs.Prelude.{◌≡◌, true, ◌≤◌, length};
 ghost use Rattle.words.specs.Put.{put};
 ghost use Rattle.timetable.specs.Words.{timetable_of, is_timetable};

@@ -1,5 +1,7 @@
-// The questions that are put to a query before it is looked at: 8 to 12. Question 10 here is about line tables lent
-// with a timetable: are they its own?
+//! The questions that are put to a query before it is looked at: 8 to 12. Question 10 here is about line tables lent
+//! with a timetable: are they its own?
+#![tactic(auto)]
+
 ghost use Rattle.std.specs.Prelude.{◌≡◌, true, cond, ◌≤◌, eqb, length, take};
 ghost use Rattle.lists.specs.Lists.{same};
 ghost use Rattle.timetable.specs.Words.{timetable_of, is_timetable};

@@ -1,4 +1,6 @@
-// Line tables by their words: the lines, their courses, trips and times, and the lists of stations.
+//! Line tables by their words: the lines, their courses, trips and times, and the lists of stations.
+#![tactic(auto)]
+
 ghost use Rattle.std.specs.Prelude.{◌≡◌, ◌-◌, ◌≤◌, ◌<◌, get_or};
 ghost use Rattle.lines_lookup.specs.First.{first_trip};
 ghost use Rattle.lines_lookup.specs.Calls.{call_at, calls_of, calls_in, Inside, later, after, BoardsAt, Within};
@@ -33,7 +35,7 @@ const BOARDING_ONLY: usize = 1;
 const SETTING_DOWN_ONLY: usize = 2;
 
 // A line: where its words begin, its positions and its trips.
-#[derive(Drop)]
+#[derive(Clone, Copy)]
 pub struct Line {
     pub at: usize,
     pub positions: usize,
@@ -41,21 +43,21 @@ pub struct Line {
 }
 
 // A piece of line tables: the words from one index up to before another.
-#[derive(Drop)]
+#[derive(Clone, Copy)]
 pub struct Piece {
     pub from: usize,
     pub end: usize,
 }
 
 // A call in the list of a station: the place of its line, and the place on it.
-#[derive(Drop)]
+#[derive(Clone, Copy)]
 pub struct Call {
     pub line: usize,
     pub place: usize,
 }
 
 // A call to board at, its line, the total there, and the calls that are left to alight at.
-#[derive(Drop)]
+#[derive(Clone, Copy)]
 pub struct Boarding {
     pub call: Call,
     pub line: Line,

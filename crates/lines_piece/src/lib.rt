@@ -1,10 +1,12 @@
-// The trips of one line: the piece of line tables, lent without a timetable, that holds their numbers.
+//! The trips of one line: the piece of line tables, lent without a timetable, that holds their numbers.
+#![tactic(auto)]
+
 ghost use Rattle.std.specs.Prelude.{◌≡◌, ◌+◌, ◌≤◌, ◌<◌, length, take, drop};
 ghost use Rattle.lines_piece.specs.Piece.{piece_number, start_told, length_told, piece};
 
 // Where in line tables the numbers of a line's trips stand: the index of the first, and their count, both 0 if the
 // question of this number has a no.
-#[derive(Drop)]
+#[derive(Clone, Copy)]
 pub struct Place {
     pub number: u32,
     pub start: u32,

@@ -1,5 +1,7 @@
-// A trip by its words: where its stops stand, when it departs, and whether it can run behind another on one line. Trips
-// are at places from 0.
+//! A trip by its words: where its stops stand, when it departs, and whether it can run behind another on one line. Trips
+//! are at places from 0.
+#![tactic(auto)]
+
 ghost use Rattle.std.specs.Prelude.{◌≡◌, true, ◌+◌, ◌≤◌, ◌<◌, length};
 ghost use Rattle.timetable.specs.Words.{station_count, trip_count, start_at, trip_at, is_timetable};
 ghost use Rattle.lines.specs.Lines.{stop_behind, behind, first_departure};
@@ -7,7 +9,7 @@ ghost use Rattle.lines.specs.Lines.{stop_behind, behind, first_departure};
 use timetable::Stop;
 
 // Where a trip's stops stand among all stops: from first up to end.
-#[derive(Drop)]
+#[derive(Clone, Copy)]
 pub struct Stops {
     pub first: usize,
     pub end: usize,

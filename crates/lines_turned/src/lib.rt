@@ -1,5 +1,7 @@
-// Line tables with times by trip, then by stop: the layout that no other call takes, and the two calls that translate
-// to it and back.
+//! Line tables with times by trip, then by stop: the layout that no other call takes, and the two calls that translate
+//! to it and back.
+#![tactic(auto)]
+
 ghost use Rattle.std.specs.Prelude.{◌≡◌, true, ◌+◌, ◌*◌, ◌≤◌, ◌<◌, length, get_or, drop};
 ghost use Rattle.std.proofs.Math.Seq.{slice};
 ghost use Rattle.words.specs.Put.{put};

@@ -1,4 +1,6 @@
-// What a line of the listing's input prints: the rows of a query, or the number that it is refused by.
+//! What a line of the listing's input prints: the rows of a query, or the number that it is refused by.
+#![tactic(auto)]
+
 ghost use Rattle.std.specs.Prelude.{◌≡◌, ◌≤◌, length};
 ghost use Rattle.words.specs.Put.{put};
 ghost use Rattle.listing_queries.specs.declared.Input.TheVariants.{Misshapen};
@@ -13,7 +15,7 @@ use listing_stores::Made;
 const MISSHAPEN: u32 = 2;
 
 // How many bytes a line of the input prints, and which store was made last.
-#[derive(Drop)]
+#[derive(Clone, Copy)]
 pub struct Printed {
     pub count: usize,
     pub made: Made,

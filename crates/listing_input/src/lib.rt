@@ -1,5 +1,7 @@
-// From a timetable's text, and from the bytes of the listing's input, chunk by chunk, to the bytes printed. The program
-// itself only moves bytes.
+//! From a timetable's text, and from the bytes of the listing's input, chunk by chunk, to the bytes printed. The program
+//! itself only moves bytes.
+#![tactic(auto)]
+
 ghost use Rattle.std.specs.Prelude.{◌≡◌, ◌≤◌, length, take, drop};
 ghost use Rattle.words.specs.Put.{put};
 ghost use Rattle.reading.specs.Reading.{read_words};
@@ -14,7 +16,7 @@ const TIMETABLE: u8 = 88;
 
 // How many bytes of the input were taken, how many of the first ones of a line are kept, how many bytes are printed,
 // and which store was made last.
-#[derive(Drop)]
+#[derive(Clone, Copy)]
 pub struct Taken {
     pub used: usize,
     pub kept: usize,

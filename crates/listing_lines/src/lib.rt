@@ -1,5 +1,7 @@
-// The lines of the listing's input: its bytes up to the next line end, of which no more are kept than tell what the
-// line prints.
+//! The lines of the listing's input: its bytes up to the next line end, of which no more are kept than tell what the
+//! line prints.
+#![tactic(auto)]
+
 ghost use Rattle.std.specs.Prelude.{◌≡◌, cond, [], ◌∷◌, ◌++◌, ◌≤◌, length, take, drop};
 ghost use Rattle.listing_output.specs.Bytes.{Keeps};
 
@@ -10,7 +12,7 @@ const LINE_END: u8 = 10;
 pub const LINE_BYTES: usize = listing_queries::BYTES_MOST + 1;
 
 // How many bytes of the input were taken, how many of the first ones of a line are kept, and whether it has ended.
-#[derive(Drop)]
+#[derive(Clone, Copy)]
 pub struct Cut {
     pub used: usize,
     pub kept: usize,

@@ -1,4 +1,6 @@
-// The lines that the listing program prints, as bytes of a lent slice.
+//! The lines that the listing program prints, as bytes of a lent slice.
+#![tactic(auto)]
+
 ghost use Rattle.std.specs.Prelude.{◌≡◌, [], ◌∷◌, ◌+◌, ◌*◌, ◌≤◌, ◌<◌, length};
 ghost use Rattle.words.specs.Put.{put};
 ghost use Rattle.listing_printing.specs.Lines.{spelled, line_of, lines_from};

@@ -1,4 +1,6 @@
-// What a line of the listing's input asks.
+//! What a line of the listing's input asks.
+#![tactic(auto)]
+
 ghost use Rattle.std.specs.Prelude.{◌≡◌};
 ghost use Rattle.listing_queries.specs.Query.{asked_of, query_of};
 
@@ -12,14 +14,14 @@ const NUMBER_MOST: u32 = text::NUMBER_MOST;
 pub const BYTES_MOST: usize = 16;
 
 // A line `Q,from,to,minute`.
-#[derive(Drop)]
+#[derive(Clone, Copy)]
 pub struct Query {
     pub from: u32,
     pub to: u32,
     pub minute: u32,
 }
 
-#[derive(Drop)]
+#[derive(Clone, Copy)]
 pub enum Input {
     Asked(Query),
     Misshapen,

@@ -1,4 +1,6 @@
-// The store of a query's source, made or still held, and what the query prints from it.
+//! The store of a query's source, made or still held, and what the query prints from it.
+#![tactic(auto)]
+
 ghost use Rattle.std.specs.Prelude.{◌≡◌, ◌≤◌, length, replicate};
 ghost use Rattle.words.specs.Put.{put};
 ghost use Rattle.listing_printing.specs.Lines.{refused_line, answered};
@@ -20,7 +22,7 @@ const ANSWERED: u8 = 81;
 pub const REFUSED: u8 = 78;
 
 // The source whose store was made last, and the number of that call.
-#[derive(Drop)]
+#[derive(Clone, Copy)]
 pub struct Made {
     pub source: u32,
     pub number: u32,

@@ -64,7 +64,7 @@ module _ {A : Type 0} where
       step ih (inl s) = (y, here refl, s)
       step ih (inr s) = let r = ih s in (r.0, there r.1, r.2)
 
-  pub any_in : (p : A → Bool) {l : List A} {x : A} → x ∈ l → T (p x) → T (any p l)
+  pub any_in : {x : A} (p : A → Bool) {l : List A} → x ∈ l → T (p x) → T (any p l)
   any_in p (here {x = y} {xs = l} e) t = T_or_left (p y) (any p l) (rw e at t)
   any_in p (there {x = y} {xs = l} m) t = T_or_right (p y) (any p l) (any_in p m t)
 

@@ -1,1 +1,2 @@
-// Lists, what they hold and how they are ordered: the words in which all later definitions are put, with their laws.
+//! Lists, what they hold and how they are ordered: the words in which all later definitions are put, with their laws.
+#![tactic(auto)]

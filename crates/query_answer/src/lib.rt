@@ -1,4 +1,6 @@
-// The answer from a store that is well made: the rows that a rider is shown, with questions 14 and 15.
+//! The answer from a store that is well made: the rows that a rider is shown, with questions 14 and 15.
+#![tactic(auto)]
+
 ghost use Rattle.std.specs.Prelude.{◌≡◌, ◌≤◌, length};
 ghost use Rattle.promises.specs.Query.{kept};
 ghost use Rattle.query_minutes.specs.Minutes.{no_points, leads};

@@ -1,4 +1,6 @@
-// The query from a store: questions 8 to 13, then the answer from the store.
+//! The query from a store: questions 8 to 13, then the answer from the store.
+#![tactic(auto)]
+
 ghost use Rattle.std.specs.Prelude.{◌≡◌, ◌≤◌, length};
 ghost use Rattle.timetable.specs.Words.{timetable_of};
 ghost use Rattle.stores.specs.Words.{well_made};

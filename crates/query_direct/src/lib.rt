@@ -1,4 +1,6 @@
-// Direct rides: the costs of the query from the first trips of the lines, and for each cost the ride that is shown.
+//! Direct rides: the costs of the query from the first trips of the lines, and for each cost the ride that is shown.
+#![tactic(auto)]
+
 mod costs;
 
 ghost use Rattle.std.specs.Prelude.{◌≡◌, length};

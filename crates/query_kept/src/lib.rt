@@ -1,4 +1,6 @@
-// Of the rides of a direct query the one that is kept for each minute of arrival, and the rows written from these.
+//! Of the rides of a direct query the one that is kept for each minute of arrival, and the rows written from these.
+#![tactic(auto)]
+
 mod rides;
 mod rows;
 

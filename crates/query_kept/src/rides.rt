@@ -21,7 +21,7 @@ const RIDE_WORDS: usize = 4;
 pub const KEPT_WORDS: usize = RIDE_WORDS * MINUTES;
 
 // A ride that may be shown.
-#[derive(Drop)]
+#[derive(Clone, Copy)]
 pub struct Found {
     pub depart: u32,
     pub trip: u32,

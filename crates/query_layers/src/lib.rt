@@ -1,5 +1,7 @@
-// What is left to pay after the rides of a path, kept in working space for as many rides as there is room for: it is
-// found from the target back once for all of them, and not again for each ride that is taken.
+//! What is left to pay after the rides of a path, kept in working space for as many rides as there is room for: it is
+//! found from the target back once for all of them, and not again for each ride that is taken.
+#![tactic(auto)]
+
 ghost use Rattle.std.specs.Prelude.{◌≡◌, ◌+◌, ◌-◌, ◌*◌, ◌≤◌, ◌<◌, length, get_or};
 ghost use Rattle.query_minutes.specs.Minutes.{no_points};
 ghost use Rattle.query_rests.specs.Given.{Given};
@@ -11,7 +13,7 @@ use results::Points;
 
 // What is sought along a path: a connection from the source at the minute or later, there by the minute of the arrival,
 // for so many points at the most. Only the minutes from the one to the other can matter.
-#[derive(Drop)]
+#[derive(Clone, Copy)]
 pub struct Sought {
     pub source: usize,
     pub minute: usize,
@@ -20,7 +22,7 @@ pub struct Sought {
 }
 
 // The rides of a path after which what is left is kept: from one to before another.
-#[derive(Drop)]
+#[derive(Clone, Copy)]
 pub struct Kept {
     pub low: usize,
     pub high: usize,

@@ -1,8 +1,10 @@
-// One least penalty for each minute of the two days: how a query keeps the costs that it has found so far.
-//
-// An array has one word for each minute, the least penalty of those who arrive then. Only this crate knows the words:
-// others read and write them as points, by `points_at` and `set_points`, so that minutes and points cannot be mistaken
-// for each other. A minute of the day is the index of a word, and no duration: `minutes_between` makes one of two.
+//! One least penalty for each minute of the two days: how a query keeps the costs that it has found so far.
+//!
+//! An array has one word for each minute, the least penalty of those who arrive then. Only this crate knows the words:
+//! others read and write them as points, by `points_at` and `set_points`, so that minutes and points cannot be mistaken
+//! for each other. A minute of the day is the index of a word, and no duration: `minutes_between` makes one of two.
+#![tactic(auto)]
+
 ghost use Rattle.std.specs.Prelude.{◌≡◌, [], ◌∷◌, ◌+◌, ◌-◌, ◌^◌, ◌≤◌, ◌<◌, min, max, leb, ltb, eqb, length, get_or, set};
 ghost use Rattle.words.specs.Put.{put};
 ghost use Rattle.query_minutes.specs.Minutes.{no_points, lowered, leads};
@@ -179,7 +181,7 @@ fn least_of(best: &[u32]) -> Points
 
 // Where the rows of an answer are: how many minutes have a penalty below those of all earlier minutes, and the minute
 // after the last of them.
-#[derive(Drop)]
+#[derive(Clone, Copy)]
 pub struct Rows {
     pub count: usize,
     pub end: usize,

@@ -1,5 +1,7 @@
-// Places to ride to: from where a line is boarded, the nearest of its places at the other station at which one may
-// alight.
+//! Places to ride to: from where a line is boarded, the nearest of its places at the other station at which one may
+//! alight.
+#![tactic(auto)]
+
 ghost use Rattle.std.specs.Prelude.{◌≡◌, false, ◌<◌};
 ghost use Rattle.lines_lookup.specs.Lookup.{points_between};
 ghost use Rattle.lines_lookup.specs.Calls.{Within};
@@ -10,7 +12,7 @@ use lines_lookup::Boarding;
 use results::Points;
 
 // A place to alight at and the penalty of the ride to it, if one was found.
-#[derive(Drop)]
+#[derive(Clone, Copy)]
 pub struct Place {
     pub found: bool,
     pub place: usize,

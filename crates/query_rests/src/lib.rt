@@ -1,8 +1,10 @@
-// What is left to pay after each ride along a path, from the target back: after the last ride nothing, and then a step
-// from each ride to the one before it.
-//
-// There is a word for each minute of the two days, but only the minutes from the query's to the row's can matter, and
-// only their words are stored: all others say throughout that nothing is left.
+//! What is left to pay after each ride along a path, from the target back: after the last ride nothing, and then a step
+//! from each ride to the one before it.
+//!
+//! There is a word for each minute of the two days, but only the minutes from the query's to the row's can matter, and
+//! only their words are stored: all others say throughout that nothing is left.
+#![tactic(auto)]
+
 ghost use Rattle.std.specs.Prelude.{◌≡◌, true, ◌+◌, ◌-◌, ◌*◌, ◌≤◌, ◌<◌, length, get_or};
 ghost use Rattle.timetable.specs.Words.{station_count, is_timetable};
 ghost use Rattle.query_places.specs.Candidates.{near_read};

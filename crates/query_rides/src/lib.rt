@@ -1,5 +1,7 @@
-// The rides from one station to another that leave at a minute or later, one after the other, from line tables, each
-// to the nearest place; and the way of changing between two rides, with what it takes and costs.
+//! The rides from one station to another that leave at a minute or later, one after the other, from line tables, each
+//! to the nearest place; and the way of changing between two rides, with what it takes and costs.
+#![tactic(auto)]
+
 ghost use Rattle.std.specs.Prelude.{◌≡◌, true, ◌∷◌, ◌-◌, ◌≤◌, ◌<◌, length};
 ghost use Rattle.timetable.specs.Words.{station_count, station_at, is_timetable};
 ghost use Rattle.lines_lookup.specs.Calls.{Inside, Within};
@@ -14,7 +16,7 @@ use results::{Cost, Minutes, Points};
 use timetable::Walk;
 
 // A ride, by the numbers by which it is shown, its minutes and its penalty.
-#[derive(Drop)]
+#[derive(Clone, Copy)]
 pub struct Ride {
     pub trip: usize,
     pub board: usize,
@@ -26,7 +28,7 @@ pub struct Ride {
 
 // Where one stands in the rides: the calls that are left to board at; the call boarded at, with those that were left to
 // alight at; the place alighted at, and the trip.
-#[derive(Drop)]
+#[derive(Clone, Copy)]
 pub struct Cursor {
     pub more: bool,
     pub calls: Piece,
@@ -152,7 +154,7 @@ pub fn tell(v: &[u16], c: Cursor) -> Ride
 }
 
 // A way of changing: at the station itself, or by a walk.
-#[derive(Drop)]
+#[derive(Clone, Copy)]
 pub enum Change {
     Here,
     Walk(Walk),
@@ -160,7 +162,7 @@ pub enum Change {
 
 // The way of changing from one station to another, if there is one: what a change at the station itself takes and costs
 // by the S line, and the change.
-#[derive(Drop)]
+#[derive(Clone, Copy)]
 pub struct Way {
     pub found: bool,
     pub here: Cost,

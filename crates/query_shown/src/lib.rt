@@ -1,5 +1,7 @@
-// The connection of one stored pattern that is shown for a row: ride by ride the first that can be taken, where what is
-// left after it can be paid.
+//! The connection of one stored pattern that is shown for a row: ride by ride the first that can be taken, where what is
+//! left after it can be paid.
+#![tactic(auto)]
+
 mod rides;
 
 ghost use Rattle.std.specs.Prelude.{◌≡◌, ◌≤◌, length};
@@ -14,7 +16,7 @@ use query_rides::{Change, Ride};
 use results::Points;
 
 // A step of a connection after its first ride: how one changes to a ride, and the ride.
-#[derive(Drop)]
+#[derive(Clone, Copy)]
 pub struct Step {
     pub change: Change,
     pub ride: Ride,
@@ -22,7 +24,7 @@ pub struct Step {
 
 // Where one is on the way: the station alighted at, the minute of the arrival, and the points left to pay. Before the
 // first ride it is the source and the query's minute.
-#[derive(Drop)]
+#[derive(Clone, Copy)]
 pub struct At {
     pub alighted: usize,
     pub arrive: usize,
@@ -30,7 +32,7 @@ pub struct At {
 }
 
 // Whether a ride was taken, when it departs, and where one is after it.
-#[derive(Drop)]
+#[derive(Clone, Copy)]
 pub struct Next {
     pub found: bool,
     pub depart: usize,
@@ -38,7 +40,7 @@ pub struct Next {
 }
 
 // Whether there is a connection, and when it departs.
-#[derive(Drop)]
+#[derive(Clone, Copy)]
 pub struct First {
     pub found: bool,
     pub depart: usize,

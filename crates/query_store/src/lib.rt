@@ -1,4 +1,6 @@
-// Question 13: is a store well made? And the sequences of a well-made store, by number.
+//! Question 13: is a store well made? And the sequences of a well-made store, by number.
+#![tactic(auto)]
+
 ghost use Rattle.std.specs.Prelude.{◌≡◌, true, false, ◌+◌, ◌*◌, ◌≤◌, ◌<◌, length, take};
 ghost use Rattle.stores.specs.Words.{is_station, well_made};
 ghost use Rattle.query_store.specs.Entries.{

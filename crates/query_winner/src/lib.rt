@@ -1,6 +1,8 @@
-// The connection that is shown for a row: of all that have its arrival and its points, along any arc of the target, the
-// one that goes before the others by the rule for equal cost. Each arc is gone along for the one that is first along it
-// (`find_arc`), and where several arcs have one all are tried (`choose`).
+//! The connection that is shown for a row: of all that have its arrival and its points, along any arc of the target, the
+//! one that goes before the others by the rule for equal cost. Each arc is gone along for the one that is first along it
+//! (`find_arc`), and where several arcs have one all are tried (`choose`).
+#![tactic(auto)]
+
 ghost use Rattle.std.specs.Prelude.{◌≡◌, ◌+◌, ◌*◌, ◌≤◌, ◌<◌, length, take};
 ghost use Rattle.lists.specs.Lists.{before};
 ghost use Rattle.query_store.specs.Entries.{arc_count, arc_target};
@@ -18,7 +20,7 @@ use results::Points;
 pub const NUMBERS_MOST: usize = 192;
 
 // A row: when its connection arrives, and what it pays.
-#[derive(Drop)]
+#[derive(Clone, Copy)]
 pub struct Row {
     pub arrive: usize,
     pub points: Points,
@@ -26,7 +28,7 @@ pub struct Row {
 
 // The connection that goes before all others tried so far: whether there is one, its arc, when it departs, and how many
 // rides it has. The numbers of its rides stand in an array beside it.
-#[derive(Drop)]
+#[derive(Clone, Copy)]
 pub struct Winner {
     pub found: bool,
     pub arc: usize,

@@ -1,5 +1,7 @@
-// Reading a timetable text into the lent words of a timetable: questions 8 and 1 to 7; and reading the lines of an
-// extra trip, for which questions 2 to 7 are put to the lines after those that run already.
+//! Reading a timetable text into the lent words of a timetable: questions 8 and 1 to 7; and reading the lines of an
+//! extra trip, for which questions 2 to 7 are put to the lines after those that run already.
+#![tactic(auto)]
+
 ghost use Rattle.std.specs.Prelude.{◌≡◌, ◌+◌, ◌≤◌, ◌<◌, cond, length, set};
 ghost use Rattle.text_shapes.specs.Shape.{shape_of};
 ghost use Rattle.text_shapes.specs.declared.Line.TheVariants.{Station, Walk, Stop};
@@ -29,20 +31,20 @@ const TEXT_MOST: usize = 65536;
 
 const TRIPS_MOST: usize = timetable::TRIPS_MOST as usize;
 
-#[derive(Drop)]
+#[derive(Clone, Copy)]
 pub enum Next {
     On(Progress),
     Refused(u32),
 }
 
-#[derive(Drop)]
+#[derive(Clone, Copy)]
 pub enum Lines {
     Accepted(Progress, u32),
     Refused { number: u32, line: u32 },
 }
 
 // The answer of a read: the text's lines, or the refusal's number with its line.
-#[derive(Drop)]
+#[derive(Clone, Copy)]
 pub enum Reply {
     Done { lines: u32 },
     Refused { number: u32, line: u32 },

@@ -1,5 +1,7 @@
-// Which number a line has, after the lines before it: questions 3 to 6 to a line of a shape, in a text or among the
-// lines of an extra trip.
+//! Which number a line has, after the lines before it: questions 3 to 6 to a line of a shape, in a text or among the
+//! lines of an extra trip.
+#![tactic(auto)]
+
 ghost use Rattle.std.specs.Prelude.{◌≡◌};
 ghost use Rattle.text_shapes.specs.declared.Line.TheVariants.{Station, Walk, Stop};
 ghost use Rattle.reading_lines.specs.Draft.{walk_in_range, stop_in_range, extra_station, extra_walk, extra_in_range};
@@ -31,7 +33,7 @@ const STOPS_MOST: usize = timetable::STOPS_MOST as usize;
 // How far the lines of a text have come: stations, walks, and the stations of the walk before, where there is one;
 // ended trips, stops in all, stops of the begun trip, and the station and departure of the stop before, where a trip
 // has begun.
-#[derive(Drop)]
+#[derive(Clone, Copy)]
 pub struct Progress {
     pub stations: usize,
     pub walks: usize,
@@ -46,7 +48,7 @@ pub struct Progress {
 
 // What lines are read: those of a text, or those of one extra trip, which has its number and comes to so many trips and
 // stops that run.
-#[derive(Drop)]
+#[derive(Clone, Copy)]
 pub struct Rules {
     pub extra: bool,
     pub number: u32,

@@ -1,4 +1,6 @@
-// A reply in one number of 64 bits, as a host of C or Rust gets it.
+//! A reply in one number of 64 bits, as a host of C or Rust gets it.
+#![tactic(auto)]
+
 ghost use Rattle.std.specs.Prelude.{◌≡◌};
 ghost use Rattle.promises.specs.Packed.{packed, packed_reply, packed_count};
 

@@ -1,15 +1,16 @@
-// Costs, domination, and the result of a list of candidates: what a planner reads off a list, whatever the list is of.
+//! Costs, domination, and the result of a list of candidates: what a planner reads off a list, whatever the list is of.
+#![tactic(auto)]
 
 // A number of minutes. Minutes and points are of different kinds, so that no code adds or compares the two by mistake.
-#[derive(Drop)]
+#[derive(Clone, Copy)]
 pub struct Minutes(pub u32);
 
 // A number of penalty points.
-#[derive(Drop)]
+#[derive(Clone, Copy)]
 pub struct Points(pub u32);
 
 // What a connection costs: duration in minutes and penalty in points are compared separately and never added.
-#[derive(Drop)]
+#[derive(Clone, Copy)]
 pub struct Cost {
     pub minutes: Minutes,
     pub points: Points,

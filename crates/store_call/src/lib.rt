@@ -1,4 +1,6 @@
-// The store call: the sequences of stations where changing can pay, for one source.
+//! The store call: the sequences of stations where changing can pay, for one source.
+#![tactic(auto)]
+
 ghost use Rattle.std.specs.Prelude.{◌≡◌, true, ◌≤◌, length};
 ghost use Rattle.timetable.specs.Words.{station_count, is_timetable};
 ghost use Rattle.promises.specs.StoreCall.{store_reply, store_values, store_after};

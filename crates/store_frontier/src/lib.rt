@@ -1,4 +1,6 @@
-// Two passes of a store call: which arrivals are on the frontier, and who can still end well.
+//! Two passes of a store call: which arrivals are on the frontier, and who can still end well.
+#![tactic(auto)]
+
 ghost use Rattle.std.specs.Prelude.{◌≡◌, true, cond, ◌+◌, ◌≤◌, ◌<◌, max, length, get_or, set, drop};
 ghost use Rattle.timetable.specs.Words.{station_count, stop_at, walks_to, is_timetable};
 ghost use Rattle.timetable.specs.Walks.{FromStation};

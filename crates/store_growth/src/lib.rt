@@ -1,5 +1,7 @@
-// The tree of the sequences of one source: departures and arrivals are put in order, and the tree is grown from its
-// root.
+//! The tree of the sequences of one source: departures and arrivals are put in order, and the tree is grown from its
+//! root.
+#![tactic(auto)]
+
 mod tree;
 
 ghost use Rattle.std.specs.Prelude.{◌≡◌, true, ◌≤◌, length};

@@ -1,4 +1,6 @@
-// The marks of the nodes of a chunk, over all minutes at which a ride departs at the source.
+//! The marks of the nodes of a chunk, over all minutes at which a ride departs at the source.
+#![tactic(auto)]
+
 ghost use Rattle.std.specs.Prelude.{◌≡◌, true, ◌+◌, ◌≤◌, ◌<◌, min, max, length, get_or, set};
 ghost use Rattle.timetable.specs.Words.{station_count, is_timetable};
 ghost use Rattle.store_stops.specs.Stopwise.{depart};
@@ -16,7 +18,7 @@ ghost use Rattle.store_minutes.specs.Looking.{LookedTo, Sounded, Parents, Passed
 const NO_MINUTE: usize = 2880;
 
 // Some nodes of the tree for a source: from lo up to hi, and a number that none of their parents is below.
-#[derive(Drop)]
+#[derive(Clone, Copy)]
 struct Chunk {
     source: usize,
     lo: usize,

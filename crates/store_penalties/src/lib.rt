@@ -1,5 +1,7 @@
-// The least penalties on arrival at each stop, for a start at one station from one minute on: one pass over the
-// departures in their order.
+//! The least penalties on arrival at each stop, for a start at one station from one minute on: one pass over the
+//! departures in their order.
+#![tactic(auto)]
+
 ghost use Rattle.std.specs.Prelude.{◌≡◌, true, ◌+◌, ◌≤◌, ◌<◌, min, length, get_or, set, take};
 ghost use Rattle.timetable.specs.Words.{station_count, stop_at, walks_to, is_timetable};
 ghost use Rattle.timetable.specs.Walks.{FromStation};

@@ -1,5 +1,7 @@
-// The penalty points that the store call reads from a timetable: those of a ride and of a walk; and the points of a
-// stop that is not reached. To read points from arrays, compare, add up and write them is for `query_minutes`.
+//! The penalty points that the store call reads from a timetable: those of a ride and of a walk; and the points of a
+//! stop that is not reached. To read points from arrays, compare, add up and write them is for `query_minutes`.
+#![tactic(auto)]
+
 ghost use Rattle.std.specs.Prelude.{◌≡◌, ◌+◌, ◌<◌, ◌^◌, length};
 ghost use Rattle.store_points.specs.Lowered.{lowered};
 

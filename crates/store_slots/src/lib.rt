@@ -1,4 +1,6 @@
-// A place for each pair of stations that a change can name: the station alighted at and the one boarded at.
+//! A place for each pair of stations that a change can name: the station alighted at and the one boarded at.
+#![tactic(auto)]
+
 ghost use Rattle.std.specs.Prelude.{◌≡◌, true, ◌+◌, ◌≤◌, ◌<◌, length, take};
 ghost use Rattle.words.specs.Put.{put};
 ghost use Rattle.timetable.specs.Words.{station_count, walk_count, is_timetable};
@@ -9,7 +11,7 @@ ghost use Rattle.store_slots.specs.Listing.{beyond, walk_listed, side_slots};
 const STATIONS_MOST: usize = timetable::STATIONS_MOST as usize;
 
 // What a pattern names of a change.
-#[derive(Drop)]
+#[derive(Clone, Copy)]
 pub struct Transfer {
     pub alighted: u32,
     pub boarded: u32,

@@ -1,4 +1,6 @@
-// A pattern store in the making: its nodes are numbered breadth first, their arcs counted and listed, and then written.
+//! A pattern store in the making: its nodes are numbered breadth first, their arcs counted and listed, and then written.
+#![tactic(auto)]
+
 ghost use Rattle.std.specs.Prelude.{◌≡◌, true, List, ℕ, suc, ◌+◌, ◌*◌, ◌≤◌, ◌<◌, length, get_or};
 ghost use Rattle.words.specs.Put.{put};
 ghost use Rattle.lists.specs.Lists.{◌∈◌};
@@ -52,7 +54,7 @@ pub fn plant_root(work: &mut [u32], source: u32)
 }
 
 // How many nodes and arcs there are once a node was taken, if they fit a store.
-#[derive(Drop)]
+#[derive(Clone, Copy)]
 pub struct Counts {
     pub n: usize,
     pub m: usize,

@@ -1,4 +1,6 @@
-// What one field of a timetable text says: pieces, numbers, times, and the value ranges.
+//! What one field of a timetable text says: pieces, numbers, times, and the value ranges.
+#![tactic(auto)]
+
 ghost use Rattle.std.specs.Prelude.{◌≡◌, ◌+◌, ◌≤◌, length, drop};
 ghost use Rattle.text.specs.Piece.{piece_length};
 ghost use Rattle.text.specs.Number.{digit_value, field_value};

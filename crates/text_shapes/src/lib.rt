@@ -1,4 +1,6 @@
-// The three shapes of a line of a timetable text.
+//! The three shapes of a line of a timetable text.
+#![tactic(auto)]
+
 ghost use Rattle.std.specs.Prelude.{◌≡◌, min, length, take};
 ghost use Rattle.words.specs.Put.{put};
 ghost use Rattle.text_shapes.specs.Shape.{
@@ -41,7 +43,7 @@ const DEPART: usize = 4;
 const FIELDS_MOST: usize = STOP_FIELDS + 1;
 
 // A line `S,station,change minutes,change penalty`.
-#[derive(Drop)]
+#[derive(Clone, Copy)]
 pub struct StationLine {
     pub number: u32,
     pub minutes: u32,
@@ -49,7 +51,7 @@ pub struct StationLine {
 }
 
 // A line `W,from,to,minutes,penalty`.
-#[derive(Drop)]
+#[derive(Clone, Copy)]
 pub struct WalkLine {
     pub from: u32,
     pub to: u32,
@@ -59,7 +61,7 @@ pub struct WalkLine {
 
 // A line `T,trip,stop,station,arrive,depart,ride penalty,mark`; an empty field is 0, and last says that depart is
 // empty.
-#[derive(Drop)]
+#[derive(Clone, Copy)]
 pub struct StopLine {
     pub trip: u32,
     pub stop: u32,
@@ -71,7 +73,7 @@ pub struct StopLine {
     pub last: bool,
 }
 
-#[derive(Drop)]
+#[derive(Clone, Copy)]
 pub enum Line {
     Station(StationLine),
     Walk(WalkLine),

@@ -1,4 +1,6 @@
-// The abstract timetable, the words that hold it, and how these are read.
+//! The abstract timetable, the words that hold it, and how these are read.
+#![tactic(auto)]
+
 ghost use Rattle.std.specs.Prelude.{◌≡◌, ◌+◌, ◌*◌, ◌≤◌, ◌<◌, true, cond, leb, length};
 ghost use Rattle.timetable.specs.Words.{
   count_to,
@@ -45,14 +47,14 @@ pub const NUMBER_MOST: u32 = 9999;
 pub const LAST_MINUTE: u32 = 2879;
 
 // A station: what a change there takes and costs.
-#[derive(Drop)]
+#[derive(Clone, Copy)]
 pub struct Station {
     pub minutes: u32,
     pub points: u32,
 }
 
 // A walk from one station to another, or along one: what a change on foot takes and costs.
-#[derive(Drop)]
+#[derive(Clone, Copy)]
 pub struct Walk {
     pub from: u32,
     pub to: u32,
@@ -63,7 +65,7 @@ pub struct Walk {
 // A stop of a trip. A field that is empty in the text is 0: arrive at a trip's first stop, depart and points at its
 // last. The points are those of the ride to the next stop. The mark says who may use the stop: 0 who boards and who
 // alights, 1 who boards, 2 who alights.
-#[derive(Drop)]
+#[derive(Clone, Copy)]
 pub struct Stop {
     pub station: u32,
     pub arrive: u32,

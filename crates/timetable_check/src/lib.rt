@@ -1,4 +1,6 @@
-// Question 9, from its parts: can a text and changes after it lead to these words?
+//! Question 9, from its parts: can a text and changes after it lead to these words?
+#![tactic(auto)]
+
 ghost use Rattle.std.specs.Prelude.{◌≡◌, ◌+◌, ◌≤◌, ◌<◌, length};
 ghost use Rattle.timetable.specs.Timetable.{valid_station, valid_stations, valid_walk, walk_before, valid_walks, climb};
 ghost use Rattle.timetable.specs.Words.{station_count, trip_count, stop_count, is_timetable, timetable_number};

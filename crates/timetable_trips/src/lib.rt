@@ -1,4 +1,6 @@
-// The trips of question 9: do they stand one after the other in the words, and is each of them valid?
+//! The trips of question 9: do they stand one after the other in the words, and is each of them valid?
+#![tactic(auto)]
+
 ghost use Rattle.std.specs.Prelude.{◌≡◌, ◌+◌, ◌≤◌, ◌<◌, length};
 ghost use Rattle.timetable.specs.Timetable.{listed, leaves, ends, follows, runs, valid_trip};
 ghost use Rattle.timetable.specs.Words.{station_count, stop_count, stop_at, start_at};

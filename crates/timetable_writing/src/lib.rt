@@ -1,4 +1,6 @@
-// The words of a timetable, written from its parts; and parts of them, copied to where a timetable is put together.
+//! The words of a timetable, written from its parts; and parts of them, copied to where a timetable is put together.
+#![tactic(auto)]
+
 ghost use Rattle.std.specs.Prelude.{◌≡◌, ◌+◌, ◌-◌, ◌*◌, ◌≤◌, ◌++◌, length, take};
 ghost use Rattle.words.specs.Put.{put};
 ghost use Rattle.timetable.specs.Words.{

@@ -1,5 +1,7 @@
-// Words in lent slices: what a slice holds once some words were put into it. The laws speak of lists of numbers and so
-// serve every width.
+//! Words in lent slices: what a slice holds once some words were put into it. The laws speak of lists of numbers and so
+//! serve every width.
+#![tactic(auto)]
+
 ghost use Rattle.std.specs.Prelude.{◌≡◌, [], ◌∷◌, ◌+◌, ◌≤◌, ◌<◌, length, get_or, take};
 ghost use Rattle.words.specs.Put.{put};
 ghost use Rattle.words.specs.Below.{Below};

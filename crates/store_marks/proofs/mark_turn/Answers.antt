@@ -1,0 +1,15 @@
+-- The stop read is the one arrived at, so its station has the flag.
+use borrow.Author.Rules.{rules}
+use Rattle.timetable.specs.Access.{stations_few}
+use Rattle.store_marks.proofs.RideLaws.{same_onward}
+use Rattle.store_marks.proofs.ArrivalLaws.{arrival_few, stop_station}
+use Rattle.store_marks.proofs.mark_turn.Goals as goal
+
+pub stop_at-s-requires : goal.stop_at-s-requires
+stop_at-s-requires c = (search rules, search stations_few, search arrival_few)
+
+pub mark_arrival-requires-clause-arrival : goal.mark_arrival-requires-clause-arrival
+mark_arrival-requires-clause-arrival c = (search rules, search stop_station, search rules)
+
+pub returns-clause-result_value : goal.returns-clause-result_value
+returns-clause-result_value c = search same_onward

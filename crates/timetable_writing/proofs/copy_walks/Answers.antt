@@ -1,0 +1,15 @@
+-- The words of the walks stand one behind the other.
+use Rattle.timetable_writing.proofs.CopyLaws.{all_walks, walks_inside, walks_room, walks_all, walks_copied}
+use Rattle.timetable_writing.proofs.copy_walks.Goals as goal
+
+pub slice_bounds-part-end : goal.slice_bounds-part-end
+slice_bounds-part-end c = search walks_inside
+
+pub copy-requires : goal.copy-requires
+copy-requires c = (search walks_room, search walks_all)
+
+pub returns-clause-walking_after : goal.returns-clause-walking_after
+returns-clause-walking_after c = search walks_copied
+
+pub returns-clause-value : goal.returns-clause-value
+returns-clause-value c = search all_walks
