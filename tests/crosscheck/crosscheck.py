@@ -272,28 +272,26 @@ def as_timetable(stations, walks, trips):
 
 
 IMPORTS = """-- Written by the cross-check; each equation was worked out by listing.
-use mathlib.Core.Path.{_≡_, refl}
-use mathlib.Core.Bool.{true, false}
-use mathlib.Core.List.{List, [], _∷_}
-use Rattle·timetable.specs.Timetable.{Timetable, validStation, listed, leaves, ends, follows, runs}
-use Rattle·timetable.specs.Timetable.{validTrip, validStations, validTrips, counted, climb, numbered, valid}
-use Rattle·timetable.specs.Timetable.{validWalk, walkBefore, validWalks}
-use Rattle·results.specs.Results.{dominates, equal, entries, result}
-use Rattle·connections.specs.Rides.{ridePoints, mayBoard, mayAlight, ridesOf}
-use Rattle·connections.specs.Connections.{net, changesOf}
-use Rattle·connections.specs.Planner.{connections, plannerList, tieKey, rowsOf}
-use Rattle·timetable.specs.Worked.{station}
-use Rattle·connections.specs.Worked.{planned}
-use Rattle·stores.specs.Stored.{optimals, optimalStations, stored}
-use Rattle·stores.specs.Words.{nodes, arcs, encode, storeWords, readable, wellMade, keptList, answer}
-use Rattle·lines.specs.Lines.{inOrder, lines, lineNumbers, calls}
-use Rattle·lines.specs.DirectRides.{directs, directRows}
+use Rattle.std.specs.Prelude.{◌≡◌, refl, true, false, List, [], ◌∷◌}
+use Rattle.timetable.specs.Timetable.{Timetable, valid_station, listed, leaves, ends, follows, runs}
+use Rattle.timetable.specs.Timetable.{valid_trip, valid_stations, valid_trips, counted, climb, numbered, valid}
+use Rattle.timetable.specs.Timetable.{valid_walk, walk_before, valid_walks}
+use Rattle.results.specs.Results.{dominates, equal, entries, result}
+use Rattle.connections.specs.Rides.{ride_points, may_board, may_alight, rides_of}
+use Rattle.connections.specs.Connections.{net, changes_of}
+use Rattle.connections.specs.Planner.{connections, planner_list, tie_key, rows_of}
+use Rattle.timetable.specs.Worked.{station}
+use Rattle.connections.specs.Worked.{planned}
+use Rattle.stores.specs.Stored.{optimals, optimal_stations, stored}
+use Rattle.stores.specs.Words.{nodes, arcs, encode, store_words, readable, well_made, kept_list, answer}
+use Rattle.lines.specs.Lines.{in_order, lines, line_numbers, calls}
+use Rattle.lines.specs.DirectRides.{directs, direct_rows}
 """
 
-OPENED = """validStation listed leaves ends follows runs validTrip validStations validTrips counted climb numbered valid
-    dominates equal entries result ridePoints ridesOf changesOf connections plannerList tieKey rowsOf optimals
-    optimalStations stored nodes arcs encode storeWords readable wellMade keptList answer inOrder lines calls directs
-    directRows mayBoard mayAlight validWalk walkBefore validWalks"""
+OPENED = """valid_station listed leaves ends follows runs valid_trip valid_stations valid_trips counted climb numbered valid
+    dominates equal entries result ride_points rides_of changes_of connections planner_list tie_key rows_of optimals
+    optimal_stations stored nodes arcs encode store_words readable well_made kept_list answer in_order lines calls directs
+    direct_rows may_board may_alight valid_walk walk_before valid_walks"""
 
 
 def equations(seed):
@@ -303,22 +301,22 @@ def equations(seed):
     planner, name = Planner(stations, walks, trips), "G%d" % seed
     minutes = [1, rnd.randint(2, 12)]
     claims = [("valid %s" % name, "true"),
-              ("lineNumbers %s" % name, table([[z + 1 for z in line] for line in planner.lines()]))]
+              ("line_numbers %s" % name, table([[z + 1 for z in line] for line in planner.lines()]))]
     for a in range(1, len(stations) + 1):
-        claims.append(("calls (%s .trips) %d" % (name, a), table(planner.calls(a))))
+        claims.append(("calls %s.trips %d" % (name, a), table(planner.calls(a))))
         for b in range(1, len(stations) + 1):
             for m in minutes if a != b else []:
                 every = list(planner.connections(a, m, b))
                 single = [c for c in every if len(c) == 1]
                 claims.append(("planned %s %d %d %d" % (name, a, m, b), table(planner.rows(every, m))))
-                claims.append(("directRows (net %s) %d %d %d" % (name, a, m, b), table(planner.rows(single, m))))
+                claims.append(("direct_rows (net %s) %d %d %d" % (name, a, m, b), table(planner.rows(single, m))))
     source = rnd.randint(1, len(stations))
     patterns = planner.patterns(source)
-    claims.append(("storeWords (net %s) %d" % (name, source), numbers(planner.words(source, patterns))))
+    claims.append(("store_words (net %s) %d" % (name, source), numbers(planner.words(source, patterns))))
     # a store with sequences struck
     left = {p for p in patterns if rnd.random() < 0.6}
     words = numbers(planner.words(source, left))
-    claims.append(("wellMade %d (%s)" % (len(stations), words), "true"))
+    claims.append(("well_made %d (%s)" % (len(stations), words), "true"))
     for b in range(1, len(stations) + 1):
         if b != source:
             kept = [c for c in planner.connections(source, minutes[0], b) if planner.pattern(source, c) in left]
@@ -336,7 +334,7 @@ def equations(seed):
                                table(planner.rows(kept, minutes[0]))))
         for lent in [words] + [spoilt(rnd, words) for _ in range(4)]:
             made = "true" if planner.well_made(lent) else "false"
-            claims.append(("wellMade %d (%s)" % (len(stations), numbers(lent)), made))
+            claims.append(("well_made %d (%s)" % (len(stations), numbers(lent)), made))
     return name, as_timetable(stations, walks, trips), claims, planner.ties
 
 
@@ -378,14 +376,15 @@ def main():
         os.makedirs(os.path.join(scratch, "crates", "equations", "src"))
         os.makedirs(os.path.join(scratch, "crates", "equations", "specs"))
         files = {
-            "src/lib.rt": "// The cross-check's equations.\n",
+            "src/lib.rt": "//! The cross-check's equations.\n#![tactic(auto)]\n",
             "specs/Lib.antt": "pub mod Equations\n",
             "specs/Equations.antt": "\n".join(text),
         }
         for path, content in files.items():
             with open(os.path.join(scratch, "crates", "equations", path), "w") as file:
                 file.write(content)
-        run = subprocess.run(["rt", "check", "equations"], cwd=scratch, capture_output=True, text=True)
+        folder = os.path.join(scratch, "crates", "equations")
+        run = subprocess.run(["rt", "check"], cwd=folder, capture_output=True, text=True)
     said = run.stdout + run.stderr
     wrong = sorted(set(re.findall(r"error: `(G\d+-\d+)`", said)))
     for name in wrong:

@@ -1,5 +1,5 @@
-//! A trip by its words: where its stops stand, when it departs, and whether it can run behind another on one line. Trips
-//! are at places from 0.
+//! A trip by its words: where its stops stand, when it departs, and whether it can run behind another on one line.
+//! Trips are at places from 0.
 #![tactic(auto)]
 
 ghost use Rattle.std.specs.Prelude.{◌≡◌, true, ◌+◌, ◌≤◌, ◌<◌, length};

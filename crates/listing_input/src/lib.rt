@@ -1,5 +1,5 @@
-//! From a timetable's text, and from the bytes of the listing's input, chunk by chunk, to the bytes printed. The program
-//! itself only moves bytes.
+//! From a timetable's text, and from the bytes of the listing's input, chunk by chunk, to the bytes printed. The
+//! program itself only moves bytes.
 #![tactic(auto)]
 
 ghost use Rattle.std.specs.Prelude.{◌≡◌, ◌≤◌, length, take, drop};

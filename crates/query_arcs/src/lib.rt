@@ -1,6 +1,6 @@
-//! What the arcs of a query's target pay: for each minute of arrival the least penalty of their connections, and the arc
-//! that alone has it. The arcs are gone along one after the other, each by itself, and what it pays is merged into what
-//! those before it pay. A connection may be left out that arrives later than another and costs no less.
+//! What the arcs of a query's target pay: for each minute of arrival the least penalty of their connections, and the
+//! arc that alone has it. The arcs are gone along one after the other, each by itself, and what it pays is merged into
+//! what those before it pay. A connection may be left out that arrives later than another and costs no less.
 #![tactic(auto)]
 
 ghost use Rattle.std.specs.Prelude.{◌≡◌, ◌+◌, ◌-◌, ◌*◌, ◌≤◌, ◌<◌, min, length, get_or, take, set};

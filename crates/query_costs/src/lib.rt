@@ -1,7 +1,8 @@
 //! The least penalties along one stored pattern, change by change: for each minute the least with which one is ready to
-//! board at the present station by then. They are held for a span of minutes alone, from the first by which one is ready
-//! to the last at which a ride arrives and one can leave again: before it there are none, and behind it the last of them
-//! stands for all. The words outside the span are blank, so that to go on only those of the span are made blank again.
+//! board at the present station by then. They are held for a span of minutes alone, from the first by which one is
+//! ready to the last at which a ride arrives and one can leave again: before it there are none, and behind it the last
+//! of them stands for all. The words outside the span are blank, so that to go on only those of the span are made
+//! blank again.
 #![tactic(auto)]
 
 ghost use Rattle.std.specs.Prelude.{◌≡◌, true, not, ◌+◌, ◌-◌, ◌*◌, ◌≤◌, ◌<◌, min, max, length, get_or};

@@ -1,9 +1,9 @@
 //! The rows of a query, from the least penalty for each minute of arrival and the arc that has it. The minutes whose
-//! penalty is below those of all earlier ones are the rows. Each row's arc is named and the row is measured by the arc's
-//! number of rides (`measure`), and only then are its rides looked for and written (`write_rows`): an answer that does
-//! not fit is refused before a word of it is written, and there is no room to keep the rides of all rows until it is
-//! known to fit. Where several arcs tie, naming the arc means trying them all, so that the connection of such a row is
-//! found twice.
+//! penalty is below those of all earlier ones are the rows. Each row's arc is named and the row is measured by the
+//! arc's number of rides (`measure`), and only then are its rides looked for and written (`write_rows`): an answer
+//! that does not fit is refused before a word of it is written, and there is no room to keep the rides of all rows
+//! until it is known to fit. Where several arcs tie, naming the arc means trying them all, so that the connection of
+//! such a row is found twice.
 #![tactic(auto)]
 
 ghost use Rattle.std.specs.Prelude.{◌≡◌, ◌∷◌, ◌+◌, ◌-◌, ◌*◌, ◌≤◌, ◌<◌, length, get_or, take};

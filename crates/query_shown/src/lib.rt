@@ -1,5 +1,5 @@
-//! The connection of one stored pattern that is shown for a row: ride by ride the first that can be taken, where what is
-//! left after it can be paid.
+//! The connection of one stored pattern that is shown for a row: ride by ride the first that can be taken, where what
+//! is left after it can be paid.
 #![tactic(auto)]
 
 mod rides;

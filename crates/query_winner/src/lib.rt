@@ -1,6 +1,6 @@
-//! The connection that is shown for a row: of all that have its arrival and its points, along any arc of the target, the
-//! one that goes before the others by the rule for equal cost. Each arc is gone along for the one that is first along it
-//! (`find_arc`), and where several arcs have one all are tried (`choose`).
+//! The connection that is shown for a row: of all that have its arrival and its points, along any arc of the target,
+//! the one that goes before the others by the rule for equal cost. Each arc is gone along for the one that is first
+//! along it (`find_arc`), and where several arcs have one all are tried (`choose`).
 #![tactic(auto)]
 
 ghost use Rattle.std.specs.Prelude.{◌≡◌, ◌+◌, ◌*◌, ◌≤◌, ◌<◌, length, take};

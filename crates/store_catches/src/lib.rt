@@ -1,6 +1,6 @@
-//! What an arrival catches: the first departure that a change at the station itself reaches, or a walk from there. It is
-//! looked for once and kept, since each pass of the store call asks for it at every arrival. Nothing but time hangs on
-//! how much is kept.
+//! What an arrival catches: the first departure that a change at the station itself reaches, or a walk from there. It
+//! is looked for once and kept, since each pass of the store call asks for it at every arrival. Nothing but time hangs
+//! on how much is kept.
 #![tactic(auto)]
 
 ghost use Rattle.std.specs.Prelude.{◌≡◌, true, ◌+◌, ◌≤◌, ◌<◌, length};

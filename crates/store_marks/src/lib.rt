@@ -1,6 +1,6 @@
-//! The labels of a node, for one minute: for each departure of the station that the node boards at the least that riders
-//! along the node's changes have paid who can board there. And the node's marks: the stations where such riders end
-//! well, and the changes after which they can still end well.
+//! The labels of a node, for one minute: for each departure of the station that the node boards at the least that
+//! riders along the node's changes have paid who can board there. And the node's marks: the stations where such riders
+//! end well, and the changes after which they can still end well.
 #![tactic(auto)]
 
 ghost use Rattle.std.specs.Prelude.{◌≡◌, true, [], ◌-◌, ◌≤◌, ◌<◌, ltb, length, get_or};

@@ -1,4 +1,5 @@
-//! A pattern store in the making: its nodes are numbered breadth first, their arcs counted and listed, and then written.
+//! A pattern store in the making: its nodes are numbered breadth first, their arcs counted and listed, and then
+//! written.
 #![tactic(auto)]
 
 ghost use Rattle.std.specs.Prelude.{◌≡◌, true, List, ℕ, suc, ◌+◌, ◌*◌, ◌≤◌, ◌<◌, length, get_or};

@@ -3,7 +3,6 @@ use Prim.Native.Nat.{◌-◌}
 use borrow.Author.Rules.{rules}
 use Rattle.query_minutes.specs.Compared.{same_yes, same_no}
 use Rattle.timetable.specs.Access.{stations_few}
-use Rattle.store_stops.specs.Stopwise.{points as points_of}
 use Rattle.store_marks.proofs.RideLaws.{next_arrival, next_counts, more_small, ride_ends, nearer, on_goes}
 use Rattle.store_marks.proofs.RideLaws.{points_of, boards_cheap, more_fits, on_points, more_most, ride_on_lem}
 use Rattle.store_marks.proofs.mark_on.Goals as goal

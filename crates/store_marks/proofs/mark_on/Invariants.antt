@@ -6,7 +6,6 @@ use lib.ListN.{length}
 use Rattle.timetable.specs.Words.{is_timetable}
 use Rattle.store_stops.specs.Stopwise.{Goes, points as points_of}
 use Rattle.store_marks.specs.Riding.{visits, run, flag_arc, flag_kids}
-use Rattle.store_marks.proofs.RideLaws.{points_of}
 use Rattle.store_marks.proofs.mark_on.Given as goal
 
 abbrev pub invariant-loop-y : goal.invariant-loop-y

@@ -5,7 +5,6 @@ use lib.ListN.{length}
 use Rattle.connections.specs.Connections.{on_foot}
 use Rattle.store_stops.specs.Stopwise.{Goes, points as points_of}
 use Rattle.store_marks.specs.Riding.{visits, run, offer}
-use Rattle.store_marks.proofs.RideLaws.{points_of}
 use Rattle.store_marks.proofs.ride_on.Given as goal
 
 abbrev pub invariant-loop-way : goal.invariant-loop-way

@@ -1,0 +1,18 @@
+-- The words of a timetable are of 16 bits, and so are those of its line tables: narrowing leaves each as it is.
+use Prim.Native.Nat.{ℕ, ◌<◌}
+use native.Mathlib.Omega.{arith}
+use lib.ListN.{get_or}
+use Rattle.lines_tables.specs.Copied.{lines_room, work_room, taken_narrow, tables_copied}
+use Rattle.lines_call.proofs.BuildLaws.{lines_counted}
+use Rattle.lines_call.proofs.build_tables.Goals as goal
+
+pub narrow-requires : goal.narrow-requires
+narrow-requires c = let w = c.args.words.now in
+    let small : (i : ℕ) → get_or w i 0 < 65536 = λ i. omega (arith, c.type_inv.words i) in
+    (search lines_room, search work_room, search (taken_narrow, small))
+
+pub returns-clause-lines_after : goal.returns-clause-lines_after
+returns-clause-lines_after c = search tables_copied
+
+pub returns-clause-value : goal.returns-clause-value
+returns-clause-value c = search lines_counted
