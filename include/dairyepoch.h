@@ -90,7 +90,8 @@ extern "C" {
 
 /*
  * The time of a call, in milliseconds, as `cargo run --release --bin bench` in tests/ measured it on one core of a
- * server for timetables at the limits. A display takes longer by a factor of its own.
+ * server for timetables at the limits, with the library as an older kit built it. A display takes longer by a factor
+ * of its own.
  *
  *   dairyepoch_read                0.1
  *   dairyepoch_check_timetable     0.004

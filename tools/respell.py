@@ -2,8 +2,8 @@
 """Brings the names of this repository's definitions and lemmas to the spelling of today's Rattle: words in snake case.
 
 It ran once, at the top of a checkout, on what the port.py of the Rattle kit had made of the last commit before the port
-(docs/PORT.md). A lemma whose new name a definition has is called after it, with `_lem`. Names of functions in src/, exported
-names, strings, inputs and outputs keep their spelling, and so do names that are imported from the libraries.
+(docs/PORT.md). A lemma whose new name a definition has is called after it, with `_lem`. Names of functions in src/,
+exported names, strings, inputs and outputs keep their spelling, and so do names that are imported from the libraries.
 
 usage: python3 tools/respell.py
 """
@@ -23,7 +23,8 @@ DECLARED = re.compile(
 RENAMED = re.compile(r"[\w'-]+\s+as\s+([a-z][\w'-]*)")
 IMPORTED = re.compile(r"use\s+([\w.+'-]+)\.\{([^}]*)\}")
 KEYWORDS = {"use", "module", "let", "where", "pub", "mod"}
-# Names that would fall together with others where both are in scope, or that say something else than their new spelling.
+# Names that would fall together with others where both are in scope, or that say something else than their new
+# spelling.
 BY_HAND = {"last-questions": "closing_questions"}
 # Lemmas in snake case already, beside a definition that comes to their name: the modules where both are in scope.
 CALLED_AFTER = {

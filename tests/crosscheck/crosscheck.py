@@ -288,10 +288,10 @@ use Rattle.lines.specs.Lines.{in_order, lines, line_numbers, calls}
 use Rattle.lines.specs.DirectRides.{directs, direct_rows}
 """
 
-OPENED = """valid_station listed leaves ends follows runs valid_trip valid_stations valid_trips counted climb numbered valid
-    dominates equal entries result ride_points rides_of changes_of connections planner_list tie_key rows_of optimals
-    optimal_stations stored nodes arcs encode store_words readable well_made kept_list answer in_order lines calls directs
-    direct_rows may_board may_alight valid_walk walk_before valid_walks"""
+OPENED = """valid_station listed leaves ends follows runs valid_trip valid_stations valid_trips counted climb
+    numbered valid dominates equal entries result ride_points rides_of changes_of connections planner_list tie_key
+    rows_of optimals optimal_stations stored nodes arcs encode store_words readable well_made kept_list answer
+    in_order lines calls directs direct_rows may_board may_alight valid_walk walk_before valid_walks"""
 
 
 def equations(seed):

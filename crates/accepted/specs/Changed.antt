@@ -1,10 +1,12 @@
 -- A valid timetable stays valid without a trip, and with one more that is valid, has a free number from 1 to 9,999 and
 -- keeps to the counts.
-use Rattle.std.specs.Prelude.{◌≡◌, refl, Bool, true, false, cond, ◌||◌, List, [], ◌∷◌, ℕ, zero, suc, ◌+◌, ◌≤◌, ◌<◌, ltb, eqb, length}
+use Rattle.std.specs.Prelude.{◌≡◌, refl, Bool, true, false, cond, ◌||◌, List, [], ◌∷◌, ℕ, zero, suc, ◌+◌, ◌≤◌, ◌<◌, ltb}
+use Rattle.std.specs.Prelude.{eqb, length}
 use Rattle.std.proofs.Common.{sym, length-append, arith, leb-true, ltb-true, ltb-false, le-leb, lt-ltb}
 use Rattle.std.proofs.lemmas.Bool.{false≢true, eqb-false}
 use Rattle.lists.specs.Tests.{and_left, and_right, and_both}
-use Rattle.timetable.specs.Timetable.{Trip, Timetable, stops_of, trips_most, stops_most, number_most, valid_trip, valid_trips}
+use Rattle.timetable.specs.Timetable.{Trip, Timetable, stops_of, trips_most, stops_most, number_most, valid_trip}
+use Rattle.timetable.specs.Timetable.{valid_trips}
 use Rattle.timetable.specs.Timetable.{climb, valid}
 use Rattle.timetable.specs.Changes.{without, inserted, runs_as, place_of, cancelled, added}
 use Rattle.accepted.specs.Valid.{is_valid, valid_is}

@@ -1,6 +1,7 @@
 -- Numbers up to 9,999 written out: "A number has one to four decimal digits and no leading zero, except 0 itself."
 -- What they read back to, and what bytes they have, is computed for each number in turn.
-use Rattle.std.specs.Prelude.{◌≡◌, refl, Bool, true, false, cond, ◌&&◌, List, [], ◌∷◌, ℕ, zero, suc, ◌+◌, ◌/◌, ◌%◌, ◌≤◌, ◌<◌, leb, ltb, eqb, length}
+use Rattle.std.specs.Prelude.{◌≡◌, refl, Bool, true, false, cond, ◌&&◌, List, [], ◌∷◌, ℕ, zero, suc, ◌+◌, ◌/◌, ◌%◌, ◌≤◌}
+use Rattle.std.specs.Prelude.{◌<◌, leb, ltb, eqb, length}
 use Rattle.std.proofs.Common.{sym, subst, arith, leb-true, lt-ltb, eqb-true}
 use Rattle.std.proofs.lemmas.Bool.{eqb-false}
 use Rattle.lists.specs.Tests.{and_left, and_right}

@@ -19,7 +19,8 @@ use Rattle.text_shapes.specs.declared.Line.TheVariants.{
   Shapeless,
 }
 use Rattle.text_shapes.specs.declared.StopLine.{StopLine}
-use Rattle.timetable.specs.Timetable.{Station, Trip, Timetable, stops_of, number_most, valid_walks, valid_trip, valid_trips}
+use Rattle.timetable.specs.Timetable.{Station, Trip, Timetable, stops_of, number_most, valid_walks, valid_trip}
+use Rattle.timetable.specs.Timetable.{valid_trips}
 use Rattle.timetable.specs.Timetable.{valid}
 use Rattle.timetable.specs.Changes.{runs_as, added}
 use Rattle.reading_lines.specs.Draft.{Draft, Rules, extra_rules, opening, stop_of_line, with_stop, with_line}

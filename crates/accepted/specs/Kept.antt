@@ -42,7 +42,8 @@ pub record EndsWith (r : Rules) (P : Draft → Type 0) (t : Timetable) : Type 0 
   pub is : whole_of r draft ≡ t
 
 module _ (r : Rules) (P : Draft → Type 0)
-    (step : (d : Draft) (line : Line) → Shaped line → line_number_at r (progress d) line ≡ 0 → P d → P (with_line d line))
+    (step : (d : Draft) (line : Line) → Shaped line → line_number_at r (progress d) line ≡ 0 → P d → P
+    (with_line d line))
   where
     ended_with : (d : Draft) (line : ℕ) (t : Timetable) (n : ℕ) → P d → ended r d line ≡ Accepted t n
         → EndsWith r P t

@@ -62,7 +62,8 @@ no_time : time_value [] ≡ empty_field
 unfolding time_value
 no_time = refl
 
-time_value_lem : (empty : Bool) (n : ℕ) → n ≤ last_minute → time_value (empty_or empty (clock n)) ≡ cond empty empty_field n
+time_value_lem : (empty : Bool) (n : ℕ) → n ≤ last_minute → time_value (empty_or empty (clock n)) ≡ cond empty
+    empty_field n
 time_value_lem true n h = no_time
 time_value_lem false n h = clock_value n h
 

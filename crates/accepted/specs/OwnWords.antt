@@ -17,7 +17,8 @@ use Rattle.lists.specs.Tests.{and_left, and_right}
 use Rattle.timetable.specs.Timetable.{stops_of}
 use Rattle.timetable.specs.Words.{station_words, stop_words, start_words, walk_words, foot_words, words, station_count}
 use Rattle.timetable.specs.Words.{trip_count, stop_count, station_at, stop_place, stop_at, start_at, trip_at, number_at}
-use Rattle.timetable.specs.Words.{foot_place, walks_to, walk_count, walk_place, walk_at, timetable_of, rise, chained, footed}
+use Rattle.timetable.specs.Words.{foot_place, walks_to, walk_count, walk_place, walk_at, timetable_of, rise, chained}
+use Rattle.timetable.specs.Words.{footed}
 use Rattle.timetable.specs.Words.{is_timetable}
 use Rattle.timetable.specs.Check.{rise_most}
 use Rattle.timetable_writing.specs.Parts.{take_one, stops_back}

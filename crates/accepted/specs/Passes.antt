@@ -1,6 +1,7 @@
 -- When a line has a yes to each question put to it: the facts that the questions ask for, in both directions.
 use Rattle.std.proofs.Common.{ap, ◌∙◌, arith}
-use Rattle.std.specs.Prelude.{◌≡◌, refl, Bool, false, not, cond, ◌&&◌, ◌||◌, List, ◌∷◌, ℕ, suc, ◌+◌, ◌≤◌, ◌<◌, leb, eqb, length}
+use Rattle.std.specs.Prelude.{◌≡◌, refl, Bool, false, not, cond, ◌&&◌, ◌||◌, List, ◌∷◌, ℕ, suc, ◌+◌, ◌≤◌, ◌<◌, leb, eqb}
+use Rattle.std.specs.Prelude.{length}
 use Rattle.std.proofs.Math.Path.{sym}
 use Rattle.std.proofs.Math.Bool.{true}
 use Rattle.std.proofs.lemmas.Bool.{false≢true}
@@ -14,7 +15,8 @@ use Rattle.text_shapes.specs.declared.StationLine.{StationLine}
 use Rattle.text_shapes.specs.declared.WalkLine.{WalkLine}
 use Rattle.text_shapes.specs.declared.StopLine.{StopLine}
 use Rattle.timetable.specs.Timetable.{last_minute, stations_most, walks_most, trips_most, stops_most}
-use Rattle.reading_lines.specs.Draft.{Draft, Rules, text_rules, with_line, stops_in, station_number, walk_of_line, rises_after}
+use Rattle.reading_lines.specs.Draft.{Draft, Rules, text_rules, with_line, stops_in, station_number, walk_of_line}
+use Rattle.reading_lines.specs.Draft.{rises_after}
 use Rattle.reading_lines.specs.Draft.{walk_fits, walk_number, stop_in_range, extra_station, extra_walk}
 use Rattle.reading_lines.specs.Progress.{progress, stop_fits_at, stop_number_at, extra_stop_at, line_number_at}
 use Rattle.reading_lines.specs.Progress.{same_number}

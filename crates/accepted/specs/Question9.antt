@@ -1,8 +1,9 @@
 -- Question 9: "Could the timetable words come from an accepted text?", which since document 02, Eleven, "admit[s] gaps
 -- and count[s] no bytes": are they those of a timetable that some sequence of reading, cancelling and adding leads to?
--- The test isTimetable has a yes exactly for the words that are, and what reading wrote, with number 0, always has its
+-- The test is_timetable has a yes exactly for the words that are, and what reading wrote, with number 0, always has its
 -- yes. This is for a reader, as `question9`, `read_leads` and `zero_has_yes` say it; `LedTo` stands in Led.
-use Rattle.std.specs.Prelude.{◌≡◌, refl, Bool, true, false, cond, ◌&&◌, ◌↔◌, List, [], ◌∷◌, ◌++◌, ℕ, zero, suc, ◌+◌, ◌-◌, ◌≤◌, leb, eqb, length, drop}
+use Rattle.std.specs.Prelude.{◌≡◌, refl, Bool, true, false, cond, ◌&&◌, ◌↔◌, List, [], ◌∷◌, ◌++◌, ℕ, zero, suc, ◌+◌}
+use Rattle.std.specs.Prelude.{◌-◌, ◌≤◌, leb, eqb, length, drop}
 use Rattle.std.proofs.Common.{sym, ap, subst, ◌∙◌, take-append-drop, zero-add, arith, leb-true, le-leb}
 use Rattle.std.proofs.Math.Dec.{eqb-suc-zero}
 use Rattle.std.proofs.Math.Seq.{take-append_seam}
@@ -19,7 +20,8 @@ use Rattle.reading.specs.declared.Reply.{Reply}
 use Rattle.reading.specs.declared.Reply.TheVariants.{Refused as ReplyRefused}
 use Rattle.reading_lines.specs.Draft.{Draft, text_rules, blank, with_line}
 use Rattle.reading_lines.specs.Progress.{progress, line_number_at}
-use Rattle.reading.specs.Reading.{Outcome, Accepted, Refused, complete, ended, read_under, read_from, text_most, read_lines}
+use Rattle.reading.specs.Reading.{Outcome, Accepted, Refused, complete, ended, read_under, read_from, text_most}
+use Rattle.reading.specs.Reading.{read_lines}
 use Rattle.reading.specs.Reading.{reading, slices_least, reply_to, read_reply, read_words, number_of}
 use Rattle.accepted.specs.Valid.{is_valid}
 use Rattle.accepted.specs.Passes.{read_more}
@@ -108,7 +110,8 @@ line_numbered (suc n) line x h = rw (eqb-suc-zero n) (omega arith)
 end_numbered : (d : Draft) (line : ℕ) → Numbered (ended text_rules d line)
 unfolding ended
 end_numbered d line =
-    either_numbered (complete text_rules d) (Accepted (whole_of text_rules d) (line - 1)) (Refused 7 line) tt (omega arith)
+    either_numbered (complete text_rules d) (Accepted (whole_of text_rules d) (line - 1)) (Refused 7 line) tt
+    (omega arith)
 
 from_numbered : (d : Draft) (line : ℕ) (l : List (List ℕ)) → Numbered (read_from d line l)
 unfolding read_under

@@ -23,7 +23,8 @@ use Rattle.text_shapes.specs.declared.WalkLine.{WalkLine}
 use Rattle.text_shapes.specs.declared.StopLine.{StopLine}
 use Rattle.timetable.specs.Timetable.{stations_most, walks_most, trips_most, stops_most, number_most, last_minute, Walk}
 use Rattle.timetable.specs.Timetable.{Trip, Timetable, valid_walks}
-use Rattle.timetable.specs.Timetable.{stops_of, valid_station, listed, leaves, ends, follows, valid_trip, valid_stations}
+use Rattle.timetable.specs.Timetable.{stops_of, valid_station, listed, leaves, ends, follows, valid_trip}
+use Rattle.timetable.specs.Timetable.{valid_stations}
 use Rattle.timetable.specs.Timetable.{valid_trips, climb, valid}
 use Rattle.timetable.specs.WordLaws.{stops_of_append}
 use Rattle.reading_lines.specs.Draft.{

@@ -15,7 +15,8 @@ use Rattle.lists.specs.Tests.{and_both, T_true}
 use Rattle.timetable.specs.Timetable.{Station, Stop, Trip, Timetable, stops_of}
 use Rattle.timetable.specs.Words.{station_words, stop_words, start_words, walk_words, count_to, foot_words, words}
 use Rattle.timetable.specs.Words.{station_count, stop_count}
-use Rattle.timetable.specs.Words.{station_at, stop_in, stop_place, trip_count, stop_at, start_at, trip_at, number_at, foot_place}
+use Rattle.timetable.specs.Words.{station_at, stop_in, stop_place, trip_count, stop_at, start_at, trip_at, number_at}
+use Rattle.timetable.specs.Words.{foot_place}
 use Rattle.timetable.specs.Words.{walks_to, walk_place, walk_in, walk_at, timetable_of, rise, chained, footed}
 use Rattle.timetable.specs.WordLaws.{length_station_words, length_stop_words, length_start_words, length_foot_words}
 use Rattle.timetable.specs.WordLaws.{stop_words_append, walks_from}
@@ -108,7 +109,8 @@ module _ (w : List ℕ) where
       let count : k + length t - k ≡ length t = omega arith in
       rw (here, there, count) (stops_at k t more e)
 
-  trips_at_lem : (k j : ℕ) (l : List Trip) (more past : List ℕ) → drop (stop_place w k) w ≡ stop_words (stops_of l) ++ more
+  trips_at_lem : (k j : ℕ) (l : List Trip) (more past : List ℕ) → drop (stop_place w k) w ≡ stop_words (stops_of l) ++
+      more
       → drop (starts_place + j) w ≡ start_words k l ++ past → map (trip_at w) (range j (length l)) ≡ l
   unfolding start_words
   trips_at_lem k j [] more past e f = refl
@@ -204,7 +206,8 @@ module _ (t : Timetable) (rest : List ℕ) where
       unfolding foot_words
       walk_count_lem =
           let n = length t.stations in
-          let told : get_or (map (walks_to (words t ++ rest)) (range 0 (suc n))) n 0 ≡ walks_to (words t ++ rest) (0 + n) =
+          let told : get_or (map (walks_to (words t ++ rest)) (range 0 (suc n))) n 0 ≡ walks_to (words t ++ rest)
+          (0 + n) =
           map_numbers (walks_to (words t ++ rest)) 0 (suc n) n 0 (omega arith) in
           let counted : get_or (map (count_to t.walks) (range 0 (suc n))) n 0 ≡ count_to t.walks (0 + n) =
           map_numbers (count_to t.walks) 0 (suc n) n 0 (omega arith) in

@@ -14,7 +14,8 @@ use Rattle.text.specs.Piece.{pieces}
 use Rattle.text.specs.Time.{time_value}
 use Rattle.text_shapes.specs.Shape.{shape_of}
 use Rattle.text_shapes.specs.declared.Line.{Line}
-use Rattle.timetable.specs.Timetable.{stations_most, walks_most, trips_most, stops_most, last_minute, Station, Walk, Stop}
+use Rattle.timetable.specs.Timetable.{stations_most, walks_most, trips_most, stops_most, last_minute, Station, Walk}
+use Rattle.timetable.specs.Timetable.{Stop}
 use Rattle.timetable.specs.Timetable.{Trip, Timetable, stops_of, valid_station, valid_walks, leaves, follows, runs}
 use Rattle.timetable.specs.Timetable.{valid_trip, valid_stations}
 use Rattle.reading_lines.specs.Draft.{Draft, Rules, text_rules, extra_rules, opening, blank, final, with_line}

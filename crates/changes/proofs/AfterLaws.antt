@@ -15,7 +15,7 @@ use Rattle.accepted.specs.Question9.{valid_yes, valid_spells}
 use Rattle.accepted.specs.Changed.{cancelled_valid}
 use Rattle.lines_tables.specs.Model.{lines_at, table_at}
 use Rattle.lines_tables.specs.Tables.{table_words}
-use Rattle.lines_tables.specs.Same.{same_tables}
+use Rattle.lines_tables.proofs.Same.{same_tables}
 use Rattle.lines_tables.specs.Building.{line_count}
 use Rattle.lines_order.specs.Order.{OrderOf}
 use Rattle.changes_words.specs.Appended.{left_out}

@@ -11,7 +11,8 @@ ghost use Rattle.lines_order.specs.Order.{OrderOf};
 ghost use Rattle.lines_tables.specs.Tables.{table_words};
 ghost use Rattle.lines_tables.specs.Building.{line_count};
 ghost use Rattle.lines_check.specs.Question10.{tables_number};
-ghost use Rattle.promises.specs.Changes.{cancel_reply, cancel_timetable, cancel_lines, add_reply, add_timetable, add_lines};
+ghost use Rattle.promises.specs.Changes.{cancel_reply, cancel_timetable, cancel_lines, add_reply, add_timetable};
+ghost use Rattle.promises.specs.Changes.{add_lines};
 
 use changes_extra::Found;
 use replies::Reply;

@@ -105,7 +105,8 @@ module _ (w : List ℕ) (okay : is_timetable w ≡ true) (n s t m : ℕ) (is-s :
     lines_same =
         let trips = is_t ∙ sym (length_trips w) in
         let stops = is_m ∙ sym (all_stops w okay) in
-        λ i. read_under (extra_rules n (trips i) (stops i)) time_value (opening (stations_read_lem i)) 1 (pieces 10 text)
+        λ i. read_under (extra_rules n (trips i) (stops i)) time_value (opening (stations_read_lem i)) 1
+        (pieces 10 text)
 
     module _ (r : Lines) (body₁ starts starts₀ walking walking₀ : List ℕ)
         (free : runs_as n (timetable_of w).numbers ≡ false)

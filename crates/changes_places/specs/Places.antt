@@ -1,6 +1,7 @@
 -- Where a trip of some number stands, in numbers that climb: behind all lower numbers, and the trip runs exactly if its
 -- number stands there.
-use Rattle.std.specs.Prelude.{◌≡◌, refl, Bool, true, false, ◌&&◌, ◌||◌, List, [], ◌∷◌, ℕ, suc, ◌≤◌, ◌<◌, T, ltb, eqb, length, get_or}
+use Rattle.std.specs.Prelude.{◌≡◌, refl, Bool, true, false, ◌&&◌, ◌||◌, List, [], ◌∷◌, ℕ, suc, ◌≤◌, ◌<◌, T, ltb, eqb}
+use Rattle.std.specs.Prelude.{length, get_or}
 use Rattle.std.proofs.Common.{sym, ◌∙◌, arith, lt-ltb, le-ltb, ltb-true, ne_eqb}
 use Rattle.std.proofs.Math.Decide.{dec_lt}
 use Rattle.lists.specs.Tests.{reads, and_left}

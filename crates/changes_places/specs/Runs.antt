@@ -10,7 +10,8 @@ use Rattle.std.proofs.Math.ListN.{length, length-map}
 use Rattle.lists.specs.Lists.{range}
 use Rattle.lists.specs.Ranges.{length_range}
 use Rattle.timetable.specs.Timetable.{Trip, stops_of}
-use Rattle.timetable.specs.Words.{start_words, station_count, trip_count, stop_count, station_at, start_at, stop_at, trip_at}
+use Rattle.timetable.specs.Words.{start_words, station_count, trip_count, stop_count, station_at, start_at, stop_at}
+use Rattle.timetable.specs.Words.{trip_at}
 use Rattle.timetable.specs.Words.{number_at, timetable_of, is_timetable}
 use Rattle.timetable.specs.Check.{stations_at, trips_at, stops_at, numbers_at, between, between_more, between_none}
 use Rattle.timetable.specs.Access.{trip_stops_lem, start_first, start_last}

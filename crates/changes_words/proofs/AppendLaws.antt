@@ -7,7 +7,8 @@ use native.Mathlib.Omega.{arith}
 use lib.ListN.{length, get_or, length-append}
 use Rattle.words.specs.Put.{put, put_append}
 use Rattle.timetable.specs.Timetable.{Station, Trip, stops_of}
-use Rattle.timetable.specs.Words.{station_words, stop_words, start_words, station_count, trip_count, start_at, stop_at, trip_at}
+use Rattle.timetable.specs.Words.{station_words, stop_words, start_words, station_count, trip_count, start_at, stop_at}
+use Rattle.timetable.specs.Words.{trip_at}
 use Rattle.timetable.specs.Words.{number_at, is_timetable}
 use Rattle.timetable.specs.WordLaws.{length_station_words, length_stop_words, length_start_words, stop_words_append}
 use Rattle.timetable.specs.WordLaws.{stops_of_append}

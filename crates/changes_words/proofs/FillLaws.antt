@@ -9,9 +9,11 @@ use lib.ListN.{length, get_or, take, drop, set}
 use Rattle.words.specs.Put.{put, put_none, put_one}
 use Rattle.timetable.specs.Timetable.{Timetable}
 use Rattle.timetable.specs.Words.{station_words, stop_words, start_words, walk_words, words, joined, station_count}
-use Rattle.timetable.specs.Words.{trip_count, stop_count, start_at, trip_at, number_at, walk_count, timetable_of, is_timetable}
+use Rattle.timetable.specs.Words.{trip_count, stop_count, start_at, trip_at, number_at, walk_count, timetable_of}
+use Rattle.timetable.specs.Words.{is_timetable}
 use Rattle.timetable.specs.WordLaws.{joined_words}
-use Rattle.timetable.specs.Check.{stations_at, trips_at, numbers_at, walks_at, length_stations, length_walks, walks_there}
+use Rattle.timetable.specs.Check.{stations_at, trips_at, numbers_at, walks_at, length_stations, length_walks}
+use Rattle.timetable.specs.Check.{walks_there}
 use Rattle.timetable.specs.Walks.{walks_few}
 use Rattle.timetable.specs.Access.{stations_few, trips_few, stops_few, start_first, start_last, start_most}
 use Rattle.timetable.specs.Changes.{without}

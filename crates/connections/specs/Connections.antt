@@ -1,6 +1,7 @@
 -- Connections, what makes one feasible, what it costs, and its pattern: Definitions 1 to 3 of the 2010 paper in the
 -- words of document 01. They speak of a net: the rides of a timetable and the ways of changing.
-use Rattle.std.specs.Prelude.{◌≡◌, Bool, not, ◌&&◌, List, [], ◌∷◌, ◌++◌, map, ℕ, suc, ◌+◌, ◌-◌, ◌≤◌, T, eqb, length, get_or}
+use Rattle.std.specs.Prelude.{◌≡◌, Bool, not, ◌&&◌, List, [], ◌∷◌, ◌++◌, map, ℕ, suc, ◌+◌, ◌-◌, ◌≤◌, T, eqb, length}
+use Rattle.std.specs.Prelude.{get_or}
 use Rattle.timetable.specs.Timetable.{Station, Walk, Timetable}
 use Rattle.lists.specs.Lists.{◌∈◌, filter, any, range}
 use Rattle.results.specs.Results.{Cost, dominates}

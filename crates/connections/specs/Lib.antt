@@ -5,10 +5,4 @@ pub mod Unmarked
 pub mod Platforms
 pub mod WithoutWalks
 pub mod Worked
-pub mod RideLaws
-pub mod Sound
-pub mod Feasibility
-pub mod Listed
-pub mod OptimalLaws
-pub mod Ties
 pub mod Named

@@ -1,17 +1,12 @@
 -- Document 02, Nine, seen from One, which had it that "From and to may be equal, for a long platform, and then both
 -- ways of changing are open." Where no W line leads from a station to itself, the ways of changing are the same, and
 -- with them all connections, rows and stores. For a reader.
-use Rattle.std.specs.Prelude.{◌≡◌, refl, Bool, true, false, ◌≢◌, ℕ, T, length}
-use Rattle.std.proofs.Math.Path.{sym, ap}
-use Rattle.std.proofs.Common.{◌∙◌}
-use mathlib.Core.List.Memᴰ.{head as here}
-use mathlib.Core.List.Memᴰ.{tail as there}
-use mathlib.Core.List.{List, [], ◌∷◌, ◌++◌, map}
+use Rattle.std.specs.Prelude.{◌≢◌, length}
+use mathlib.Core.List.{List, ◌++◌, map}
 use Rattle.timetable.specs.Timetable.{Walk, Timetable}
-use Rattle.lists.specs.Lists.{◌∈◌, keep, filter, range}
+use Rattle.lists.specs.Lists.{◌∈◌, range}
 use Rattle.connections.specs.Rides.{rides_of}
-use Rattle.connections.specs.Connections.{Change, change_at, on_foot, applies, changes_of, Net, net}
-use Rattle.connections.specs.RideLaws.{applies_in}
+use Rattle.connections.specs.Connections.{Change, change_at, on_foot, Net, net}
 
 -- the ways of changing of request One: at each station, and by each walk
 unfoldable pub both_open : Timetable → List Change
@@ -25,23 +20,3 @@ net_of_one t =
 -- "A timetable without such a line"
 abbrev pub NoneAlong : Timetable → Type 0
 NoneAlong t = (v : Walk) → v ∈ t.walks → v.from ≢ v.to
-
-filter_all : (p : ℕ → Bool) (l : List ℕ) → ((x : ℕ) → x ∈ l → T (p x)) → filter p l ≡ l
-filter_all p [] h = refl
-filter_all p (x ∷ l) h = go (p x) (h x (here refl)) (filter_all p l (λ y m. h y (there m)))
-  where
-    go : (b : Bool) → T b → filter p l ≡ l → keep b x (filter p l) ≡ x ∷ l
-    go true t rest = ap (λ k. x ∷ k) rest
-    go false t rest = absurd t
-
-module _ (t : Timetable) (none : NoneAlong t) where
-  pub same_changes : changes_of t ≡ both_open t
-  unfolding changes_of both_open
-  same_changes =
-      ap
-      (λ l. map (change_at t.stations) l ++ map on_foot t.walks)
-      (filter_all (applies t.walks) (range 0 (length t.stations))
-      (λ z m. applies_in t.walks z (λ v k from to. none v k (from ∙ sym to))))
-
-  pub same_net : net t ≡ net_of_one t
-  same_net = λ i. record { stations = length t.stations; rides = rides_of t; changes = same_changes i }

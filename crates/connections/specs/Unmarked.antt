@@ -12,7 +12,8 @@ later_rides t =
     concat_map
     (λ z.
     let l = get_or t.trips z [] in
-    concat_map (λ x. map (ride_at l (number_of t z) x) (filter (is_later l x) (range 0 (length l)))) (range 0 (length l)))
+    concat_map (λ x. map (ride_at l (number_of t z) x) (filter (is_later l x) (range 0 (length l))))
+    (range 0 (length l)))
     (range 0 (length t.trips))
 
 -- "0 both" at every stop

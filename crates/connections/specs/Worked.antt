@@ -13,7 +13,8 @@ use Rattle.connections.specs.Platforms.{both_open, net_of_one}
 
 -- it is accepted, so that the theorems hold of it
 pub M_valid : T (valid M)
-unfolding valid counted numbered climb valid_stations valid_walks valid_trips valid_trip valid_station listed leaves ends
+unfolding valid counted numbered climb valid_stations valid_walks valid_trips valid_trip valid_station listed leaves
+    ends
     follows runs M variant
 M_valid = tt
 
@@ -31,7 +32,8 @@ two_rides d p t x y t' x' y' = d ∷ p ∷ 2 ∷ t ∷ x ∷ y ∷ t' ∷ x' ∷
 -- Both durations are measured from 470. Trip 1 stays at station 2 for one minute, and who stays aboard needs no change
 -- minutes; who arrives at 500 with 3 change minutes cannot leave at 502, and takes trip 2.
 pub case_a : planned M 1 470 3 ≡ two_rides 50 10 1 1 2 2 1 2 ∷ one_ride 90 0 1 1 3 ∷ []
-unfolding M variant rides_of may_board may_alight ride_points changes_of planner_list connections entries result dominates
+unfolding M variant rides_of may_board may_alight ride_points changes_of planner_list connections entries result
+    dominates
     equal rows_of tie_key
 case_a = refl
 
@@ -40,12 +42,14 @@ unfolding M variant rides_of may_board may_alight ride_points changes_of planner
 case_a_none = refl
 
 pub case_g : planned M 2 501 3 ≡ one_ride 14 0 3 1 2 ∷ []
-unfolding M variant rides_of may_board may_alight ride_points changes_of planner_list connections entries result dominates
+unfolding M variant rides_of may_board may_alight ride_points changes_of planner_list connections entries result
+    dominates
     equal rows_of tie_key
 case_g = refl
 
 pub case_h : planned M 2 503 3 ≡ one_ride 17 0 2 1 2 ∷ []
-unfolding M variant rides_of may_board may_alight ride_points changes_of planner_list connections entries result dominates
+unfolding M variant rides_of may_board may_alight ride_points changes_of planner_list connections entries result
+    dominates
     equal rows_of tie_key
 case_h = refl
 
@@ -76,7 +80,8 @@ alike =
     }
 
 pub latest_shown : planned alike 1 470 2 ≡ one_ride 30 0 2 1 2 ∷ []
-unfolding alike rides_of may_board may_alight ride_points changes_of planner_list connections entries result dominates equal
+unfolding alike rides_of may_board may_alight ride_points changes_of planner_list connections entries result dominates
+    equal
     rows_of tie_key
 latest_shown = refl
 
@@ -128,7 +133,8 @@ on_to_three =
     }
 
 pub on_foot_lem : planned on_to_three 1 0 4 ≡ two_rides 30 9 1 1 2 2 1 2 ∷ []
-unfolding on_to_three rides_of may_board may_alight ride_points changes_of planner_list connections entries result dominates
+unfolding on_to_three rides_of may_board may_alight ride_points changes_of planner_list connections entries result
+    dominates
     equal rows_of tie_key
 on_foot_lem = refl
 
@@ -160,7 +166,8 @@ platform d =
 pub walk_alone : (planned (platform 22) 1 0 3 ≡ two_rides 90 70 1 1 2 2 1 2 ∷ [])
     × (planned (platform 25) 1 0 3 ≡ two_rides 90 70 1 1 2 2 1 2 ∷ [])
     × (length (planner_list (net (platform 25)) 1 0 3) ≡ 1)
-unfolding platform rides_of may_board may_alight ride_points changes_of planner_list connections entries result dominates
+unfolding platform rides_of may_board may_alight ride_points changes_of planner_list connections entries result
+    dominates
     equal rows_of tie_key
 walk_alone = (refl, refl, refl)
 
@@ -170,8 +177,10 @@ unfoldable pub along_two : Timetable
 along_two = record { stations = M.stations; walks = walk 2 2 4 15 ∷ []; numbers = M.numbers; trips = M.trips }
 
 pub changed_rows : (planned along_two 1 470 3 ≡ one_ride 90 0 1 1 3 ∷ [])
-    × (rows_of 470 (planner_list (net_of_one along_two) 1 470 3) ≡ two_rides 50 10 1 1 2 2 1 2 ∷ one_ride 90 0 1 1 3 ∷ [])
-unfolding along_two M variant rides_of may_board may_alight ride_points changes_of both_open planner_list connections entries
+    × (rows_of 470 (planner_list (net_of_one along_two) 1 470 3) ≡ two_rides 50 10 1 1 2 2 1 2 ∷ one_ride 90 0 1 1 3 ∷
+    [])
+unfolding along_two M variant rides_of may_board may_alight ride_points changes_of both_open planner_list connections
+    entries
     result dominates equal rows_of tie_key
 changed_rows = (refl, refl)
 
@@ -188,7 +197,8 @@ round_at_end =
     }
 
 pub walked_to_target : planned round_at_end 1 0 3 ≡ two_rides 25 7 1 1 2 2 1 3 ∷ []
-unfolding round_at_end rides_of may_board may_alight ride_points changes_of planner_list connections entries result dominates
+unfolding round_at_end rides_of may_board may_alight ride_points changes_of planner_list connections entries result
+    dominates
     equal rows_of tie_key
 walked_to_target = refl
 
@@ -204,7 +214,8 @@ round_at_start =
     }
 
 pub walked_from_source : planned round_at_start 1 0 4 ≡ two_rides 30 3 1 1 3 2 1 2 ∷ []
-unfolding round_at_start rides_of may_board may_alight ride_points changes_of planner_list connections entries result dominates
+unfolding round_at_start rides_of may_board may_alight ride_points changes_of planner_list connections entries result
+    dominates
     equal rows_of tie_key
 walked_from_source = refl
 
@@ -219,6 +230,7 @@ same_trip =
     }
 
 pub boarded_again : planned same_trip 1 0 4 ≡ two_rides 50 8 1 1 2 1 3 4 ∷ []
-unfolding same_trip rides_of may_board may_alight ride_points changes_of planner_list connections entries result dominates
+unfolding same_trip rides_of may_board may_alight ride_points changes_of planner_list connections entries result
+    dominates
     equal rows_of tie_key
 boarded_again = refl

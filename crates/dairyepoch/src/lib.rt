@@ -12,7 +12,8 @@ ghost use Rattle.lines_turned.specs.Turning.{by_trip_reply, by_trip_words, by_st
 ghost use Rattle.promises.specs.DirectQuery.{direct_reply, direct_words};
 ghost use Rattle.promises.specs.StoreCall.{store_reply, store_after};
 ghost use Rattle.promises.specs.Query.{ask_reply, ask_words};
-ghost use Rattle.promises.specs.Changes.{cancel_reply, cancel_timetable, cancel_lines, add_reply, add_timetable, add_lines};
+ghost use Rattle.promises.specs.Changes.{cancel_reply, cancel_timetable, cancel_lines, add_reply, add_timetable};
+ghost use Rattle.promises.specs.Changes.{add_lines};
 ghost use Rattle.promises.specs.Packed.{packed, packed_reply, packed_count};
 ghost use Rattle.dairyepoch.specs.Packed.{packed_place};
 

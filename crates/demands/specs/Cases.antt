@@ -12,7 +12,8 @@ use Rattle.connections.specs.Worked.{M_valid, planned, one_ride, two_rides, case
 use Rattle.stores.specs.Words.{store_words, readable, well_made, kept_list, answer}
 use Rattle.stores.specs.Stored.{optimals}
 use Rattle.stores.specs.Worked.{case_b, case_c, case_d, case_i, case_j}
-use Rattle.stores.specs.WithoutWalks.{former_stations, former_stored, former_nodes, former_arcs, former_encode, former_words}
+use Rattle.stores.specs.WithoutWalks.{former_stations, former_stored, former_nodes, former_arcs, former_encode}
+use Rattle.stores.specs.WithoutWalks.{former_words}
 use Rattle.reading.specs.Reading.{Accepted, Refused, reading}
 use Rattle.accepted.specs.Cases.{text_m, M_accepted, case_k}
 use Rattle.lines.specs.Lines.{lines, line_numbers}

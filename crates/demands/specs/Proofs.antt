@@ -10,14 +10,14 @@ use Rattle.results.specs.Answered.{result_answers}
 use Rattle.results.specs.Kept.{result_kept, empty_kept}
 use Rattle.connections.specs.Connections.{Feasible, Net, net, Connection, stations}
 use Rattle.connections.specs.Planner.{planner_list, measure, rows_of, row_says}
-use Rattle.connections.specs.Sound.{Sound, sound}
-use Rattle.connections.specs.Listed.{listed, optimal_out}
+use Rattle.connections.proofs.Sound.{Sound, sound}
+use Rattle.connections.proofs.Listed.{listed, optimal_out}
 use Rattle.stores.specs.Stored.{Sequence}
 use Rattle.stores.specs.Words.{store_words, readable, holds, kept_list, answer}
-use Rattle.stores.specs.KeptLaws.{kept_exactly}
-use Rattle.stores.specs.StoredLaws.{stored_in, stored_out, store_read, store_well_made}
+use Rattle.stores.proofs.KeptLaws.{kept_exactly}
+use Rattle.stores.proofs.StoredLaws.{stored_in, stored_out, store_read, store_well_made}
 use Rattle.lines.specs.DirectRides.{directs, direct_rows}
-use Rattle.lines.specs.DirectLaws.{directs_exactly, direct_costs}
+use Rattle.lines.proofs.DirectLaws.{directs_exactly, direct_costs}
 use Rattle.demands.specs.Demands.{Query, DemandTwo, DemandThree}
 
 module _ (n : Net) (ok : Sound n) where

@@ -70,7 +70,8 @@ values_apart trip stop station points mark a d l e =
     (and_right (other && arrive_fits stop (field_value a)) _ then))
 
 -- the fields behind the T
-pub one_shape : (f : List (List ℕ)) (l : StopLine) → stop_shape time_value f ≡ Stop l → stop_shape field_value f ≡ Shapeless
+pub one_shape : (f : List (List ℕ)) (l : StopLine) → stop_shape time_value f ≡ Stop l → stop_shape field_value f ≡
+    Shapeless
 unfolding stop_shape
 one_shape f l e = go (eqb (length f) 7) refl
   where

@@ -1,6 +1,7 @@
 -- A field and its old equivalent have one value, each by its reader; the equivalent is never longer, and holds no mark
 -- that the field does not hold. No field is a time in both forms.
-use Rattle.std.specs.Prelude.{◌≡◌, refl, Bool, true, false, cond, ◌&&◌, ◌||◌, List, [], ◌∷◌, ℕ, zero, suc, ◌+◌, ◌*◌, ◌≤◌, ◌<◌, leb, eqb, length, get_or}
+use Rattle.std.specs.Prelude.{◌≡◌, refl, Bool, true, false, cond, ◌&&◌, ◌||◌, List, [], ◌∷◌, ℕ, zero, suc, ◌+◌, ◌*◌}
+use Rattle.std.specs.Prelude.{◌≤◌, ◌<◌, leb, eqb, length, get_or}
 use Rattle.std.proofs.Common.{ap, ◌∙◌, add-zero, arith, leb-true, eqb-true, ne_eqb, le-leb}
 use Rattle.std.proofs.lemmas.Bool.{false≢true, eqb-false}
 use Rattle.lists.specs.Tests.{and_left, and_right}

@@ -1,6 +1,7 @@
 -- A line and its old equivalent have one shape, each by its reader, and so all lines of a text lead to one outcome. The
 -- old equivalent of a text falls into the old equivalents of its lines, and is never longer.
-use Rattle.std.specs.Prelude.{◌≡◌, refl, Bool, true, false, cond, ◌&&◌, List, [], ◌∷◌, ◌++◌, ℕ, zero, suc, ◌+◌, ◌≤◌, ◌<◌, eqb, length, get_or, drop}
+use Rattle.std.specs.Prelude.{◌≡◌, refl, Bool, true, false, cond, ◌&&◌, List, [], ◌∷◌, ◌++◌, ℕ, zero, suc, ◌+◌, ◌≤◌}
+use Rattle.std.specs.Prelude.{◌<◌, eqb, length, get_or, drop}
 use Rattle.std.proofs.Common.{sym, ap, ◌∙◌, arith, eqb-true, length-append, length-drop}
 use Rattle.std.proofs.lemmas.Bool.{false≢true, eqb-false}
 use Rattle.lists.specs.Tests.{and_right}
@@ -84,7 +85,8 @@ fields_shape f = go (eqb (length f) 7) refl
     same_length : eqb (length (former_fields 0 f)) 7 ≡ eqb (length f) 7
     same_length = ap (λ n. eqb n 7) (length_former 0 f)
 
-    go : (seven : Bool) → eqb (length f) 7 ≡ seven → stop_shape field_value (former_fields 0 f) ≡ stop_shape time_value f
+    go : (seven : Bool) → eqb (length f) 7 ≡ seven → stop_shape field_value (former_fields 0 f) ≡ stop_shape time_value
+        f
     go false e = rw (same_length, e)
     go true e =
         let seven : length f ≡ 7 = eqb-true (length f) 7 e in

@@ -46,7 +46,8 @@ module _ (n i : ℕ) (old body : List ℕ) (held : body ≡ put 0 (station_words
   station_more h room out wrote =
       let long : length (station_words (replicate i plain_station)) ≡ 2 * i =
       length_station_words (replicate i plain_station) ∙ ap (λ k. 2 * k) (length-replicate i plain_station) in
-      put_behind 0 (2 * i) (station_words (replicate i plain_station)) (0 ∷ 1 ∷ []) _ old body out held long (omega arith)
+      put_behind 0 (2 * i) (station_words (replicate i plain_station)) (0 ∷ 1 ∷ []) _ old body out held long
+      (omega arith)
       (wrote ∙ ap (λ k. put k (0 ∷ 1 ∷ []) body) (sym (zero-add (2 * i))))
       (sym (station_words_append (replicate i plain_station) (plain_station ∷ []))
       ∙ ap station_words (replicate-append-replicate i 1 plain_station))

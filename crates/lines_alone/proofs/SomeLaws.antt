@@ -13,7 +13,8 @@ use Rattle.lists.specs.Lists.{range}
 use Rattle.lists.specs.Ranges.{length_range}
 use Rattle.lists.specs.Tests.{and_true, and_false}
 use Rattle.timetable.specs.Timetable.{Timetable, stops_of, counted, valid}
-use Rattle.timetable.specs.Words.{station_words, stop_words, start_words, walk_words, count_to, words, joined, timetable_of}
+use Rattle.timetable.specs.Words.{station_words, stop_words, start_words, walk_words, count_to, words, joined}
+use Rattle.timetable.specs.Words.{timetable_of}
 use Rattle.timetable.specs.Words.{chained, footed, is_timetable}
 use Rattle.timetable.specs.WordLaws.{length_station_words, joined_words}
 use Rattle.accepted.specs.Spelled.{words_spell, words_footed, words_chained}
@@ -81,7 +82,8 @@ module _ (v : List ℕ) (fit : counts_fit v ≡ true) (s t n : ℕ) (is-s : s �
       ∙ (λ i. put (sym (zero-add (2 * s)) i) stops (first i))
       ∙ put_append 0 (2 * s) stations stops zeros many (omega arith) in
       let held : body
-      ≡ put 0 (station_words (replicate (get_or v 0 0) plain_station) ++ stop_words (stops_of (drawn_trips v 0 m))) zeros =
+      ≡ put 0 (station_words (replicate (get_or v 0 0) plain_station) ++ stop_words (stops_of (drawn_trips v 0 m)))
+      zeros =
       both
       ∙ (λ i. put 0
       (station_words (replicate (is-s i) plain_station) ++ stop_words (stops_of (drawn_trips v 0 (is_t i))))

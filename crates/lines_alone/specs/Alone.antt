@@ -1,8 +1,9 @@
 -- Question 10 for line tables lent without a timetable: "could they come from an accepted timetable?", where, document
--- 02, Eleven, "numbers may have gaps". The test areSome has a yes exactly for the words that do, and what building
+-- 02, Eleven, "numbers may have gaps". The test are_some has a yes exactly for the words that do, and what building
 -- wrote, with number 0, always has its yes. This is for a reader, as `question10_alone`, `building_has_yes_alone` and
 -- `building_asked_alone` say it.
-use Rattle.std.specs.Prelude.{◌≡◌, refl, Bool, true, ◌&&◌, ◌↔◌, List, [], ◌∷◌, ℕ, zero, suc, ◌+◌, ◌<◌, length, get_or, replicate}
+use Rattle.std.specs.Prelude.{◌≡◌, refl, Bool, true, ◌&&◌, ◌↔◌, List, [], ◌∷◌, ℕ, zero, suc, ◌+◌, ◌<◌, length, get_or}
+use Rattle.std.specs.Prelude.{replicate}
 use Rattle.std.proofs.Common.{ap, ◌∙◌, arith, le-leb, length-append}
 use Rattle.std.proofs.lemmas.List.{length-replicate}
 use Rattle.lists.specs.Tests.{and_left, and_right}

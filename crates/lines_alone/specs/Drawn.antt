@@ -1,7 +1,8 @@
 -- The timetable that line tables tell, the ways of changing aside: the numbers that stand on lines, rising, and for
 -- each of them the trip that is found there, whose stops are read. From it question 10 is answered for tables lent
 -- without a timetable: could they come from this one? Alone shows that, if they come from any, they come from this one.
-use Rattle.std.specs.Prelude.{Bool, cond, ◌&&◌, List, [], ◌∷◌, map, ℕ, zero, suc, ◌+◌, ◌-◌, ◌%◌, leb, ltb, length, get_or, replicate}
+use Rattle.std.specs.Prelude.{Bool, cond, ◌&&◌, List, [], ◌∷◌, map, ℕ, zero, suc, ◌+◌, ◌-◌, ◌%◌, leb, ltb, length}
+use Rattle.std.specs.Prelude.{get_or, replicate}
 use Rattle.lists.specs.Lists.{filter, range}
 use Rattle.questions.specs.Question.{ask, first_no}
 use Rattle.timetable.specs.Timetable.{Station, Stop, Trip, Timetable, number_most, valid}

@@ -25,9 +25,9 @@ use Rattle.timetable.specs.Timetable.{valid}
 use Rattle.timetable.specs.Numbers.{numbers_many, number_most_lem, number_unique}
 use Rattle.timetable.specs.Access.{trip_valid, trip_cheap, trip_free}
 use Rattle.connections.specs.Rides.{no_stop}
-use Rattle.connections.specs.RideLaws.{points_more}
+use Rattle.connections.proofs.RideLaws.{points_more}
 use Rattle.lines.specs.Lines.{lines, course}
-use Rattle.lines.specs.Ordered.{Line, lines_good, line_length, line_stop}
+use Rattle.lines.proofs.Ordered.{Line, lines_good, line_length, line_stop}
 use Rattle.lines.specs.Once.{line_of_lem, trip_listed}
 use Rattle.lines_tables.specs.Tables.{total_on}
 use Rattle.lines_tables.specs.Spelled.{within}

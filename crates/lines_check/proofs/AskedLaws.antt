@@ -50,7 +50,8 @@ module _ (w v : List ℕ) (n a b u number : ℕ) (is : number ≡ tables_number 
   unfolding query_number tables_number
   tables_refused h = go number is h
     where
-      go : (k : ℕ) → k ≡ first_no (tables_questions w v n) → (k ≡ 0 → ⊥) → k ≡ first_no (tables_questions w v n ++ later)
+      go : (k : ℕ) → k ≡ first_no (tables_questions w v n) → (k ≡ 0 → ⊥) → k ≡ first_no
+          (tables_questions w v n ++ later)
       go zero e h = absurd (h refl)
       go (suc k) e h = sym (asked_out (tables_questions w v n) later (tables_asked w v n) k e)
 

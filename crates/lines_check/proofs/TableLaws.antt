@@ -9,7 +9,7 @@ use Rattle.lists.specs.Lists.{same}
 use Rattle.words.specs.Put.{put}
 use Rattle.timetable.specs.Words.{is_timetable}
 use Rattle.lines_tables.specs.Model.{table_at}
-use Rattle.lines_tables.specs.Same.{same_tables}
+use Rattle.lines_tables.proofs.Same.{same_tables}
 use Rattle.lines_tables.specs.Copied.{tables_taken}
 use Rattle.lines_check.specs.Question10.{begins, are_tables, tables_number}
 

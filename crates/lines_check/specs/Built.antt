@@ -12,7 +12,7 @@ use Rattle.words.specs.Put.{put, length_put, take_put}
 use Rattle.timetable.specs.Timetable.{Timetable}
 use Rattle.timetable.specs.Words.{timetable_of, is_timetable}
 use Rattle.lines_tables.specs.Tables.{table_words}
-use Rattle.lines_tables.specs.Same.{same_tables}
+use Rattle.lines_tables.proofs.Same.{same_tables}
 use Rattle.lines_tables.specs.Fits.{table_fits}
 use Rattle.replies.specs.Replies.{number_of, reply_number, words_done}
 use Rattle.lines_tables.specs.Building.{slices_least, build_number, line_count, build_reply, build_words}

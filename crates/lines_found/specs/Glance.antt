@@ -8,7 +8,7 @@ use Rattle.std.proofs.Math.ListN.{length}
 use Rattle.timetable.specs.Timetable.{Trip}
 use Rattle.connections.specs.Rides.{no_stop}
 use Rattle.lines.specs.Lines.{behind}
-use Rattle.lines.specs.Behind.{behind_length, behind_at}
+use Rattle.lines.proofs.Behind.{behind_length, behind_at}
 
 -- numbers of courses are below this; unlike courses may have the same
 abbrev pub courses : ℕ

@@ -53,7 +53,8 @@ module _ (t : List Trip) (z : ℕ) where
   add_joins (x ∷ ls) = go (joinable (last_of x)) (add_joins ls)
     where
       go : (b : Bool) → add_trip t z ls ≡ join_at (first_place joinable (map last_of ls)) z ls
-          → enter b z x ls (add_trip t z ls) ≡ join_at (cond b 0 (suc (first_place joinable (map last_of ls)))) z (x ∷ ls)
+          → enter b z x ls (add_trip t z ls) ≡ join_at (cond b 0 (suc (first_place joinable (map last_of ls)))) z
+          (x ∷ ls)
       go true rest = refl
       go false rest = ap (λ l. x ∷ l) rest
 
@@ -123,7 +124,8 @@ ends_suc k (x ∷ ls) =
     let up : suc k + length x ≡ suc (k + length x) = omega arith in
     rw up (ap (λ l. suc (k + length x) ∷ l) (ends_suc (k + length x) ls))
 
-pub ends_join : (i z k : ℕ) (ls : List (List ℕ)) → i < length ls → ends_from k (join_at i z ls) ≡ raised i (ends_from k ls)
+pub ends_join : (i z k : ℕ) (ls : List (List ℕ)) → i < length ls → ends_from k (join_at i z ls) ≡ raised i
+    (ends_from k ls)
 unfolding join_at ends_from raised
 ends_join i z k [] h = absurd (omega arith)
 ends_join zero z k (x ∷ ls) h =
@@ -150,7 +152,8 @@ last_joined [] z = refl
 last_joined (y ∷ []) z = refl
 last_joined (y ∷ w ∷ x) z = last_joined (w ∷ x) z
 
-pub lasts_join : (i z : ℕ) (ls : List (List ℕ)) → i < length ls → map last_of (join_at i z ls) ≡ set (map last_of ls) i z
+pub lasts_join : (i z : ℕ) (ls : List (List ℕ)) → i < length ls → map last_of (join_at i z ls) ≡ set (map last_of ls) i
+    z
 unfolding join_at
 lasts_join i z [] h = absurd (omega arith)
 lasts_join zero z (x ∷ ls) h = rw (last_joined x z)

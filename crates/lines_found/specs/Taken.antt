@@ -1,6 +1,7 @@
 -- Lines chained by what their last trips show at a glance, and a trip taken to its line.
 use Rattle.std.specs.Prelude.{◌≡◌, List, ℕ, suc, ◌+◌, ◌≤◌, ◌<◌, min, T, length, get_or, take, set}
-use Rattle.std.proofs.Common.{sym, ap, subst, ◌∙◌, inl, inr, arith, get_or-set_same, get_or-set_other, get_or-take, length-take-le}
+use Rattle.std.proofs.Common.{sym, ap, subst, ◌∙◌, inl, inr, arith, get_or-set_same, get_or-set_other, get_or-take}
+use Rattle.std.proofs.Common.{length-take-le}
 use Rattle.std.proofs.Math.Nat.{min-le_left, min-le_right}
 use Rattle.std.proofs.Math.Decide.{ℕ_discrete}
 use Rattle.timetable.specs.Words.{trip_at}

@@ -175,7 +175,8 @@ module _ (v : List ℕ) (timetable : Timetable) (i : ℕ) (l : List ℕ)
     total_told : total_at v line p ≡ total_on (course t l) p
     unfolding total_at
     total_told =
-        let high = word_at_lem (position (course t l) p) v (course_place line + 3 * p) position_stands 2 (omega arith) in
+        let high = word_at_lem (position (course t l) p) v (course_place line + 3 * p) position_stands 2 (omega arith)
+        in
         (λ i. low_told i + 65536 * high i) ∙ mod-add-div (total_on (course t l) p) 65536
 
     -- both rows of position p

@@ -88,7 +88,7 @@ module _ (v : List ℕ) (timetable : Timetable) (holds : Holds v timetable) wher
   abbrev first_words : List ℕ
   first_words = call_places t first_list 1 n
 
-  -- behind the first four words: what stands before firstWords, what stands before the lists, and all
+  -- behind the first four words: what stands before first_words, what stands before the lists, and all
   abbrev up_to_lines : List ℕ
   up_to_lines = place_words ++ all_line_words timetable (lines t)
 
@@ -102,7 +102,8 @@ module _ (v : List ℕ) (timetable : Timetable) (holds : Holds v timetable) wher
   unfolding table_words
   table_stands = front_stands (table_words timetable) v holds.is
 
-  head_word : (j : ℕ) → j < 4 → get_or v j 0 ≡ get_or (n ∷ length (lines t) ∷ length t ∷ index_place timetable ∷ parts) j 0
+  head_word : (j : ℕ) → j < 4 → get_or v j 0 ≡ get_or (n ∷ length (lines t) ∷ length t ∷ index_place timetable ∷ parts)
+      j 0
   head_word j h = ap (λ k. get_or v k 0) (omega arith) ∙ word_at_lem _ v 0 table_stands j (omega arith)
 
   parts_stand : Stands parts v 4
@@ -123,7 +124,8 @@ module _ (v : List ℕ) (timetable : Timetable) (holds : Holds v timetable) wher
 
   lines_stand : Stands (all_line_words timetable (lines t)) v first_line
   lines_stand =
-      subst (λ k. Stands (all_line_words timetable (lines t)) v (4 + k)) (length_line_places timetable first_line (lines t))
+      subst (λ k. Stands (all_line_words timetable (lines t)) v (4 + k))
+      (length_line_places timetable first_line (lines t))
       (right_stands place_words (all_line_words timetable (lines t)) v 4 before_firsts)
 
   pub line_stands : (i : ℕ) → i < length (lines t)
@@ -151,13 +153,15 @@ module _ (v : List ℕ) (timetable : Timetable) (holds : Holds v timetable) wher
 
   pairs_stand : Stands (all_call_pairs t 1 n) v first_list
   pairs_stand =
-      subst (Stands (all_call_pairs t 1 n) v) length_firsts (right_stands up_to_firsts (all_call_pairs t 1 n) v 4 parts_stand)
+      subst (Stands (all_call_pairs t 1 n) v) length_firsts (right_stands up_to_firsts (all_call_pairs t 1 n) v 4
+      parts_stand)
 
   pub calls_place_told : (s : ℕ) → s ≤ n → calls_place v s ≡ first_list + row_place (call_pairs t) (range 1 n) s
   unfolding calls_place
   calls_place_told s h =
       ap (λ k. get_or v (k + s) 0) (head_word 3 (omega arith))
-      ∙ word_at_lem first_words v (index_place timetable) firsts_stand s (omega (arith, length_call_places t first_list 1 n))
+      ∙ word_at_lem first_words v (index_place timetable) firsts_stand s
+      (omega (arith, length_call_places t first_list 1 n))
       ∙ call_place t first_list 1 n s h
 
   module _ (s : ℕ) (h : s < n) where
@@ -171,7 +175,8 @@ module _ (v : List ℕ) (timetable : Timetable) (holds : Holds v timetable) wher
     unfolding all_call_pairs
     calls_stand =
         let row = row_stands (call_pairs t) (range 1 n) v first_list s 0 inside pairs_stand in
-        let here = subst (Stands (call_pairs t (get_or (range 1 n) s 0)) v) (sym (calls_place_told s (omega arith))) row in
+        let here = subst (Stands (call_pairs t (get_or (range 1 n) s 0)) v) (sym (calls_place_told s (omega arith))) row
+        in
         subst (λ x. Stands (call_pairs t x) v (calls_place v s)) call_station here
 
     calls_end : calls_place v s + length (call_pairs t (suc s)) ≡ calls_place v (s + 1)

@@ -8,9 +8,9 @@ use Rattle.std.proofs.Math.Nat.{add-mul-mod_self_left, add-mul-div_left, div-eq_
 use Rattle.timetable.specs.Timetable.{Timetable, counted, valid}
 use Rattle.lists.specs.Tests.{reads}
 use Rattle.connections.specs.Rides.{no_stop, may_board, may_alight}
-use Rattle.connections.specs.Sound.{trips_valid_lem, valid_trip_lem}
+use Rattle.connections.proofs.Sound.{trips_valid_lem, valid_trip_lem}
 use Rattle.lines.specs.Lines.{lines, head_of, course, station_on}
-use Rattle.lines.specs.Ordered.{lines_good}
+use Rattle.lines.proofs.Ordered.{lines_good}
 use Rattle.lines.specs.Once.{trip_listed}
 use Rattle.lines_tables.specs.Spelled.{within}
 use Rattle.lines_tables.specs.PlaceLaws.{trip_listed as stop_listed, listed_last}

@@ -10,7 +10,8 @@ use borrow.Author.Tests.{le-leb}
 use Rattle.std.proofs.Math.Seq.{slice}
 use Rattle.lists.specs.Lists.{◌∈◌, filter, concat_map, range}
 use Rattle.lists.specs.Tests.{eq→eqb}
-use Rattle.lists.specs.Members.{filter_in, filter_out, concat_map_in, concat_map_out, range_in, range_out, concat_append}
+use Rattle.lists.specs.Members.{filter_in, filter_out, concat_map_in, concat_map_out, range_in, range_out}
+use Rattle.lists.specs.Members.{concat_append}
 use Rattle.timetable.specs.Timetable.{Trip, Timetable}
 use Rattle.lines.specs.Lines.{lines, course, station_on, line_calls, calls}
 use Rattle.lines_tables.specs.Tables.{call_pairs}

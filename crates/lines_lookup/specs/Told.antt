@@ -5,7 +5,7 @@ use Rattle.std.proofs.Common.{arith}
 use Rattle.std.proofs.Math.Seq.{slice}
 use Rattle.timetable.specs.Timetable.{Timetable, number_of}
 use Rattle.connections.specs.Rides.{no_stop, ride_points}
-use Rattle.connections.specs.RideLaws.{points_split}
+use Rattle.connections.proofs.RideLaws.{points_split}
 use Rattle.lines.specs.Lines.{lines, course}
 use Rattle.lines_tables.specs.Tables.{stop_of, call_word, total_on, call_pairs, table_words}
 use Rattle.lines_lookup.specs.Lookup.{

@@ -12,3 +12,4 @@ pub mod StationLaws
 pub mod PairLaws
 pub mod BodyLaws
 pub mod TableLaws
+pub mod Same

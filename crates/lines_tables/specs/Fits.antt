@@ -11,7 +11,8 @@ use Rattle.std.proofs.lemmas.List.{length-map}
 use Rattle.lists.specs.Lists.{range}
 use Rattle.lists.specs.Ranges.{length_range}
 use Rattle.timetable.specs.Timetable.{Trip}
-use Rattle.timetable.specs.Words.{station_count, trip_count, stop_count, start_at, number_at, timetable_of, is_timetable}
+use Rattle.timetable.specs.Words.{station_count, trip_count, stop_count, start_at, number_at, timetable_of}
+use Rattle.timetable.specs.Words.{is_timetable}
 use Rattle.timetable.specs.Check.{length_trips}
 use Rattle.timetable.specs.Access.{trip_stops_lem, start_first, start_last, stations_few, trips_few, stops_few}
 use Rattle.lines.specs.Lines.{lines, head_of}

@@ -1,7 +1,6 @@
 pub mod Tables
 pub mod Model
 pub mod Spelled
-pub mod Same
 pub mod Sums
 pub mod Fits
 pub mod Filling

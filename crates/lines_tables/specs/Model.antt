@@ -1,6 +1,7 @@
 -- What the code writes into line tables, by the words of the timetable. No reader of the promise needs this file;
 -- Tables says what line tables hold, and laws beside it show that these are the same words.
-use Rattle.std.specs.Prelude.{◌≡◌, Bool, true, false, cond, List, [], ◌∷◌, ◌++◌, map, ℕ, zero, suc, ◌+◌, ◌-◌, ◌≤◌, ◌<◌, eqb, length, get_or, take, drop}
+use Rattle.std.specs.Prelude.{◌≡◌, Bool, true, false, cond, List, [], ◌∷◌, ◌++◌, map, ℕ, zero, suc, ◌+◌, ◌-◌, ◌≤◌, ◌<◌}
+use Rattle.std.specs.Prelude.{eqb, length, get_or, take, drop}
 use Rattle.std.proofs.Common.{arith}
 use Rattle.lists.specs.Lists.{concat_map, range}
 use Rattle.timetable.specs.Timetable.{Stop}

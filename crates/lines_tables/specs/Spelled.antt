@@ -12,7 +12,7 @@ use Rattle.timetable.specs.Words.{trip_count, start_at, timetable_of, is_timetab
 use Rattle.timetable.specs.Check.{length_trips}
 use Rattle.timetable.specs.Access.{trip_is, trip_long, trip_stops_lem}
 use Rattle.lines.specs.Lines.{lines, head_of}
-use Rattle.lines.specs.Ordered.{lines_good, line_length}
+use Rattle.lines.proofs.Ordered.{lines_good, line_length}
 use Rattle.lines.specs.Once.{trip_listed}
 use Rattle.lines_tables.specs.Model.{calls_of, LineOf, lines_at, AllLines}
 

@@ -28,7 +28,8 @@ module _ (f : ℕ → ℕ) where
   sum_none (x ∷ l) h = omega (arith, h x, sum_none l h)
 
   -- n for each number of the list is at most the sum, where each counts for n at least
-  pub sum_least : (n : ℕ) (l : List ℕ) → ((j : ℕ) → j < length l → n ≤ f (get_or l j 0)) → sum_of (λ x. n) l ≤ sum_of f l
+  pub sum_least : (n : ℕ) (l : List ℕ) → ((j : ℕ) → j < length l → n ≤ f (get_or l j 0)) → sum_of (λ x. n) l ≤ sum_of f
+      l
   unfolding sum_of
   sum_least n [] h = omega arith
   sum_least n (x ∷ l) h = omega (arith, h 0 (omega arith), sum_least n l (λ j g. h (suc j) (omega arith)))

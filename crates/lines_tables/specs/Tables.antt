@@ -1,7 +1,8 @@
 -- The words of line tables (docs/LAYOUT.md), by the lines of a timetable. Document 01: "Lines and the
 -- positions on them count from 1. For each station the tables list (line, position), rising; a station met twice on a
 -- line is listed twice."; "The trips of one line are handed out as the piece of the line tables that holds them".
-use Rattle.std.specs.Prelude.{Bool, true, false, cond, List, [], ◌∷◌, ◌++◌, map, ℕ, zero, suc, ◌+◌, ◌*◌, ◌%◌, ◌/◌, length, get_or}
+use Rattle.std.specs.Prelude.{Bool, true, false, cond, List, [], ◌∷◌, ◌++◌, map, ℕ, zero, suc, ◌+◌, ◌*◌, ◌%◌, ◌/◌}
+use Rattle.std.specs.Prelude.{length, get_or}
 use Rattle.lists.specs.Lists.{concat_map, range}
 use Rattle.timetable.specs.Timetable.{Stop, Trip, Timetable, number_of}
 use Rattle.connections.specs.Rides.{no_stop, ride_points}

@@ -114,7 +114,11 @@ module _ (w : List ℕ) (whole : Bool) (i j m n : ℕ) (left : whole ≡ rest_be
   module _ (h : i ≤ m) (g : i ≡ m → ⊥) where
     pub back_ends : j ≡ n → false ≡ whole
     unfolding rest_behind
-    back_ends e = sym (left ∙ rw (between_more (stop_at w) i m (omega arith), between_none (stop_at w) j n (omega arith)))
+    back_ends e = sym (left ∙ rw (
+      between_more (stop_at w) i m (omega arith),
+      between_none (stop_at w) j n
+          (omega arith),
+    ))
 
     -- the answer t of the stop test stands before the test: `search` then knows which test is meant
     module _ (k : j ≤ n) (f : j ≡ n → ⊥) (s u : Stop) (t : Bool) where

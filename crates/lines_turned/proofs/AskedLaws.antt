@@ -19,7 +19,7 @@ use Rattle.timetable.specs.Words.{timetable_of, is_timetable}
 use Rattle.lines_tables.specs.Tables.{table_words}
 use Rattle.lines_tables.specs.Building.{slices_least, line_count}
 use Rattle.lines_tables.specs.Model.{table_at}
-use Rattle.lines_tables.specs.Same.{same_tables}
+use Rattle.lines_tables.proofs.Same.{same_tables}
 use Rattle.lines_tables.specs.Fits.{table_fits}
 use Rattle.lines_lookup.specs.Holding.{holding}
 use Rattle.lines_check.specs.Question10.{are_tables}
@@ -150,7 +150,8 @@ module _ (w : List ℕ) (k n m : ℕ) where
       yes_8 = yes_here 7 long_all (ask 9 (is_timetable w) ∷ []) (both e)
 
       three : (leb slices_least (length w) && leb slices_least k && leb slices_least n) ≡ true
-      three = and_left (leb slices_least (length w) && leb slices_least k && leb slices_least n) (leb slices_least m) yes_8
+      three = and_left (leb slices_least (length w) && leb slices_least k && leb slices_least n) (leb slices_least m)
+          yes_8
 
       two : (leb slices_least (length w) && leb slices_least k) ≡ true
       two = and_left (leb slices_least (length w) && leb slices_least k) (leb slices_least n) three
@@ -168,7 +169,8 @@ module _ (w : List ℕ) (k n m : ℕ) where
       pub result_long : 16384 ≤ m
       result_long =
           leb-true 16384 m
-          (and_right (leb slices_least (length w) && leb slices_least k && leb slices_least n) (leb slices_least m) yes_8)
+          (and_right (leb slices_least (length w) && leb slices_least k && leb slices_least n) (leb slices_least m)
+          yes_8)
 
       pub accepted : is_timetable w ≡ true
       accepted =

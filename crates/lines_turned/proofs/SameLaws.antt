@@ -57,7 +57,8 @@ module _ (v u : List ℕ) (k trips at x y : ℕ)
     (room : at + 2 ≤ length u)
     (is_x : x ≡ get_or v k 0)
     (is_y : y ≡ get_or u at 0) where
-  two : starts (stepped v k trips 1) (drop at u) ≡ (eqb x y && (eqb (get_or v (k + trips) 0) (get_or u (at + 1) 0) && true))
+  two : starts (stepped v k trips 1) (drop at u) ≡ (eqb x y &&
+      (eqb (get_or v (k + trips) 0) (get_or u (at + 1) 0) && true))
   unfolding starts stepped
   two =
       rw (

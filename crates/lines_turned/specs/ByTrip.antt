@@ -1,7 +1,7 @@
 -- The other layout of line tables. Document 02, Twelve: "let each line hold its times by stop, then by trip; every
 -- other call takes this layout. Two calls .. translate it to times by trip, then by stop, and back". Only the order of
--- the times of a line differs (`line_times` of lines_tables has them by stop, then by trip), and so where each is looked
--- up.
+-- the times of a line differs (`line_times` of lines_tables has them by stop, then by trip), and so where each is
+-- looked up.
 use Rattle.std.specs.Prelude.{List, ◌∷◌, [], ◌++◌, map, ℕ, ◌+◌, ◌*◌, leb, length, get_or}
 use Rattle.lists.specs.Lists.{concat_map, range}
 use Rattle.timetable.specs.Timetable.{Trip, Timetable, number_of}

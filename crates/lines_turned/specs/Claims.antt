@@ -64,13 +64,15 @@ pub record SameLookups (v u : List ℕ) : Type 0 where
 pub record ThereAndBack (w v : List ℕ) (n : ℕ) (old : List ℕ) (k : ℕ) (back : List ℕ) : Type 0 where
   pub asked : are_by_trip w (by_trip_words w v n old) ≡ true
   pub replies : by_stop_reply w (by_trip_words w v n old) k (length back) ≡ by_trip_reply w v n (length old)
-  pub words : by_stop_words w (by_trip_words w v n old) k back ≡ put 0 (take (length (table_words (timetable_of w))) v) back
+  pub words : by_stop_words w (by_trip_words w v n old) k back ≡ put 0 (take (length (table_words (timetable_of w))) v)
+      back
 
 -- the other way round
 pub record BackAndThere (w u : List ℕ) (n : ℕ) (old : List ℕ) (k : ℕ) (back : List ℕ) : Type 0 where
   pub asked : are_tables w (by_stop_words w u n old) ≡ true
   pub replies : by_trip_reply w (by_stop_words w u n old) k (length back) ≡ by_stop_reply w u n (length old)
-  pub words : by_trip_words w (by_stop_words w u n old) k back ≡ put 0 (take (length (table_words (timetable_of w))) u) back
+  pub words : by_trip_words w (by_stop_words w u n old) k back ≡ put 0 (take (length (table_words (timetable_of w))) u)
+      back
 
 pub record Claims : Type 0 where
   pub lookups : (v u : List ℕ) (t : Timetable) → Holds v t → HoldsByTrip u t → SameLookups v u

@@ -24,7 +24,8 @@ use Rattle.lines_tables.specs.Tables.{
 }
 use Rattle.lines_lookup.specs.Lookup.{Line, line_place, line_at, times_place, arrive_at, depart_at, calls_place}
 use Rattle.lines_lookup.specs.Told.{LineTold, Holds}
-use Rattle.lines_lookup.specs.Places.{Stands, front_stands, part_slice, word_at_lem, part_inside, left_stands, row_place}
+use Rattle.lines_lookup.specs.Places.{Stands, front_stands, part_slice, word_at_lem, part_inside, left_stands}
+use Rattle.lines_lookup.specs.Places.{row_place}
 use Rattle.lines_lookup.specs.Holding.{holding, length_call_places, line_place_told, calls_place_told}
 use Rattle.lines_turned.specs.ByTrip.{trip_times, times_by_trip, line_by_trip, words_by_trip}
 use Rattle.lines_turned.specs.Turned.{stepped, turned_trips, times_from, line_end, turned_line}

@@ -6,7 +6,7 @@ use Rattle.words.specs.Put.{put, take_put}
 use Rattle.timetable.specs.Words.{timetable_of, is_timetable}
 use Rattle.lines_tables.specs.Tables.{table_words}
 use Rattle.lines_tables.specs.Model.{table_at}
-use Rattle.lines_tables.specs.Same.{same_tables}
+use Rattle.lines_tables.proofs.Same.{same_tables}
 use Rattle.lines_lookup.specs.Told.{Holds}
 use Rattle.lines_check.specs.Question10.{are_tables}
 use Rattle.lines_check.specs.Built.{begins_holds}

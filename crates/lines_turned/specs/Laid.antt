@@ -63,7 +63,8 @@ module _ (t : List Trip) where
       let times : ℕ → List ℕ = λ p. (stop_of t z p).arrive ∷ (stop_of t z p).depart ∷ [] in
       omega (arith, length_rows times 2 (λ p. refl) (range 0 stops), length_range 0 stops)
 
-  pub length_times_by_trip : (line : List ℕ) → length (times_by_trip t line) ≡ length line * (2 * length (course t line))
+  pub length_times_by_trip : (line : List ℕ) → length (times_by_trip t line) ≡ length line *
+      (2 * length (course t line))
   unfolding times_by_trip
   length_times_by_trip line =
       length_rows (trip_times t (length (course t line))) (2 * length (course t line))
@@ -92,7 +93,8 @@ module _ (timetable : Timetable) where
   -- ---- the words of a line
   -- those before the times
   abbrev pub line_front : (line : List ℕ) → List ℕ
-  line_front line = length (course t line) ∷ length line ∷ (map (number_of timetable) line ++ course_words (course t line))
+  line_front line = length (course t line) ∷ length line ∷ (map (number_of timetable) line ++ course_words
+      (course t line))
 
   pub length_line_front : (line : List ℕ) → length (line_front line) ≡ 2 + length line + 3 * length (course t line)
   unfolding course_words

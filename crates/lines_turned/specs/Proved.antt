@@ -98,96 +98,103 @@ module _ (w : List ℕ) where
 
 -- ---- there and back
 module _ (w v : List ℕ) (n : ℕ) (old : List ℕ) (k : ℕ) (back : List ℕ)
-    (done : number_of (by_trip_reply w v n (length old)) ≡ 0) (h : slices_least ≤ k) (g : slices_least ≤ length back) where
-  none : by_trip_number w v n (length old) ≡ 0
-  unfolding by_trip_reply
-  none = sym (reply_number (by_trip_number w v n (length old)) (line_count (timetable_of w))) ∙ done
+    (done : number_of (by_trip_reply w v n (length old)) ≡ 0) (h : slices_least ≤ k) (g : slices_least ≤ length back)
+  where
+    none : by_trip_number w v n (length old) ≡ 0
+    unfolding by_trip_reply
+    none = sym (reply_number (by_trip_number w v n (length old)) (line_count (timetable_of w))) ∙ done
 
-  abbrev own : Bool
-  own = are_tables w v
+    abbrev own : Bool
+    own = are_tables w v
 
-  accepted : is_timetable w ≡ true
-  accepted = yes_9 w (length v) n (length old) own none
+    accepted : is_timetable w ≡ true
+    accepted = yes_9 w (length v) n (length old) own none
 
-  written : by_trip_words w v n old ≡ put 0 (words_by_trip (timetable_of w)) old
-  unfolding by_trip_words
-  written = sym (words_done (by_trip_number w v n (length old)) (words_by_trip (timetable_of w)) old none)
+    written : by_trip_words w v n old ≡ put 0 (words_by_trip (timetable_of w)) old
+    unfolding by_trip_words
+    written = sym (words_done (by_trip_number w v n (length old)) (words_by_trip (timetable_of w)) old none)
 
-  asked_then : are_by_trip w (by_trip_words w v n old) ≡ true
-  unfolding are_by_trip
-  asked_then = rw written (put_starts (words_by_trip (timetable_of w)) old)
+    asked_then : are_by_trip w (by_trip_words w v n old) ≡ true
+    unfolding are_by_trip
+    asked_then = rw written (put_starts (words_by_trip (timetable_of w)) old)
 
-  none_then : by_stop_number w (by_trip_words w v n old) k (length back) ≡ 0
-  none_then =
-      again w (length v) n (length old) own none (length (by_trip_words w v n old)) k (length back)
-      (ap length written
-      ∙ kept w (words_by_trip (timetable_of w)) old accepted (as_long w)
-      (result_long w (length v) n (length old) own none))
-      h g (are_by_trip w (by_trip_words w v n old)) asked_then
+    none_then : by_stop_number w (by_trip_words w v n old) k (length back) ≡ 0
+    none_then =
+        again w (length v) n (length old) own none (length (by_trip_words w v n old)) k (length back)
+        (ap length written
+        ∙ kept w (words_by_trip (timetable_of w)) old accepted (as_long w)
+        (result_long w (length v) n (length old) own none))
+        h g (are_by_trip w (by_trip_words w v n old)) asked_then
 
-  first_words_lem : take (length (table_words (timetable_of w))) v ≡ table_words (timetable_of w)
-  unfolding begins
-  first_words_lem = starts_with (table_words (timetable_of w)) v (yes_10 w (length v) n (length old) own none)
+    first_words_lem : take (length (table_words (timetable_of w))) v ≡ table_words (timetable_of w)
+    unfolding begins
+    first_words_lem = starts_with (table_words (timetable_of w)) v (yes_10 w (length v) n (length old) own none)
 
-  there_back : ThereAndBack w v n old k back
-  unfolding by_trip_reply by_stop_reply by_stop_words
-  there_back =
-      record {
-        asked = asked_then;
-        replies = ap (λ x. reply_of x (line_count (timetable_of w))) (none_then ∙ sym none);
-        words =
-            sym
-            (words_done (by_stop_number w (by_trip_words w v n old) k (length back)) (table_words (timetable_of w)) back
-            none_then)
-            ∙ ap (λ x. put 0 x back) (sym first_words_lem);
-      }
+    there_back : ThereAndBack w v n old k back
+    unfolding by_trip_reply by_stop_reply by_stop_words
+    there_back =
+        record {
+          asked = asked_then;
+          replies = ap (λ x. reply_of x (line_count (timetable_of w))) (none_then ∙ sym none);
+          words =
+              sym
+              (words_done
+              (by_stop_number w (by_trip_words w v n old) k (length back))
+              (table_words (timetable_of w))
+              back
+              none_then)
+              ∙ ap (λ x. put 0 x back) (sym first_words_lem);
+        }
 
 -- ---- back and there
 module _ (w u : List ℕ) (n : ℕ) (old : List ℕ) (k : ℕ) (back : List ℕ)
-    (done : number_of (by_stop_reply w u n (length old)) ≡ 0) (h : slices_least ≤ k) (g : slices_least ≤ length back) where
-  none_2 : by_stop_number w u n (length old) ≡ 0
-  unfolding by_stop_reply
-  none_2 = sym (reply_number (by_stop_number w u n (length old)) (line_count (timetable_of w))) ∙ done
+    (done : number_of (by_stop_reply w u n (length old)) ≡ 0) (h : slices_least ≤ k) (g : slices_least ≤ length back)
+  where
+    none_2 : by_stop_number w u n (length old) ≡ 0
+    unfolding by_stop_reply
+    none_2 = sym (reply_number (by_stop_number w u n (length old)) (line_count (timetable_of w))) ∙ done
 
-  abbrev own_2 : Bool
-  own_2 = are_by_trip w u
+    abbrev own_2 : Bool
+    own_2 = are_by_trip w u
 
-  accepted_2 : is_timetable w ≡ true
-  accepted_2 = yes_9 w (length u) n (length old) own_2 none_2
+    accepted_2 : is_timetable w ≡ true
+    accepted_2 = yes_9 w (length u) n (length old) own_2 none_2
 
-  written_2 : by_stop_words w u n old ≡ put 0 (table_words (timetable_of w)) old
-  unfolding by_stop_words
-  written_2 = sym (words_done (by_stop_number w u n (length old)) (table_words (timetable_of w)) old none_2)
+    written_2 : by_stop_words w u n old ≡ put 0 (table_words (timetable_of w)) old
+    unfolding by_stop_words
+    written_2 = sym (words_done (by_stop_number w u n (length old)) (table_words (timetable_of w)) old none_2)
 
-  asked_2 : are_tables w (by_stop_words w u n old) ≡ true
-  unfolding begins
-  asked_2 = rw written_2 (put_starts (table_words (timetable_of w)) old)
+    asked_2 : are_tables w (by_stop_words w u n old) ≡ true
+    unfolding begins
+    asked_2 = rw written_2 (put_starts (table_words (timetable_of w)) old)
 
-  none_then_2 : by_trip_number w (by_stop_words w u n old) k (length back) ≡ 0
-  none_then_2 =
-      again w (length u) n (length old) own_2 none_2 (length (by_stop_words w u n old)) k (length back)
-      (ap length written_2
-      ∙ kept w (table_words (timetable_of w)) old accepted_2 refl (result_long w (length u) n (length old) own_2 none_2))
-      h g (are_tables w (by_stop_words w u n old)) asked_2
+    none_then_2 : by_trip_number w (by_stop_words w u n old) k (length back) ≡ 0
+    none_then_2 =
+        again w (length u) n (length old) own_2 none_2 (length (by_stop_words w u n old)) k (length back)
+        (ap length written_2
+        ∙ kept w (table_words (timetable_of w)) old accepted_2 refl
+        (result_long w (length u) n (length old) own_2 none_2))
+        h g (are_tables w (by_stop_words w u n old)) asked_2
 
-  first_words_2 : take (length (table_words (timetable_of w))) u ≡ words_by_trip (timetable_of w)
-  unfolding are_by_trip
-  first_words_2 =
-      ap (λ k. take k u) (sym (as_long w))
-      ∙ starts_with (words_by_trip (timetable_of w)) u (yes_10 w (length u) n (length old) own_2 none_2)
+    first_words_2 : take (length (table_words (timetable_of w))) u ≡ words_by_trip (timetable_of w)
+    unfolding are_by_trip
+    first_words_2 =
+        ap (λ k. take k u) (sym (as_long w))
+        ∙ starts_with (words_by_trip (timetable_of w)) u (yes_10 w (length u) n (length old) own_2 none_2)
 
-  back_there : BackAndThere w u n old k back
-  unfolding by_trip_reply by_stop_reply by_trip_words
-  back_there =
-      record {
-        asked = asked_2;
-        replies = ap (λ x. reply_of x (line_count (timetable_of w))) (none_then_2 ∙ sym none_2);
-        words =
-            sym
-            (words_done (by_trip_number w (by_stop_words w u n old) k (length back)) (words_by_trip (timetable_of w)) back
-            none_then_2)
-            ∙ ap (λ x. put 0 x back) (sym first_words_2);
-      }
+    back_there : BackAndThere w u n old k back
+    unfolding by_trip_reply by_stop_reply by_trip_words
+    back_there =
+        record {
+          asked = asked_2;
+          replies = ap (λ x. reply_of x (line_count (timetable_of w))) (none_then_2 ∙ sym none_2);
+          words =
+              sym
+              (words_done (by_trip_number w (by_stop_words w u n old) k (length back)) (words_by_trip (timetable_of w))
+              back
+              none_then_2)
+              ∙ ap (λ x. put 0 x back) (sym first_words_2);
+        }
 
 pub claims : Claims
 claims = record { lookups = same_lookups; there_and_back = there_back; back_and_there = back_there }

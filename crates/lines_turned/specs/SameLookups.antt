@@ -78,7 +78,8 @@ use Rattle.lines_turned.specs.Found.{turned_stand, straight_stand, place_found}
 use Rattle.lines_turned.specs.Claims.{HoldsByTrip, SameLine, SameLookups}
 
 -- the first that passes, of two tests that agree
-same_first : (f g : ℕ → Bool) (n j : ℕ) → ((k : ℕ) → j ≤ k → k < j + n → f k ≡ g k) → first_from f j n ≡ first_from g j n
+same_first : (f g : ℕ → Bool) (n j : ℕ) → ((k : ℕ) → j ≤ k → k < j + n → f k ≡ g k) → first_from f j n ≡ first_from g j
+    n
 unfolding first_from
 same_first f g zero j agree = refl
 same_first f g (suc n) j agree =
@@ -149,7 +150,8 @@ module _ (v u : List ℕ) (timetable : Timetable) (holds : Holds v timetable) (t
     same_line =
         let place : line_place u i ≡ line_place v i = front_word (4 + i) (omega arith) in
         let positions : get_or u (line_place u i) 0 ≡ get_or v (line_place v i) 0 =
-        ap (λ k. get_or u k 0) (place ∙ omega arith) ∙ line_word 0 (omega arith) ∙ ap (λ k. get_or v k 0) (omega arith) in
+        ap (λ k. get_or u k 0) (place ∙ omega arith) ∙ line_word 0 (omega arith) ∙ ap (λ k. get_or v k 0) (omega arith)
+        in
         let many : get_or u (line_place u i + 1) 0 ≡ get_or v (line_place v i + 1) 0 =
         ap (λ k. get_or u (k + 1) 0) place ∙ line_word 1 (omega arith) in
         λ z. record { at = place z; positions = positions z; trips = many z }
@@ -225,7 +227,8 @@ module _ (v u : List ℕ) (timetable : Timetable) (holds : Holds v timetable) (t
             let places = range 0 line.positions in
             let inside : p < length places = omega (arith, length_range 0 line.positions) in
             let this : get_or places p 0 ≡ p = omega (arith, range_at 0 line.positions p g) in
-            let many : row_place times places p ≡ 2 * p = omega (arith, even_rows times 2 (λ q. refl) places p inside) in
+            let many : row_place times places p ≡ 2 * p = omega (arith, even_rows times 2 (λ q. refl) places p inside)
+            in
             subst (λ q. Stands (times q) u (trip_place line j + 2 * p)) this
             (subst (λ k. Stands (times (get_or places p 0)) u (trip_place line j + k)) many
             (row_stands times places u (trip_place line j) p 0 inside trip_stands))

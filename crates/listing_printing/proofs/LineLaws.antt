@@ -140,23 +140,24 @@ module _ (first out : List ℕ) (start at i left rides rows : ℕ) (answer : Lis
   module _ (room : at + 12 * (length answer - i) ≤ length out) (inside : i ≤ length answer)
       (enough : 3 ≤ length answer - i) (end : ℕ)
     where
-      module _ (some-ride : rides ≡ 0 → ⊥) (to : end ≡ at + length (line_of 82 (take (i + 3 - i) (drop i answer)))) where
-        ride_is : lines_from (drop i answer) left rides
-            ≡ line_of 82 (take (i + 3 - i) (drop i answer)) ++ lines_from (drop (i + 3) answer) left (rides - 1)
-        ride_is =
-            let one : rides ≡ suc (rides - 1) = omega arith in
-            ap (lines_from (drop i answer) left) one ∙ lines_ride answer i (omega arith) left (rides - 1)
+      module _ (some-ride : rides ≡ 0 → ⊥) (to : end ≡ at + length (line_of 82 (take (i + 3 - i) (drop i answer))))
+        where
+          ride_is : lines_from (drop i answer) left rides
+              ≡ line_of 82 (take (i + 3 - i) (drop i answer)) ++ lines_from (drop (i + 3) answer) left (rides - 1)
+          ride_is =
+              let one : rides ≡ suc (rides - 1) = omega arith in
+              ap (lines_from (drop i answer) left) one ∙ lines_ride answer i (omega arith) left (rides - 1)
 
-        pub ride_at_lem : end + length (lines_from (drop (i + 3) answer) left (rides - 1))
-            ≡ start + length (lines_from answer rows 0)
-        ride_at_lem = next_at (line_of 82 (take (i + 3 - i) (drop i answer))) end left (rides - 1) to ride_is
+          pub ride_at_lem : end + length (lines_from (drop (i + 3) answer) left (rides - 1))
+              ≡ start + length (lines_from answer rows 0)
+          ride_at_lem = next_at (line_of 82 (take (i + 3 - i) (drop i answer))) end left (rides - 1) to ride_is
 
-        pub ride_out : (next : List ℕ) → next ≡ put at (line_of 82 (take (i + 3 - i) (drop i answer))) out
-            → end ≤ at + 11 * length (take (i + 3 - i) (drop i answer)) + 2
-            → put end (lines_from (drop (i + 3) answer) left (rides - 1)) next
-            ≡ put start (lines_from answer rows 0) first
-        ride_out next words most =
-            next_out _ end left (rides - 1) to ride_is next words (omega (arith, three_long answer i))
+          pub ride_out : (next : List ℕ) → next ≡ put at (line_of 82 (take (i + 3 - i) (drop i answer))) out
+              → end ≤ at + 11 * length (take (i + 3 - i) (drop i answer)) + 2
+              → put end (lines_from (drop (i + 3) answer) left (rides - 1)) next
+              ≡ put start (lines_from answer rows 0) first
+          ride_out next words most =
+              next_out _ end left (rides - 1) to ride_is next words (omega (arith, three_long answer i))
 
       module _ (no-ride : rides ≡ 0) (some_row : left ≡ 0 → ⊥)
           (to : end ≡ at + length (line_of 67 (take (i + 3 - i) (drop i answer)))) where
@@ -177,4 +178,5 @@ module _ (first out : List ℕ) (start at i left rides rows : ℕ) (answer : Lis
             → put end (lines_from (drop (i + 3) answer) (left - 1) (get_or answer (i + 2) 0)) next
             ≡ put start (lines_from answer rows 0) first
         cost_out next words most =
-            next_out _ end (left - 1) (get_or answer (i + 2) 0) to cost_is next words (omega (arith, three_long answer i))
+            next_out _ end (left - 1) (get_or answer (i + 2) 0) to cost_is next words
+            (omega (arith, three_long answer i))

@@ -1,7 +1,9 @@
 -- The lines that the listing program prints, as bytes. Document 01: "Q: from, to, minute, rows. C: duration, penalty,
 -- rides. R: trip, boarding stop, alighting stop. N: the query and its number."
-use Rattle.std.specs.Prelude.{◌≡◌, refl, Bool, true, false, cond, List, [], ◌∷◌, ◌++◌, ℕ, zero, suc, ◌+◌, ◌-◌, ◌/◌, ◌%◌, ◌*◌, ◌≤◌, ◌<◌, ltb, length, get_or, take, drop}
-use Rattle.std.proofs.Common.{ap, ◌∙◌, add_assoc, add-one, arith, lt-ltb, le-ltb, ltb-true, ltb-false, length-append, length-drop, drop_of_length-le, drop-cons}
+use Rattle.std.specs.Prelude.{◌≡◌, refl, Bool, true, false, cond, List, [], ◌∷◌, ◌++◌, ℕ, zero, suc, ◌+◌, ◌-◌, ◌/◌, ◌%◌}
+use Rattle.std.specs.Prelude.{◌*◌, ◌≤◌, ◌<◌, ltb, length, get_or, take, drop}
+use Rattle.std.proofs.Common.{ap, ◌∙◌, add_assoc, add-one, arith, lt-ltb, le-ltb, ltb-true, ltb-false, length-append}
+use Rattle.std.proofs.Common.{length-drop, drop_of_length-le, drop-cons}
 use Rattle.std.proofs.Math.Nat.{add-sub_cancel_left}
 
 -- the decimal digits of n, and none in front that is 0, "except 0 itself"; fuel n suffices for n

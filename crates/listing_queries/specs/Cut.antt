@@ -1,6 +1,7 @@
 -- A query has at most 16 bytes: two before its fields, three fields of at most four digits, and two commas. So a reader
 -- that keeps the first 17 bytes of a line, however long it is, still tells what the line asks.
-use Rattle.std.specs.Prelude.{◌≡◌, Bool, ◌&&◌, List, [], ◌∷◌, map, ℕ, ◌+◌, ◌≤◌, ◌<◌, eqb, leb, length, get_or, take, drop}
+use Rattle.std.specs.Prelude.{◌≡◌, Bool, ◌&&◌, List, [], ◌∷◌, map, ℕ, ◌+◌, ◌≤◌, ◌<◌, eqb, leb, length, get_or, take}
+use Rattle.std.specs.Prelude.{drop}
 use Rattle.std.proofs.Math.Path.{refl}
 use Rattle.std.proofs.Common.{sym, ap, ◌∙◌, arith, leb-true, leb-false, length-drop, length-take, take_all}
 use Rattle.std.proofs.Math.Bool.{true, false, cond}
@@ -36,7 +37,8 @@ module _ (a b c : List ℕ) (long : 12 < length a + length b + length c) where
           let first = number_short a (and_left (is_number (field_value a)) (is_number (field_value b)) ab) in
           let second = number_short b (and_right (is_number (field_value a)) (is_number (field_value b)) ab) in
           let third =
-          number_short c (and_right (is_number (field_value a) && is_number (field_value b)) (is_number (field_value c)) e) in
+          number_short c (and_right (is_number (field_value a) && is_number (field_value b)) (is_number (field_value c))
+          e) in
           absurd (omega arith)
       go false e = refl
 

@@ -1,5 +1,6 @@
 -- What is in a list that was filtered, mapped, joined or counted: for each way of making a list one law in and one out.
-use Rattle.std.specs.Prelude.{◌≡◌, refl, Bool, true, false, ◌⊎◌, List, [], ◌∷◌, ◌++◌, map, ℕ, zero, suc, ◌+◌, ◌≤◌, ◌<◌, T, length}
+use Rattle.std.specs.Prelude.{◌≡◌, refl, Bool, true, false, ◌⊎◌, List, [], ◌∷◌, ◌++◌, map, ℕ, zero, suc, ◌+◌, ◌≤◌, ◌<◌}
+use Rattle.std.specs.Prelude.{T, length}
 use Rattle.std.proofs.Common.{sym, ap, ◌∙◌, inl, inr, append_assoc, arith}
 use mathlib.Core.List.Memᴰ
 use mathlib.Core.List.Memᴰ.{head as here}
@@ -115,7 +116,8 @@ same_refl [] = tt
 same_refl (x ∷ xs) = search (T_both, eqb_refl x, same_refl xs)
 
 -- lists joined, those of one list after those of another
-pub concat_append : (l m : List (List ℕ)) → concat_map (λ q. q) (l ++ m) ≡ concat_map (λ q. q) l ++ concat_map (λ q. q) m
+pub concat_append : (l m : List (List ℕ)) → concat_map (λ q. q) (l ++ m) ≡ concat_map (λ q. q) l ++ concat_map (λ q. q)
+    m
 concat_append [] m = refl
 concat_append (x ∷ l) m =
     ap (λ u. x ++ u) (concat_append l m) ∙ sym (append_assoc x (concat_map (λ q. q) l) (concat_map (λ q. q) m))

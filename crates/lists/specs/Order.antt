@@ -1,6 +1,8 @@
 -- The order of sequences, number by number, is irreflexive, transitive and total.
-use Rattle.std.specs.Prelude.{◌≡◌, refl, Bool, true, false, not, ◌&&◌, ◌||◌, ◌⊎◌, List, [], ◌∷◌, ℕ, ◌≤◌, ◌<◌, T, ltb, eqb}
-use Rattle.std.proofs.Common.{sym, subst, inl, inr, arith, lt-ltb, le-ltb, eq-eqb, ne_eqb, ltb→lt, lt→ltb, nltb→le, T_not}
+use Rattle.std.specs.Prelude.{◌≡◌, refl, Bool, true, false, not, ◌&&◌, ◌||◌, ◌⊎◌, List, [], ◌∷◌, ℕ, ◌≤◌, ◌<◌, T, ltb}
+use Rattle.std.specs.Prelude.{eqb}
+use Rattle.std.proofs.Common.{sym, subst, inl, inr, arith, lt-ltb, le-ltb, eq-eqb, ne_eqb, ltb→lt, lt→ltb, nltb→le}
+use Rattle.std.proofs.Common.{T_not}
 use Rattle.std.proofs.Math.Dec.{not_T}
 use Rattle.lists.specs.Lists.{before}
 use Rattle.lists.specs.Tests.{either, T_both, T_or_left, T_or_right, T_or_cases, reads, eq→eqb}

@@ -8,7 +8,7 @@ use Rattle.results.specs.Picks.{lead}
 use Rattle.connections.specs.Rides.{Ride}
 use Rattle.connections.specs.Connections.{Change, Transfer, transfer, Net, Connection, direct, onward, Boards, Changes}
 use Rattle.connections.specs.Connections.{Feasible, ready, arrival, penalty, stations}
-use Rattle.connections.specs.Feasibility.{earlier}
+use Rattle.connections.proofs.Feasibility.{earlier}
 use Rattle.optimality.specs.Along.{read_back, Along, Ends}
 
 -- the changes, the last one first, before those given

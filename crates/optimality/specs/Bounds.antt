@@ -5,7 +5,7 @@ use Rattle.std.specs.Prelude.{List, [], ◌∷◌, ℕ, suc, ◌+◌, ◌*◌, �
 use Rattle.std.proofs.Common.{arith}
 use Rattle.timetable.specs.Timetable.{Timetable, valid}
 use Rattle.connections.specs.Connections.{Transfer, net}
-use Rattle.connections.specs.Sound.{sound, ride_cheap, change_priced}
+use Rattle.connections.proofs.Sound.{sound, ride_cheap, change_priced}
 use Rattle.optimality.specs.Along.{Along, Reaches}
 
 -- 2,879 * 1,100: for each minute 100 points of a ride and 1,000 of a change at most

@@ -11,7 +11,7 @@ use Rattle.lists.specs.Lists.{tail}
 use Rattle.results.specs.Picks.{lead}
 use Rattle.connections.specs.Connections.{Transfer, transfer, Net, Connection, direct, onward, Feasible, ready, arrival}
 use Rattle.connections.specs.Connections.{penalty, stations}
-use Rattle.connections.specs.Sound.{Sound}
+use Rattle.connections.proofs.Sound.{Sound}
 use Rattle.optimality.specs.Along.{read_back, Along, Ends, Frontier}
 use Rattle.optimality.specs.AlongLaws.{boarded, changed, start, Joined, join, reverse_twice, sequence_ends}
 use Rattle.optimality.specs.AlongLaws.{Sequenced}

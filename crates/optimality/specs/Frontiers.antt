@@ -7,8 +7,8 @@ use Rattle.lists.specs.Tests.{either}
 use Rattle.results.specs.Domination.{Better, dominates_in, dominates_out}
 use Rattle.connections.specs.Connections.{Net, Connection, Feasible, Optimal, arrival, penalty}
 use Rattle.connections.specs.Connections.{cost}
-use Rattle.connections.specs.Sound.{Sound}
-use Rattle.connections.specs.Feasibility.{takes_time}
+use Rattle.connections.proofs.Sound.{Sound}
+use Rattle.connections.proofs.Feasibility.{takes_time}
 use Rattle.optimality.specs.Along.{Arrives, Frontier}
 use Rattle.optimality.specs.AlongLaws.{changed, changed_at, connection_ends}
 use Rattle.optimality.specs.AlongLaws.{Sequenced, sequence_ends}

@@ -11,7 +11,7 @@ use Rattle.connections.specs.Rides.{Ride}
 use Rattle.connections.specs.Connections.{Change, Net, Connection, direct, onward, Boards, Feasible, ready, arrival}
 use Rattle.connections.specs.Connections.{penalty, stations, departure}
 use Rattle.connections.specs.Planner.{numbers, ride_count, tie_key}
-use Rattle.connections.specs.Feasibility.{count_stations}
+use Rattle.connections.proofs.Feasibility.{count_stations}
 use Rattle.connections.specs.Named.{Named}
 use Rattle.optimality.specs.Ways.{first_ride}
 use Rattle.optimality.specs.AlongLaws.{boards_at_lem}
@@ -87,7 +87,8 @@ tie_before e c k h t = by_departure (before_cases d f (ride_count e ∷ numbers 
     there : f ≡ f'
     there = ap (λ x. last_minute - x) (departs_first c)
 
-    by_rides : d ≡ f → (ride_count e < ride_count c) ⊎ ((ride_count e ≡ ride_count c) × T (before (numbers e) (numbers c)))
+    by_rides : d ≡ f → (ride_count e < ride_count c) ⊎ ((ride_count e ≡ ride_count c) × T
+        (before (numbers e) (numbers c)))
         → G
     by_rides q (inl i) = absurd (omega arith)
     by_rides q (inr i) = before_tail d' f' r s (sym here ∙ q ∙ there) (h i.1)

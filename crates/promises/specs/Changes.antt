@@ -77,7 +77,8 @@ unfoldable pub add_reply : (timetable lines : List ℕ) (work trip : ℕ) (text 
 add_reply timetable lines work trip text = reply_to timetable trip (add_outcome timetable lines work trip text)
 
 unfoldable pub add_timetable : (timetable lines : List ℕ) (work trip : ℕ) (text : List ℕ) → List ℕ
-add_timetable timetable lines work trip text = timetable_after timetable trip (add_outcome timetable lines work trip text)
+add_timetable timetable lines work trip text = timetable_after timetable trip
+    (add_outcome timetable lines work trip text)
 
 unfoldable pub add_lines : (timetable lines : List ℕ) (work trip : ℕ) (text : List ℕ) → List ℕ
 add_lines timetable lines work trip text = lines_after timetable lines trip (add_outcome timetable lines work trip text)

@@ -4,10 +4,5 @@ pub mod Query
 pub mod DirectQuery
 pub mod StoreCall
 pub mod Promises
-pub mod Shown
-pub mod FromWords
-pub mod FromAfresh
-pub mod Proved
-pub mod ChangesProved
 pub mod WithoutWalks
 pub mod Platforms

@@ -2,7 +2,8 @@
 -- number 0, into slices of any length that held any words; then this is what the direct query, the store call and the
 -- query reply, and every word of the slice that they write to; and the same after trips were cancelled and added.
 -- Statements only; `promises` in Proved.antt and `change_promises` in ChangesProved.antt prove them.
-use Rattle.std.specs.Prelude.{◌≡◌, true, false, cond, ◌↔◌, List, [], ◌∷◌, ◌++◌, ℕ, ◌+◌, ◌*◌, ◌≤◌, ◌<◌, leb, length, drop, get_or}
+use Rattle.std.specs.Prelude.{◌≡◌, true, false, cond, ◌↔◌, List, [], ◌∷◌, ◌++◌, ℕ, ◌+◌, ◌*◌, ◌≤◌, ◌<◌, leb, length}
+use Rattle.std.specs.Prelude.{drop, get_or}
 use Rattle.lists.specs.Lists.{◌∈◌, concat_map}
 use Rattle.timetable.specs.Timetable.{Trip, Timetable}
 use Rattle.timetable.specs.Words.{words, timetable_of, is_timetable}
@@ -89,14 +90,14 @@ pub record Loaded (text : List ℕ) (plan : Timetable) (timetable lines : List �
   pub text_lines : ℕ
   pub accepted : reading text ≡ Accepted plan text_lines
   pub timetable_before : List ℕ
-  pub read_reply_lem : ℕ
-  pub read : ReadCall text timetable_before timetable read_reply_lem
-  pub read_succeeds : Succeeds read_reply_lem
+  pub reply_to_read : ℕ
+  pub read : ReadCall text timetable_before timetable reply_to_read
+  pub read_succeeds : Succeeds reply_to_read
   pub work : ℕ
   pub lines_before : List ℕ
-  pub build_reply_lem : ℕ
-  pub built : BuildCall timetable work lines_before lines build_reply_lem
-  pub build_succeeds : Succeeds build_reply_lem
+  pub reply_to_build : ℕ
+  pub built : BuildCall timetable work lines_before lines reply_to_build
+  pub build_succeeds : Succeeds reply_to_build
 
 -- Document 02, Eleven: "Control rooms cancel and add trips during the day." The words of both slices after any changes
 -- to what was loaded, each with number 0; `plan` has the trips that now run.
@@ -209,7 +210,7 @@ pub record Promises : Type 0 where
   -- of the claim and no premise."
   pub builds : (text : List ℕ) (plan : Timetable) (timetable lines : List ℕ)
       → (loaded : Loaded text plan timetable lines)
-      → (loaded.build_reply_lem ≡ line_count plan)
+      → (loaded.reply_to_build ≡ line_count plan)
       × (lines ≡ table_words plan ++ drop (length (table_words plan)) loaded.lines_before)
       × (are_tables timetable lines ≡ true)
   -- Demand 2: "The direct rides shown carry exactly the costs that are optimal, by Definition 2 of the 2010 transfer

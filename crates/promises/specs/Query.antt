@@ -43,7 +43,8 @@ ask_reply timetable lines store work from to minute room =
 -- its number and count
 unfoldable pub ask_values : (timetable lines store : List ℕ) (work from to minute room : ℕ) → List ℕ
 ask_values timetable lines store work from to minute room =
-    values_for (ask_number timetable lines store work from to minute room) (length (rows timetable store from to minute))
+    values_for (ask_number timetable lines store work from to minute room)
+    (length (rows timetable store from to minute))
 
 pub ask_values_lem : (timetable lines store : List ℕ) (work from to minute room : ℕ) (reply : Reply)
     → reply ≡ ask_reply timetable lines store work from to minute room

@@ -27,7 +27,8 @@ module _
     (is : count ≡ length (leads no_points 0 best))
   where
     number_is : (m : ℕ) (x y : Bool) → leb 1 (length (kept w s a b u)) ≡ x
-        → leb (length (row_words (rows w s a b u))) m ≡ y → shown_number w s a b u m ≡ first_no (ask 14 x ∷ ask 15 y ∷ [])
+        → leb (length (row_words (rows w s a b u))) m ≡ y → shown_number w s a b u m ≡ first_no
+        (ask 14 x ∷ ask 15 y ∷ [])
     unfolding shown_number
     number_is m x y e f = λ i. first_no (ask 14 (e i) ∷ ask 15 (f i) ∷ [])
 

@@ -1,6 +1,7 @@
 -- The sequence of one arc, as the code has it: its stations are the first words of an array, two for each change, the
 -- target the last of them. And the least penalties, arc by arc, for the words of a timetable.
-use Rattle.std.specs.Prelude.{◌≡◌, Bool, true, false, not, List, [], ◌∷◌, ◌++◌, ℕ, suc, ◌+◌, ◌-◌, ◌*◌, ◌/◌, ◌≤◌, ◌<◌, get_or}
+use Rattle.std.specs.Prelude.{◌≡◌, Bool, true, false, not, List, [], ◌∷◌, ◌++◌, ℕ, suc, ◌+◌, ◌-◌, ◌*◌, ◌/◌, ◌≤◌, ◌<◌}
+use Rattle.std.specs.Prelude.{get_or}
 use Rattle.std.proofs.Math.Path.{refl, subst}
 use Rattle.std.proofs.Common.{sym, ap, ◌∙◌, add-one, arith, length-append, length-take, take-suc, get_or-take}
 use Rattle.std.proofs.Math.Logic.{inl, inr}
@@ -11,7 +12,7 @@ use Rattle.timetable.specs.Words.{timetable_of}
 use Rattle.timetable.specs.Check.{length_stations}
 use Rattle.connections.specs.Connections.{Transfer, net, Connection, direct, onward, stations}
 use Rattle.connections.specs.Planner.{ride_count}
-use Rattle.connections.specs.Sound.{Sound}
+use Rattle.connections.proofs.Sound.{Sound}
 use Rattle.lists.specs.Lists.{◌∈◌}
 use Rattle.stores.specs.Words.{readable}
 use Rattle.stores.specs.Sequences.{Odd, odd_length}

@@ -1,7 +1,8 @@
 -- The least penalties of a store's sequences, collected arc by arc: after k arcs the array has, for minutes, that of
 -- one who arrives then by one of the first k sequences, and for everyone who goes by these that of one who arrives no
 -- later and pays no more; after all arcs it has those of the list kept.
-use Rattle.std.specs.Prelude.{◌≡◌, refl, ◌≢◌, List, [], ◌∷◌, ◌++◌, ℕ, zero, suc, ◌≤◌, ◌<◌, length, get_or, take, replicate}
+use Rattle.std.specs.Prelude.{◌≡◌, refl, ◌≢◌, List, [], ◌∷◌, ◌++◌, ℕ, zero, suc, ◌≤◌, ◌<◌, length, get_or, take}
+use Rattle.std.specs.Prelude.{replicate}
 use Rattle.std.proofs.Common.{sym, ap, subst, ◌∙◌, inl, inr, length-append, take-suc, take_all}
 use mathlib.Core.List.Memᴰ
 use mathlib.Core.List.Memᴰ.{head as here}
@@ -15,12 +16,12 @@ use Rattle.results.specs.Best.{ByThen, by_lower}
 use Rattle.results.specs.Picks.{lead}
 use Rattle.connections.specs.Connections.{Transfer, Net, Connection, direct, onward, Feasible, ready, arrival}
 use Rattle.connections.specs.Connections.{penalty, stations}
-use Rattle.connections.specs.Sound.{Sound}
-use Rattle.connections.specs.Feasibility.{takes_time, has_stations}
+use Rattle.connections.proofs.Sound.{Sound}
+use Rattle.connections.proofs.Feasibility.{takes_time, has_stations}
 use Rattle.optimality.specs.Along.{read_back, Ends}
 use Rattle.optimality.specs.AlongLaws.{Sequenced, sequence_ends}
 use Rattle.stores.specs.Words.{readable, kept_list}
-use Rattle.stores.specs.KeptLaws.{kept_exactly}
+use Rattle.stores.proofs.KeptLaws.{kept_exactly}
 use Rattle.query_minutes.specs.Minutes.{no_points, blank}
 use Rattle.query_minutes.specs.Noted.{get_d_any}
 use Rattle.query_costs.specs.Lowered.{kept, Lowered}

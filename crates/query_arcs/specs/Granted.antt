@@ -6,8 +6,8 @@ use Rattle.timetable.specs.Words.{timetable_of, is_timetable, station_count}
 use Rattle.timetable.specs.Access.{spelled_valid}
 use Rattle.lists.specs.Lists.{◌∈◌}
 use Rattle.connections.specs.Connections.{net, Connection}
-use Rattle.connections.specs.Sound.{Sound, sound}
-use Rattle.connections.specs.Feasibility.{penalty_most_lem}
+use Rattle.connections.proofs.Sound.{Sound, sound}
+use Rattle.connections.proofs.Feasibility.{penalty_most_lem}
 use Rattle.stores.specs.Words.{well_made}
 use Rattle.lines_check.specs.Question10.{are_tables}
 use Rattle.promises.specs.Query.{kept}

@@ -1,8 +1,10 @@
 -- The least penalties of one arc alone, merged into those of the arcs before it. With each minute goes the arc that
 -- alone reaches it for the least penalty: its number and one more, or 0 where several do or it is not known.
-use Rattle.std.specs.Prelude.{◌≡◌, refl, Bool, true, false, cond, ◌⊎◌, List, ℕ, suc, ◌+◌, ◌≤◌, ◌<◌, min, ltb, eqb, length, get_or, set, replicate}
+use Rattle.std.specs.Prelude.{◌≡◌, refl, Bool, true, false, cond, ◌⊎◌, List, ℕ, suc, ◌+◌, ◌≤◌, ◌<◌, min, ltb, eqb}
+use Rattle.std.specs.Prelude.{length, get_or, set, replicate}
 use Rattle.std.proofs.Math.Path.{sym}
-use Rattle.std.proofs.Common.{ap, subst, ◌∙◌, inl, inr, lt-ltb, le-ltb, eqb-true, ltb→lt, nltb→le, get_or-set_same, get_or-set_other, ext_get_or}
+use Rattle.std.proofs.Common.{ap, subst, ◌∙◌, inl, inr, lt-ltb, le-ltb, eqb-true, ltb→lt, nltb→le, get_or-set_same}
+use Rattle.std.proofs.Common.{get_or-set_other, ext_get_or}
 use native.Mathlib.Omega.{arith, min_cases}
 use Rattle.std.proofs.lemmas.List.{length-replicate}
 use Rattle.lists.specs.Tests.{either}
@@ -77,7 +79,8 @@ pub record Bound (best who : List ℕ) : Type 0 where
 
 pub record Merged (k : ℕ) (mine best who best' who' : List ℕ) : Type 0 where
   pub at : (m : ℕ)
-      → MergedAt k (get_or best m no_points) (get_or who m 0) (get_or mine m no_points) (get_or best' m no_points) (get_or who' m 0)
+      → MergedAt k (get_or best m no_points) (get_or who m 0) (get_or mine m no_points) (get_or best' m no_points)
+      (get_or who' m 0)
 
 -- no penalty is more than it was, nor than that of arc k
 module _ (k : ℕ) (mine best who best' who' : List ℕ) (merged : Merged k mine best who best' who') where
@@ -200,7 +203,8 @@ module _ (k from to : ℕ) (mine₀ best₀ who₀ : List ℕ) (bound : Bound be
       merging_all past = record { at = at }
         where
           at : (m : ℕ)
-              → MergedAt k (get_or best₀ m no_points) (get_or who₀ m 0) (get_or mine₀ m no_points) (get_or best m no_points)
+              → MergedAt k (get_or best₀ m no_points) (get_or who₀ m 0) (get_or mine₀ m no_points)
+              (get_or best m no_points)
               (get_or who m 0)
           at m =
               either (ltb m i) (λ t. so_far.done m (ltb→lt m i t))
@@ -279,7 +283,8 @@ module _ (k from to : ℕ) (mine₀ best₀ who₀ : List ℕ) (bound : Bound be
           here_mine : get_or mine' i no_points ≡ no_points
           here_mine = ap (λ l. get_or l i no_points) new-mine ∙ get_or-set_same mine i no_points no_points (omega arith)
 
-          here : MergedAt k (get_or best₀ i no_points) (get_or who₀ i 0) (get_or mine₀ i no_points) (get_or best' i no_points)
+          here : MergedAt k (get_or best₀ i no_points) (get_or who₀ i 0) (get_or mine₀ i no_points)
+              (get_or best' i no_points)
               (get_or who' i 0)
           here =
               rw (here_best, here_who)
@@ -306,7 +311,8 @@ module _ (k from to : ℕ) (mine₀ best₀ who₀ : List ℕ) (bound : Bound be
                     (λ z.
                     subst
                     (λ j.
-                    MergedAt k (get_or best₀ j no_points) (get_or who₀ j 0) (get_or mine₀ j no_points) (get_or best' j no_points)
+                    MergedAt k (get_or best₀ j no_points) (get_or who₀ j 0) (get_or mine₀ j no_points)
+                    (get_or best' j no_points)
                     (get_or who' j 0))
                     (sym z)
                     here);

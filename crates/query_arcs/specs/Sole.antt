@@ -10,11 +10,11 @@ use Rattle.std.proofs.Math.ListN.{get_or}
 use Rattle.lists.specs.Lists.{◌∈◌}
 use Rattle.results.specs.Best.{ByThen}
 use Rattle.connections.specs.Connections.{Transfer, Net, Connection, Feasible, arrival, penalty, stations}
-use Rattle.connections.specs.Sound.{Sound}
+use Rattle.connections.proofs.Sound.{Sound}
 use Rattle.optimality.specs.Along.{read_back}
 use Rattle.optimality.specs.AlongLaws.{sequence_ends}
 use Rattle.stores.specs.Words.{readable, kept_list}
-use Rattle.stores.specs.KeptLaws.{kept_exactly}
+use Rattle.stores.proofs.KeptLaws.{kept_exactly}
 use Rattle.query_store.specs.Entries.{arc_target}
 use Rattle.query_store.specs.Paths.{arc_path}
 use Rattle.query_minutes.specs.Minutes.{blank}

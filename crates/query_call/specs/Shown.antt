@@ -129,4 +129,5 @@ module _
 
       pub shown_words_lem : (old new : List ℕ) → new ≡ shown_words w s a b u old → new ≡ ask_words w v s n a b u old
       unfolding shown_words ask_words
-      shown_words_lem old new e = e ∙ ap (λ k. words_after k (row_words (rows w s a b u)) old) (same_number (length old))
+      shown_words_lem old new e = e ∙ ap (λ k. words_after k (row_words (rows w s a b u)) old)
+          (same_number (length old))

@@ -47,7 +47,8 @@ step_is w y z p l g is last noted q h f e =
 -- ---- the arrays have changed places, or have not
 module _ (turned : Bool) (p q : List ℕ) where
   module _ (e : turned ≡ true) where
-    pub fitting_second : (l : List Ride) → Fitting (lowest no_points (held turned p q)) l → Fitting (lowest no_points q) l
+    pub fitting_second : (l : List Ride) → Fitting (lowest no_points (held turned p q)) l → Fitting (lowest no_points q)
+        l
     fitting_second l = subst (λ k. Fitting (lowest no_points k) l) (held_second turned p q e)
 
     pub falls_second : (s : Span) → Falls s (held turned p q) → Falls s q
@@ -57,7 +58,8 @@ module _ (turned : Bool) (p q : List ℕ) where
     spare_is_first h = sym (spare_first turned p q e) ∙ h
 
   module _ (e : turned ≡ false) where
-    pub fitting_first : (l : List Ride) → Fitting (lowest no_points (held turned p q)) l → Fitting (lowest no_points p) l
+    pub fitting_first : (l : List Ride) → Fitting (lowest no_points (held turned p q)) l → Fitting (lowest no_points p)
+        l
     fitting_first l = subst (λ k. Fitting (lowest no_points k) l) (held_first turned p q e)
 
     pub falls_first : (s : Span) → Falls s (held turned p q) → Falls s p

@@ -2,10 +2,12 @@
 -- all. What words p hold so is `lowest no_points p`.
 use Rattle.std.specs.Prelude.{◌≡◌, refl, Bool, List, [], ◌∷◌, ◌++◌, ℕ, zero, suc, ◌+◌, ◌-◌, ◌≤◌, ◌<◌, min, ltb, set}
 use Rattle.std.proofs.Math.Path.{sym, ap}
-use Rattle.std.proofs.Common.{◌∙◌, inl, inr, ltb→lt, lt→ltb, length-set, take-append-drop, length-take-le, get_or-set_same, get_or-set_other, ext_get_or}
+use Rattle.std.proofs.Common.{◌∙◌, inl, inr, ltb→lt, lt→ltb, length-set, take-append-drop, length-take-le}
+use Rattle.std.proofs.Common.{get_or-set_same, get_or-set_other, ext_get_or}
 use native.Mathlib.Omega.{arith}
 use Rattle.std.proofs.Math.Decide.{dec_lt}
-use Rattle.std.proofs.Math.ListN.{length, get_or, take, drop, length-append, length-drop, get_or-append, get_or-eq_default}
+use Rattle.std.proofs.Math.ListN.{length, get_or, take, drop, length-append, length-drop, get_or-append}
+use Rattle.std.proofs.Math.ListN.{get_or-eq_default}
 use Rattle.std.proofs.lemmas.List.{length-replicate}
 use Rattle.std.proofs.Math.Seq.{take_at, get_or-take, get_or-drop, get_or-append-add}
 use Rattle.lists.specs.First.{Foremost, foremost}

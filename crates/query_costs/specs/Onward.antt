@@ -13,7 +13,7 @@ use Rattle.timetable.specs.Walks.{walks_rise, good_walk}
 use Rattle.timetable.specs.WalkTo.{walk_to}
 use Rattle.connections.specs.Rides.{Ride}
 use Rattle.connections.specs.Connections.{net, Boards, Transfer, no_station}
-use Rattle.connections.specs.Sound.{sound, ride_cheap, station_priced}
+use Rattle.connections.proofs.Sound.{sound, ride_cheap, station_priced}
 use Rattle.lines_check.specs.Question10.{are_tables}
 use Rattle.query_places.specs.Candidates.{near_read}
 use Rattle.query_minutes.specs.Minutes.{no_points}

@@ -33,7 +33,8 @@ module _ (path : List ℕ) where
   changes_more j = ap (changes_to path) (add-one j)
 
   -- they are the stations that it names
-  pub changes_read : (j : ℕ) (q : List ℕ) → 2 * j ≤ length path → read_back (changes_to path j) q ≡ take (2 * j) path ++ q
+  pub changes_read : (j : ℕ) (q : List ℕ) → 2 * j ≤ length path → read_back (changes_to path j) q ≡ take (2 * j) path ++
+      q
   unfolding changes_to
   changes_read zero q h = refl
   changes_read (suc j) q h =

@@ -14,7 +14,7 @@ use Rattle.lists.specs.Lists.{◌∈◌}
 use Rattle.results.specs.Best.{ByThen}
 use Rattle.connections.specs.Rides.{Ride}
 use Rattle.connections.specs.Connections.{Net, net, Change, Transfer, transfer, Changes, ready}
-use Rattle.connections.specs.Sound.{sound, ride_cheap}
+use Rattle.connections.proofs.Sound.{sound, ride_cheap}
 use Rattle.optimality.specs.Along.{Along, Ends}
 use Rattle.optimality.specs.Layers.{LeastAlong, Starting, start_least, Last, Stepping, step_least}
 use Rattle.optimality.specs.Layers.{LastTo, Ending, end_attained, end_below}

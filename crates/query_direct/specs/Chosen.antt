@@ -277,7 +277,8 @@ module _ (u : ℕ) (firsts all : List Ride) (d : List Connection)
       from e = empty cs (rows_count ∙ ap length ((result_none (measure u) d).1 e))
 
 -- each row has six words
-pub rows_long : (u : ℕ) (l : List Ride) (cs : List Cost) → length (concat_map (λ r. r) (rows_from u l cs)) ≡ 6 * length cs
+pub rows_long : (u : ℕ) (l : List Ride) (cs : List Cost) → length (concat_map (λ r. r) (rows_from u l cs)) ≡ 6 * length
+    cs
 unfolding rows_from
 rows_long u l [] = omega arith
 rows_long u l (c ∷ cs) = omega (arith, rows_long u l cs)

@@ -94,7 +94,7 @@ module _ (f g : Ride) (h : f.depart ≤ last_minute) (k : g.depart ≤ last_minu
 
 -- ---- one ride and those of a list
 
--- the ride that pickFrom picks
+-- the ride that pick_from picks
 unfoldable pub ride_from : Ride → List Ride → Ride
 ride_from f [] = f
 ride_from f (r ∷ l) = ride_from (former f r) l

@@ -3,7 +3,8 @@
 -- are shown. No reader of the promise needs this file.
 use Rattle.std.specs.Prelude.{◌≡◌, Bool, ◌&&◌, ℕ, ◌+◌, ◌*◌, ◌≤◌, ◌<◌, eqb, set, take, drop}
 use Rattle.std.proofs.Math.Path.{refl, ap}
-use Rattle.std.proofs.Common.{sym, subst, ◌∙◌, add-zero, arith, length-append, length-take, get_or-append-add, get_or-set_other, length-take-le}
+use Rattle.std.proofs.Common.{sym, subst, ◌∙◌, add-zero, arith, length-append, length-take, get_or-append-add}
+use Rattle.std.proofs.Common.{get_or-set_other, length-take-le}
 use Rattle.std.proofs.Math.Bool.{true, false, cond}
 use mathlib.Core.List.Memᴰ.{head as here}
 use mathlib.Core.List.Memᴰ.{tail as there}

@@ -16,7 +16,8 @@ use Rattle.query_minutes.proofs.EndLaws.{leads_over}
 module _ (best : List ℕ) (least a : ℕ) (more : a < length best) where
   pub leads_here : get_or best a 0 < least
       → leads least a (drop a best)
-      ≡ record { minutes = a; points = get_or best a 0 } ∷ leads (min least (get_or best a 0)) (a + 1) (drop (a + 1) best)
+      ≡ record { minutes = a; points = get_or best a 0 } ∷ leads (min least (get_or best a 0)) (a + 1)
+      (drop (a + 1) best)
   unfolding leads
   leads_here h =
       let low : min least (get_or best a 0) ≡ get_or best a 0 = omega arith in

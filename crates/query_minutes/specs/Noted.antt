@@ -131,7 +131,8 @@ module _ (inf : ℕ) where
           stems : (m : ℕ) → (get_or after m inf ≡ get_or best m inf) ⊎ Arrives (r ∷ l) m (get_or after m inf)
           stems m = old (n.stems m) (noted_stems best r at m)
             where
-              old : (get_or after m inf ≡ get_or (noted best r) m inf) ⊎ Arrives l m (get_or after m inf) → Stems best r at m
+              old : (get_or after m inf ≡ get_or (noted best r) m inf) ⊎ Arrives l m (get_or after m inf) → Stems best r
+                  at m
                   → (get_or after m inf ≡ get_or best m inf) ⊎ Arrives (r ∷ l) m (get_or after m inf)
               old (inl e) (inl f) = inl (e ∙ f)
               old (inl e) (inr f) = inr (record { ride = r; listed = here refl; at = f.0; costs = f.1 ∙ sym e })

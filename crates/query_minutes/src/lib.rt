@@ -5,7 +5,8 @@
 //! for each other. A minute of the day is the index of a word, and no duration: `minutes_between` makes one of two.
 #![tactic(auto)]
 
-ghost use Rattle.std.specs.Prelude.{◌≡◌, [], ◌∷◌, ◌+◌, ◌-◌, ◌^◌, ◌≤◌, ◌<◌, min, max, leb, ltb, eqb, length, get_or, set};
+ghost use Rattle.std.specs.Prelude.{◌≡◌, [], ◌∷◌, ◌+◌, ◌-◌, ◌^◌, ◌≤◌, ◌<◌, min, max, leb, ltb, eqb, length, get_or};
+ghost use Rattle.std.specs.Prelude.{set};
 ghost use Rattle.words.specs.Put.{put};
 ghost use Rattle.query_minutes.specs.Minutes.{no_points, lowered, leads};
 ghost use Rattle.query_minutes.specs.Ending.{Floor, LeadsEnd};

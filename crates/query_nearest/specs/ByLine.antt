@@ -18,8 +18,8 @@ use Rattle.lists.specs.Members.{none, cons_cases, concat_map_in, concat_map_out,
 use Rattle.connections.specs.Rides.{Ride, no_stop, ride_in, may_board, may_alight}
 use Rattle.lines.specs.Lines.{lines, course, station_on}
 use Rattle.lines.specs.DirectRides.{in_time}
-use Rattle.lines.specs.DirectLaws.{Pair}
-use Rattle.lines.specs.Ordered.{Line as GoodLine, lines_good}
+use Rattle.lines.proofs.DirectLaws.{Pair}
+use Rattle.lines.proofs.Ordered.{Line as GoodLine, lines_good}
 use Rattle.lines_tables.specs.Spelled.{within}
 use Rattle.lines_lookup.specs.Lookup.{Line, line_at, boards_at, alights_at, points_between, list_of}
 use Rattle.lines_lookup.specs.First.{first_trip}
@@ -28,7 +28,8 @@ use Rattle.lines_lookup.specs.Told.{LineTold, Told, ride_difference}
 use Rattle.lines_lookup.specs.Marked.{station_few, boards_told, alights_told}
 use Rattle.lines_lookup.specs.Rising.{Later, Rising, after_out, after_in, after_rising, after_again}
 use Rattle.lines_lookup.specs.Met.{Met, calls_in_lem, calls_out, calls_rise}
-use Rattle.query_places.specs.Candidates.{Reach, opens, reach_of, nearest, Leg, leg_of, legs, ride_on, trips_to, first_leg}
+use Rattle.query_places.specs.Candidates.{Reach, opens, reach_of, nearest, Leg, leg_of, legs, ride_on, trips_to}
+use Rattle.query_places.specs.Candidates.{first_leg}
 use Rattle.query_places.specs.Candidates.{near_leg, all_leg, first_on, all_on, first_read, near_read, all_read}
 use Rattle.query_nearest.specs.Reached.{Left, nearest_in, reach_in, reach_out, reach_nearest, timely_in}
 use Rattle.query_nearest.specs.Reached.{timely_out, ride_same}

@@ -16,13 +16,14 @@ use Rattle.results.specs.Kept.{costs_covered, result_kept, empty_kept}
 use Rattle.connections.specs.Rides.{Ride, ride_in}
 use Rattle.connections.specs.Connections.{net, Connection, direct, cost}
 use Rattle.connections.specs.Planner.{measure, rows_of}
-use Rattle.connections.specs.RideLaws.{Taken, rides_in, rides_out, board_alike, alight_alike}
-use Rattle.connections.specs.Sound.{sound, ride_cheap}
+use Rattle.connections.proofs.RideLaws.{Taken, rides_in, rides_out, board_alike, alight_alike}
+use Rattle.connections.proofs.Sound.{sound, ride_cheap}
 use Rattle.lines.specs.Lines.{lines, course}
 use Rattle.lines.specs.DirectRides.{directs, in_time, first_rides}
-use Rattle.lines.specs.DirectLaws.{Pair, first_ride_lem, first_in, first_direct, direct_in, direct_out, directs_exactly}
-use Rattle.lines.specs.DirectLaws.{direct_costs}
-use Rattle.lines.specs.Ordered.{line_length, line_stop}
+use Rattle.lines.proofs.DirectLaws.{Pair, first_ride_lem, first_in, first_direct, direct_in, direct_out}
+use Rattle.lines.proofs.DirectLaws.{directs_exactly}
+use Rattle.lines.proofs.DirectLaws.{direct_costs}
+use Rattle.lines.proofs.Ordered.{line_length, line_stop}
 use Rattle.lines.specs.Once.{OnLine, line_of_lem, trip_listed}
 use Rattle.lines_tables.specs.Spelled.{within}
 use Rattle.lines_lookup.specs.Lookup.{line_at}

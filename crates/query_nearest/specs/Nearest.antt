@@ -6,8 +6,8 @@ use Rattle.std.proofs.Math.Decide.{ℕ_discrete}
 use Rattle.lists.specs.Tests.{T_right, reads}
 use Rattle.timetable.specs.Timetable.{Stop, Trip, Timetable, runs, valid_trip, valid}
 use Rattle.connections.specs.Rides.{Ride, no_stop, ride_in}
-use Rattle.connections.specs.RideLaws.{points_split}
-use Rattle.connections.specs.Sound.{trips_valid_lem, valid_trip_lem, trip_forward}
+use Rattle.connections.proofs.RideLaws.{points_split}
+use Rattle.connections.proofs.Sound.{trips_valid_lem, valid_trip_lem, trip_forward}
 
 -- ride e is r, or one on the same trip from the same stop to a nearer one
 pub record Nearer (e r : Ride) : Type 0 where

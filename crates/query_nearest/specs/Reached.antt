@@ -15,8 +15,8 @@ use Rattle.lists.specs.Members.{none, cons_cases}
 use Rattle.connections.specs.Rides.{ride_points, ride_in}
 use Rattle.lines.specs.Lines.{course, station_on}
 use Rattle.lines.specs.DirectRides.{in_time}
-use Rattle.lines.specs.Behind.{behind_points}
-use Rattle.lines.specs.Ordered.{Line as GoodLine, line_stop, head_behind, no_overtaking}
+use Rattle.lines.proofs.Behind.{behind_points}
+use Rattle.lines.proofs.Ordered.{Line as GoodLine, line_stop, head_behind, no_overtaking}
 use Rattle.lines_tables.specs.Tables.{stop_of}
 use Rattle.lines_tables.specs.Spelled.{within}
 use Rattle.lines_lookup.specs.Lookup.{Line, line_at, points_between, depart_at}

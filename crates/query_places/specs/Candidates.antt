@@ -5,7 +5,8 @@
 use Rattle.std.specs.Prelude.{Bool, cond, ◌&&◌, List, [], ◌∷◌, map, ℕ, ◌+◌, ◌-◌, ltb, eqb}
 use Rattle.lists.specs.Lists.{concat_map, range}
 use Rattle.connections.specs.Rides.{Ride}
-use Rattle.lines_lookup.specs.Lookup.{Line, line_at, number_at, station_at, boards_at, alights_at, points_between, arrive_at}
+use Rattle.lines_lookup.specs.Lookup.{Line, line_at, number_at, station_at, boards_at, alights_at, points_between}
+use Rattle.lines_lookup.specs.Lookup.{arrive_at}
 use Rattle.lines_lookup.specs.Lookup.{depart_at}
 use Rattle.lines_lookup.specs.First.{first_trip}
 use Rattle.lines_lookup.specs.Calls.{Call, Boarding, calls_of, calls_in, after}

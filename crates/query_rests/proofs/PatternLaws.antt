@@ -37,7 +37,8 @@ module _ (w : List ℕ) (accepted : is_timetable w ≡ true) where
 pub named_first : (path : List ℕ) (k x : ℕ) → x ≡ get_or path k 0 → 1 ≤ get_or path k 0 → 1 ≤ x
 named_first path k x e h = omega (arith, e)
 
-pub named_most : (w path : List ℕ) (k x : ℕ) → x ≡ get_or path k 0 → get_or path k 0 ≤ station_count w → x ≤ station_count w
+pub named_most : (w path : List ℕ) (k x : ℕ) → x ≡ get_or path k 0 → get_or path k 0 ≤ station_count w → x ≤
+    station_count w
 named_most w path k x e h = omega (arith, e)
 
 -- ---- the stations between ride j of a path and the ride before it

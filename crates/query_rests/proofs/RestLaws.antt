@@ -61,7 +61,7 @@ module _ (z : List ℕ) (m r : ℕ) where
 
 -- ---- lowered
 
--- a word that holds no more than noPoints is lowered by as much of a sum as one holds as by the sum
+-- a word that holds no more than no_points is lowered by as much of a sum as one holds as by the sum
 module _ (z : List ℕ) (m a b c : ℕ) (word : get_or z m 0 < 2 ^ 32) where
   pub note_held : (first all : ℕ) (new : List ℕ) → first ≡ min (a + b) no_points → all ≡ min (first + c) no_points
       → new ≡ lowered z m all → new ≡ lowered z m (a + b + c)

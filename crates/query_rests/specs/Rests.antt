@@ -9,7 +9,7 @@ use Rattle.results.specs.Picks.{lead}
 use Rattle.connections.specs.Rides.{Ride}
 use Rattle.connections.specs.Connections.{Change, Net, net, Connection, direct, onward, Boards, Feasible}
 use Rattle.connections.specs.Connections.{arrival, penalty, stations}
-use Rattle.connections.specs.Feasibility.{earlier}
+use Rattle.connections.proofs.Feasibility.{earlier}
 use Rattle.optimality.specs.Ways.{first_ride}
 use Rattle.query_minutes.specs.Minutes.{no_points}
 

@@ -1,7 +1,8 @@
 -- From what is left behind one ride of a pattern to what is left behind the ride before it: for each ride that can be
 -- caught by the way of changing, the latest minute of arrival for which it can, and what it costs with the change
 -- before it and what is left behind it.
-use Rattle.std.specs.Prelude.{◌≡◌, Bool, true, false, not, cond, ◌&&◌, List, [], ◌∷◌, map, ℕ, ◌+◌, ◌-◌, ◌≤◌, ◌<◌, T, leb, ltb, length, get_or}
+use Rattle.std.specs.Prelude.{◌≡◌, Bool, true, false, not, cond, ◌&&◌, List, [], ◌∷◌, map, ℕ, ◌+◌, ◌-◌, ◌≤◌, ◌<◌, T}
+use Rattle.std.specs.Prelude.{leb, ltb, length, get_or}
 use Rattle.std.proofs.Common.{sym, ap, ◌∙◌, inl, inr, arith, ltb→lt, nltb→le}
 use mathlib.Core.List.Memᴰ
 use Rattle.timetable.specs.Timetable.{Timetable, valid}
@@ -11,8 +12,8 @@ use Rattle.lists.specs.Members.{none, filter_in, filter_out}
 use Rattle.results.specs.declared.Cost.{Cost}
 use Rattle.connections.specs.Rides.{Ride}
 use Rattle.connections.specs.Connections.{Net, net, Boards}
-use Rattle.connections.specs.Sound.{Sound, sound}
-use Rattle.connections.specs.Feasibility.{penalty_most_lem}
+use Rattle.connections.proofs.Sound.{Sound, sound}
+use Rattle.connections.proofs.Feasibility.{penalty_most_lem}
 use Rattle.optimality.specs.Ways.{first_ride}
 use Rattle.query_places.specs.Candidates.{near_read}
 use Rattle.query_nearest.specs.Nearest.{Nearer, nearer_sooner}

@@ -1,5 +1,6 @@
 -- One turn of each loop of the code, over rides as the code tells them. No reader of the promise needs this file.
-use Rattle.std.specs.Prelude.{◌≡◌, refl, Bool, true, false, cond, ◌&&◌, List, [], ◌∷◌, ℕ, ◌+◌, ◌-◌, ◌*◌, leb, ltb, get_or}
+use Rattle.std.specs.Prelude.{◌≡◌, refl, Bool, true, false, cond, ◌&&◌, List, [], ◌∷◌, ℕ, ◌+◌, ◌-◌, ◌*◌, leb, ltb}
+use Rattle.std.specs.Prelude.{get_or}
 use Rattle.connections.specs.Rides.{Ride}
 use Rattle.query_minutes.specs.Minutes.{no_points, note_all, blank, lowered}
 use Rattle.query_rides.specs.declared.Ride.{Ride as RideStruct}

@@ -10,7 +10,7 @@ use Rattle.timetable.specs.Words.{timetable_of, is_timetable}
 use Rattle.timetable.specs.Access.{spelled_valid}
 use Rattle.connections.specs.Rides.{Ride}
 use Rattle.connections.specs.Connections.{net, Connection, direct, onward, Boards}
-use Rattle.lines.specs.DirectLaws.{directs_exactly}
+use Rattle.lines.proofs.DirectLaws.{directs_exactly}
 use Rattle.lines_lookup.specs.Told.{Told}
 use Rattle.lines_lookup.specs.Holding.{holding}
 use Rattle.lines_check.specs.Question10.{are_tables}
@@ -48,7 +48,8 @@ module _
         from : Boards (net t) a u r × (r.to ≡ b) → r ∈ all_read v a u b
         from k =
             let c = (directs_exactly t a u b (direct r)).1 (k, refl) in
-            let m = Memᴰ.of_map direct (all_read v a u b) ((all_read_lem v t told a u b some inside sound (direct r)).1 c) in
+            let m = Memᴰ.of_map direct (all_read v a u b) ((all_read_lem v t told a u b some inside sound (direct r)).1
+            c) in
             Memᴰ.cast (sym (ap first_ride m.2)) m.1
 
 -- ---- the words of a timetable, and line tables that belong to it

@@ -17,7 +17,7 @@ use Rattle.lists.specs.Lists.{◌∈◌}
 use Rattle.lists.specs.Tests.{T_true}
 use Rattle.results.specs.declared.Cost.{Cost}
 use Rattle.connections.specs.Connections.{Change, Net, net, no_station, change_at, on_foot}
-use Rattle.connections.specs.RideLaws.{Own, changes_in, walks_in_lem, changes_out}
+use Rattle.connections.proofs.RideLaws.{Own, changes_in, walks_in_lem, changes_out}
 use Rattle.query_rides.specs.declared.Change.{Change as Manner}
 use Rattle.query_rides.specs.declared.Change.TheVariants.{Here, Walk as OnFoot}
 use Rattle.query_rides.specs.declared.Way.{Way}

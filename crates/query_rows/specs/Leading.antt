@@ -86,7 +86,8 @@ module _ (u : ℕ) (d : List Connection) where
     leads_count = rowed_long ls all.0 all.1 ∙ ap length all_are
 
     -- a row found for the cost at place i is the row at place i
-    pub lead_row : (i : ℕ) (r : List ℕ) → i < length ls → RowFor u d (get_or ls i no_cost) r → r ≡ get_or (rows_of u d) i []
+    pub lead_row : (i : ℕ) (r : List ℕ) → i < length ls → RowFor u d (get_or ls i no_cost) r → r ≡ get_or (rows_of u d)
+        i []
     lead_row i r h f =
         let inside : i < length all.0 = omega (arith, rowed_long ls all.0 all.1) in
         let same = rowed u d bounds w least (set all.0 i r) (rowed_set ls all.0 i r h all.1 f) in

@@ -8,7 +8,7 @@ use Rattle.lists.specs.Lists.{◌∈◌}
 use Rattle.results.specs.Results.{Cost, row}
 use Rattle.connections.specs.Connections.{net}
 use Rattle.connections.specs.Planner.{measure, row_says}
-use Rattle.connections.specs.Sound.{Sound}
+use Rattle.connections.proofs.Sound.{Sound}
 use Rattle.query_store.specs.Entries.{arc_count}
 use Rattle.query_store.specs.Paths.{arc_path, length_readable}
 use Rattle.query_minutes.specs.Minutes.{no_points, leads}

@@ -14,8 +14,8 @@ use Rattle.lists.specs.Lists.{◌∈◌}
 use Rattle.results.specs.declared.Points.{Points}
 use Rattle.connections.specs.Rides.{Ride}
 use Rattle.connections.specs.Connections.{Net, net, Connection, Boards}
-use Rattle.connections.specs.Sound.{sound}
-use Rattle.connections.specs.Feasibility.{takes_time}
+use Rattle.connections.proofs.Sound.{sound}
+use Rattle.connections.proofs.Feasibility.{takes_time}
 use Rattle.query_places.specs.Candidates.{near_read}
 use Rattle.query_nearest.specs.Nearest.{Nearer}
 use Rattle.optimality.specs.Greedy.{ride_numbers, Changing, Continues, Fits, fits_starts}

@@ -7,7 +7,8 @@ use Rattle.lists.specs.Order.{before_tail}
 use Rattle.connections.specs.Rides.{Ride}
 use Rattle.connections.specs.Connections.{Net, net, Connection, direct, onward}
 use Rattle.connections.specs.Planner.{numbers}
-use Rattle.connections.specs.Named.{Named, named}
+use Rattle.connections.specs.Named.{Named}
+use Rattle.connections.proofs.Named.{named}
 use Rattle.optimality.specs.Ways.{first_ride}
 use Rattle.optimality.specs.Greedy.{ride_numbers, Starting, Changing, Continues, First, Leads, fits_starts, starts_fit}
 use Rattle.optimality.specs.Greedy.{joined, apart, first_direct, first_onward, tie_direct, tie_onward}

@@ -1,6 +1,7 @@
 -- The ride to take next. With what is left behind each ride at hand, a test says exactly which rides begin a connection
 -- that arrives and pays as it should; the rule for equal cost picks one of them.
-use Rattle.std.specs.Prelude.{◌≡◌, refl, Bool, true, false, not, cond, ◌&&◌, ◌⊎◌, List, [], ◌∷◌, ℕ, ◌+◌, ◌-◌, ◌≤◌, ◌<◌, T, leb, ltb, get_or}
+use Rattle.std.specs.Prelude.{◌≡◌, refl, Bool, true, false, not, cond, ◌&&◌, ◌⊎◌, List, [], ◌∷◌, ℕ, ◌+◌, ◌-◌, ◌≤◌, ◌<◌}
+use Rattle.std.specs.Prelude.{T, leb, ltb, get_or}
 use Rattle.std.proofs.Common.{sym, ap, subst, inl, inr, arith, ltb→lt, nltb→le}
 use Rattle.timetable.specs.Timetable.{Timetable, last_minute, valid}
 use Rattle.timetable.specs.Numbers.{number_most_lem}
@@ -9,10 +10,10 @@ use Rattle.lists.specs.Tests.{either, reads, writes}
 use Rattle.lists.specs.Members.{filter_in, filter_out}
 use Rattle.lists.specs.Order.{before_head, before_tail, before_cases, not_before_trans}
 use Rattle.connections.specs.Rides.{Ride}
-use Rattle.connections.specs.RideLaws.{rides_out}
+use Rattle.connections.proofs.RideLaws.{rides_out}
 use Rattle.connections.specs.Connections.{Net, net, Connection, Boards, Feasible}
-use Rattle.connections.specs.Sound.{Sound, sound}
-use Rattle.connections.specs.Feasibility.{penalty_most_lem}
+use Rattle.connections.proofs.Sound.{Sound, sound}
+use Rattle.connections.proofs.Feasibility.{penalty_most_lem}
 use Rattle.optimality.specs.Ways.{first_ride}
 use Rattle.optimality.specs.AlongLaws.{boards_at_lem}
 use Rattle.optimality.specs.Greedy.{ride_numbers, Continues}

@@ -10,15 +10,15 @@ use Rattle.lists.specs.Tests.{T_true}
 use Rattle.results.specs.declared.Cost.{Cost}
 use Rattle.connections.specs.Rides.{Ride}
 use Rattle.connections.specs.Connections.{Net, net, Boards}
-use Rattle.connections.specs.Feasibility.{boards_earlier}
-use Rattle.connections.specs.Sound.{change_priced}
+use Rattle.connections.proofs.Feasibility.{boards_earlier}
+use Rattle.connections.proofs.Sound.{change_priced}
 use Rattle.optimality.specs.Greedy.{Starting, Changing}
 use Rattle.query_minutes.specs.Minutes.{no_points}
 use Rattle.query_rides.specs.declared.Way.{Way}
 use Rattle.query_rides.specs.Ways.{cost_in, Open}
 
 -- what a change costs, by what it takes and costs, for one who arrived at minute m, in front of a ride that leaves at
--- minute d; noPoints if it is not in time
+-- minute d; no_points if it is not in time
 unfoldable pub step_price : Cost → (m d : ℕ) → ℕ
 step_price c m d = cond (ltb d (m + c.minutes.0)) no_points c.points.0
 

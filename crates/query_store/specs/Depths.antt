@@ -39,7 +39,8 @@ module _ (s w : List ℕ) (v p : ℕ) (d : Depths s w v) (h : v < node_count s) 
   one_more =
       let e = next_path s v h (omega arith) in
       let f = ap (λ i. length (node_path s i)) is-p in
-      let l = length-append (node_path s (node_parent s (v + 1))) (node_alighted s (v + 1) ∷ node_boarded s (v + 1) ∷ []) in
+      let l = length-append (node_path s (node_parent s (v + 1)))
+      (node_alighted s (v + 1) ∷ node_boarded s (v + 1) ∷ []) in
       omega (arith, ap length e)
 
   earlier : (u : ℕ) → u ≤ v → get_or noted u 0 ≡ get_or w u 0

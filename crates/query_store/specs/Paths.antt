@@ -20,7 +20,8 @@ arc_path s k = get_or (readable s) k []
 chains_known : (known l : List (List ℕ)) (v : ℕ) → v < length known → get_or (chains known l) v [] ≡ get_or known v []
 chains_known known [] v h = refl
 chains_known known (p ∷ l) v h =
-    chains_known (known ++ (follow_node known p ∷ [])) l v (omega (arith, length-append known (follow_node known p ∷ [])))
+    chains_known (known ++ (follow_node known p ∷ [])) l v (omega
+    (arith, length-append known (follow_node known p ∷ [])))
     ∙ get_or-append known (follow_node known p ∷ []) [] v h
 
 -- the three at place j tells the sequence of the number length known + j, where what is before it has a smaller number
@@ -52,7 +53,8 @@ module _ (s : List ℕ) where
 
   -- node v + 1, whose parent is below it
   pub next_path : (v : ℕ) → v < node_count s → node_parent s (v + 1) ≤ v
-      → node_path s (v + 1) ≡ node_path s (node_parent s (v + 1)) ++ (node_alighted s (v + 1) ∷ node_boarded s (v + 1) ∷ [])
+      → node_path s (v + 1) ≡ node_path s (node_parent s (v + 1)) ++
+      (node_alighted s (v + 1) ∷ node_boarded s (v + 1) ∷ [])
   unfolding node_path
   next_path v h g =
       let e = node_at s v h in

@@ -44,7 +44,8 @@ module _ (s : List ℕ) (yes : present_test s ≡ true) where
 -- node v + 1
 unfoldable pub node_test : (k : ℕ) (s : List ℕ) (v : ℕ) → Bool
 node_test k s v =
-    is_station k (node_alighted s (v + 1)) && is_station k (node_boarded s (v + 1)) && ltb (node_parent s (v + 1)) (suc v)
+    is_station k (node_alighted s (v + 1)) && is_station k (node_boarded s (v + 1)) && ltb (node_parent s (v + 1))
+    (suc v)
 
 -- the nodes behind node v
 unfoldable pub nodes_test : (k : ℕ) (s : List ℕ) (v : ℕ) → Bool
@@ -132,7 +133,8 @@ module _ (k : ℕ) (s : List ℕ) (i : ℕ) where
       ap (λ l. arcs_made k n l && arcs_rise l && not (any long (map f l))) (arcs_left i h)
       ∙ (λ z.
       listed && arcs_made k n rest && rise_next h z && not (long (sym (arc_path_lem s i h) z) || any long (map f rest)))
-      ∙ weave listed (arcs_made k n rest) (rises_test s i) (arcs_rise rest) (long (arc_path s i)) (any long (map f rest))
+      ∙ weave listed (arcs_made k n rest) (rises_test s i) (arcs_rise rest) (long (arc_path s i))
+      (any long (map f rest))
     where
       n : ℕ
       n = node_count s

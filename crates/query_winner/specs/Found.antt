@@ -4,8 +4,8 @@ use Rattle.std.proofs.Common.{ap, ◌∙◌, arith, length-take-le}
 use Rattle.std.proofs.Math.Path.{subst}
 use Rattle.timetable.specs.Words.{timetable_of, station_count}
 use Rattle.connections.specs.Connections.{net, Connection}
-use Rattle.connections.specs.Sound.{Sound}
-use Rattle.connections.specs.Feasibility.{departs_in_time}
+use Rattle.connections.proofs.Sound.{Sound}
+use Rattle.connections.proofs.Feasibility.{departs_in_time}
 use Rattle.query_store.specs.Entries.{arc_count, arc_target}
 use Rattle.query_store.specs.Paths.{arc_path}
 use Rattle.query_store.specs.Granted.{readable_in}

@@ -1,7 +1,9 @@
 -- The key by which connections of one cost are ordered, as the code has it: departure, number of rides, and the numbers
 -- of the rides in an array.
-use Rattle.std.specs.Prelude.{◌≡◌, refl, Bool, true, false, List, ◌∷◌, ℕ, ◌+◌, ◌-◌, ◌*◌, ◌≤◌, ◌<◌, ltb, eqb, length, get_or, take, drop}
-use Rattle.std.proofs.Common.{sym, ap, ◌∙◌, add-one, arith, lt-ltb, le-ltb, eq-eqb, ne_eqb, drop_of_length-le, length-take-le}
+use Rattle.std.specs.Prelude.{◌≡◌, refl, Bool, true, false, List, ◌∷◌, ℕ, ◌+◌, ◌-◌, ◌*◌, ◌≤◌, ◌<◌, ltb, eqb, length}
+use Rattle.std.specs.Prelude.{get_or, take, drop}
+use Rattle.std.proofs.Common.{sym, ap, ◌∙◌, add-one, arith, lt-ltb, le-ltb, eq-eqb, ne_eqb, drop_of_length-le}
+use Rattle.std.proofs.Common.{length-take-le}
 use Rattle.lists.specs.Places.{drop_taken}
 use Rattle.timetable.specs.Timetable.{last_minute}
 use Rattle.lists.specs.Lists.{before}
@@ -32,7 +34,8 @@ module _ (a b : List ℕ) (n i : ℕ) (long-a : n ≤ length a) (long-b : n ≤ 
     pub word_more : get_or b i 0 < get_or a i 0 → false ≡ before (take n a) (take n b)
     word_more l =
         let not_less : ltb (get_or a i 0) (get_or b i 0) ≡ false = le-ltb (get_or a i 0) (get_or b i 0) (omega arith) in
-        let not_same : eqb (get_or a i 0) (get_or b i 0) ≡ false = ne_eqb (get_or a i 0) (get_or b i 0) (λ e. omega arith) in
+        let not_same : eqb (get_or a i 0) (get_or b i 0) ≡ false = ne_eqb (get_or a i 0) (get_or b i 0)
+        (λ e. omega arith) in
         sym (so_far ∙ rw (drop_taken n i a long-a h, drop_taken n i b long-b h, not_less, not_same))
 
     pub word_same : get_or b i 0 ≤ get_or a i 0 → get_or a i 0 ≤ get_or b i 0

@@ -7,9 +7,9 @@ use Rattle.timetable.specs.Words.{timetable_of}
 use Rattle.lists.specs.Lists.{◌∈◌}
 use Rattle.connections.specs.Connections.{net, Connection, stations}
 use Rattle.connections.specs.Planner.{tie_key}
-use Rattle.connections.specs.Sound.{Sound}
+use Rattle.connections.proofs.Sound.{Sound}
 use Rattle.stores.specs.Words.{readable}
-use Rattle.stores.specs.KeptLaws.{kept_exactly}
+use Rattle.stores.proofs.KeptLaws.{kept_exactly}
 use Rattle.query_store.specs.Entries.{arc_count, arc_target}
 use Rattle.query_store.specs.Paths.{arc_path, length_readable}
 use Rattle.query_store.specs.Granted.{readable_in}

@@ -13,7 +13,7 @@ use Rattle.timetable.specs.Words.{timetable_of}
 use Rattle.results.specs.Results.{Cost}
 use Rattle.connections.specs.Connections.{Net, net, Connection, stations}
 use Rattle.connections.specs.Planner.{tie_key}
-use Rattle.connections.specs.Sound.{Sound}
+use Rattle.connections.proofs.Sound.{Sound}
 use Rattle.stores.specs.Words.{readable}
 use Rattle.query_store.specs.Entries.{arc_count, arc_target, arc_before}
 use Rattle.query_store.specs.Paths.{node_path, arc_path, arc_path_lem, length_readable}
@@ -80,7 +80,8 @@ module _ (w s : List ℕ) (a b u m p : ℕ) where
   pub record ArcWon (k : ℕ) (x : Winner) (tried : List ℕ) : Type 0 where
     pub one : Connection
     pub holds : Holds x tried one
-    pub own : (ok : Sound (net (timetable_of w))) → Own (net (timetable_of w)) ok s a u b (cost_of m p) (arc_path s k) one
+    pub own : (ok : Sound (net (timetable_of w))) → Own (net (timetable_of w)) ok s a u b (cost_of m p) (arc_path s k)
+        one
 
   pub record ArcTried (k : ℕ) (x : Winner) (tried : List ℕ) : Type 0 where
     pub arc : x.arc ≡ k

@@ -12,10 +12,10 @@ use Rattle.results.specs.Results.{Cost}
 use Rattle.results.specs.Best.{ByThen}
 use Rattle.connections.specs.Connections.{Net, Connection, Feasible, arrival, penalty, stations}
 use Rattle.connections.specs.Planner.{tie_key}
-use Rattle.connections.specs.Sound.{Sound}
+use Rattle.connections.proofs.Sound.{Sound}
 use Rattle.optimality.specs.Greedy.{Fits}
 use Rattle.stores.specs.Words.{readable, kept_list}
-use Rattle.stores.specs.KeptLaws.{kept_exactly}
+use Rattle.stores.proofs.KeptLaws.{kept_exactly}
 use Rattle.query_minutes.specs.Minutes.{no_points, leads}
 use Rattle.query_minutes.specs.Noted.{Led, led_exactly}
 use Rattle.query_costs.specs.Lowered.{kept}

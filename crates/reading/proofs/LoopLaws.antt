@@ -91,7 +91,8 @@ module _ (r : Rules) (d : Draft) (line : ℕ) where
 
 -- ---- the stations that stand in the array already
 stations_from : (body : List ℕ) (k n : ℕ) → 2 * (k + n) ≤ length body
-    → station_words (map (λ i. record { minutes = get_or body (2 * i) 0; points = get_or body (2 * i + 1) 0 }) (range k n))
+    → station_words (map (λ i. record { minutes = get_or body (2 * i) 0; points = get_or body (2 * i + 1) 0 })
+    (range k n))
     ≡ take (2 * n) (drop (2 * k) body)
 unfolding station_words
 stations_from body k zero h = refl
@@ -324,7 +325,7 @@ module _
         (answers : a ≡ next_of r p (line_at text from end))
         (body-after : body' ≡ body_after r p (line_at text from end) body)
         (starts-after : starts' ≡ starts_after r p (line_at text from end) starts)
-        (walking_after : walking' ≡ walking_after r p (line_at text from end) walking)
+        (walking_is : walking' ≡ walking_after r p (line_at text from end) walking)
         (more : end ≡ length text → ⊥)
       where
         number : ℕ
@@ -441,7 +442,7 @@ module _
               let room = length_walk_words there.walks in
               let place : 4 * p.walks ≡ 0 + length (walk_words there.walks) =
               ap (λ (x : Progress). 4 * x.walks) k.is_progress ∙ omega arith in
-              walking_after
+              walking_is
               ∙ simp (eq-eqb (line_number_at r p (line_at text from end)) 0 accepted_here)
               (rw (k.is_walking, place, walking_grows there (line_at text from end))
               (put_append 0 (length (walk_words there.walks)) (walk_words there.walks)

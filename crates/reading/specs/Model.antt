@@ -27,7 +27,8 @@ use Rattle.reading.specs.declared.Lines.TheVariants.{Accepted as LinesAccepted, 
 
 -- stations whose words an array begins with
 unfoldable pub stations_in : List ℕ → (n : ℕ) → List Station
-stations_in body n = map (λ i. record { minutes = get_or body (2 * i) 0; points = get_or body (2 * i + 1) 0 }) (range 0 n)
+stations_in body n = map (λ i. record { minutes = get_or body (2 * i) 0; points = get_or body (2 * i + 1) 0 })
+    (range 0 n)
 
 -- lines that are read where so many stations stand there already
 abbrev pub read_after : Rules → (body : List ℕ) (n : ℕ) (text : List ℕ) → Outcome

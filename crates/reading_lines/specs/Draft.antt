@@ -1,5 +1,6 @@
 -- A timetable as far as the lines of a text have come, and the questions that document 01 puts to the next line.
-use Rattle.std.specs.Prelude.{Bool, true, false, cond, not, ◌&&◌, ◌||◌, List, [], ◌∷◌, ◌++◌, ℕ, ◌+◌, leb, ltb, eqb, length}
+use Rattle.std.specs.Prelude.{Bool, true, false, cond, not, ◌&&◌, ◌||◌, List, [], ◌∷◌, ◌++◌, ℕ, ◌+◌, leb, ltb, eqb}
+use Rattle.std.specs.Prelude.{length}
 use Rattle.questions.specs.Question.{ask, first_no}
 use Rattle.text.specs.Range.{in_range}
 use Rattle.text_shapes.specs.declared.Line.{Line}

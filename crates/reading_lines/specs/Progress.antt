@@ -1,7 +1,8 @@
 -- What the code knows of a draft: counts, the stations of the walk before, and the station and departure of the stop
 -- before. The questions of Draft can be answered from that alone, as `same_number` shows; no reader of the promise
 -- needs this file.
-use Rattle.std.specs.Prelude.{◌≡◌, refl, Bool, true, false, cond, not, ◌&&◌, ◌||◌, List, [], ◌∷◌, ℕ, suc, ◌+◌, ◌≤◌, leb, ltb, eqb, length}
+use Rattle.std.specs.Prelude.{◌≡◌, refl, Bool, true, false, cond, not, ◌&&◌, ◌||◌, List, [], ◌∷◌, ℕ, suc, ◌+◌, ◌≤◌, leb}
+use Rattle.std.specs.Prelude.{ltb, eqb, length}
 use Rattle.std.proofs.Common.{ap, ◌∙◌}
 use Rattle.std.proofs.Math.Dec.{eqb-suc-zero}
 use Rattle.questions.specs.Question.{ask, first_no}

@@ -47,7 +47,8 @@ module _ (w : List ℕ) (a : ℕ) (work targets : List ℕ) (r : Counts)
     many_fails m (inl h) = rw (lt-leb (length (nodes (sequences w a))) entries_most h)
     many_fails m (inr h) =
         ap (λ t. t && leb (length (store_of w a)) m)
-        (and_false (leb (length (nodes (sequences w a))) entries_most) (leb (length (arcs (sequences w a))) entries_most)
+        (and_false (leb (length (nodes (sequences w a))) entries_most)
+        (leb (length (arcs (sequences w a))) entries_most)
         (lt-leb (length (arcs (sequences w a))) entries_most h))
 
     many : TooMany (sequences w a)

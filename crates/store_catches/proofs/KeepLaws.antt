@@ -209,7 +209,8 @@ module _ (w : List ℕ) (good : is_timetable w ≡ true) (j base begin end : ℕ
     place_inside chained first stands = omega (arith, stands.chain_long)
 
     pub one_kept : (chained first : List ℕ) → Standing w chained first → KeptWalks w j base begin k chained
-        → (f : ℕ) → f ≡ catch_by w (on_foot (walk_at w k)) j → KeptWalks w j base begin (k + 1) (set chained (base + k) f)
+        → (f : ℕ) → f ≡ catch_by w (on_foot (walk_at w k)) j → KeptWalks w j base begin (k + 1)
+        (set chained (base + k) f)
     one_kept chained first stands so_far f is_f = record { is = each }
       where
         each : (i : ℕ) → begin ≤ i → i < k + 1
@@ -320,7 +321,8 @@ module _ (w : List ℕ) (good : is_timetable w ≡ true) (j at end : ℕ) (old n
             in_chain y m =
                 subst (λ l. y ∈ l) (take-append-drop (k + 1) (chain w)) (Memᴰ.append_left (drop (k + 1) (chain w)) m)
 
-pub kept_more : (w : List ℕ) → is_timetable w ≡ true → (n k x at end : ℕ) (old new first : List ℕ) → Standing w old first
+pub kept_more : (w : List ℕ) → is_timetable w ≡ true → (n k x at end : ℕ) (old new first : List ℕ) → Standing w old
+    first
     → n ≡ length (chain w) → k < n → x ≡ get_or old k 0 → 4096 ≤ at → Keeping w (x + 1) at end old new
     → KeptIn w (take k (chain w)) at old → KeptIn w (take (k + 1) (chain w)) end new
 kept_more w good n k x at end old new first stands is-n h is low keeps so_far =
@@ -368,5 +370,6 @@ module _ (w : List ℕ) (chained first : List ℕ) (held : Departures w chained 
   pub kept_inside : (base ≡ 0 → ⊥) → base + k < length chained
   kept_inside h = omega (arith, known.inside k from (some h), held.standing.chain_long)
 
-  pub kept_caught : (base ≡ 0 → ⊥) → (r : ℕ) → r ≡ get_or chained (base + k) 0 → r ≡ catch_by w (on_foot (walk_at w k)) j
+  pub kept_caught : (base ≡ 0 → ⊥) → (r : ℕ) → r ≡ get_or chained (base + k) 0 → r ≡ catch_by w (on_foot (walk_at w k))
+      j
   kept_caught h r e = e ∙ ap (λ b. get_or chained (b + k) 0) is ∙ known.is k from (some h)

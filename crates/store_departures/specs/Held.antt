@@ -1,6 +1,7 @@
 -- The arrays that hold the departures station by station, where each station's begin, what a change there costs, and
 -- what arrivals catch on foot.
-use Rattle.std.specs.Prelude.{◌≡◌, Bool, true, false, List, ℕ, zero, suc, ◌+◌, ◌-◌, ◌≤◌, ◌<◌, length, get_or, take, drop}
+use Rattle.std.specs.Prelude.{◌≡◌, Bool, true, false, List, ℕ, zero, suc, ◌+◌, ◌-◌, ◌≤◌, ◌<◌, length, get_or, take}
+use Rattle.std.specs.Prelude.{drop}
 use Rattle.std.proofs.Common.{sym, ap, subst, ◌∙◌, ltb-false, take-take}
 use mathlib.Core.List.Memᴰ.{head as here}
 use mathlib.Core.List.Memᴰ.{tail as there}

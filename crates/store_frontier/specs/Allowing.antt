@@ -1,6 +1,7 @@
 -- The frontiers of all stations, one after the other. At the start's own station no one is to end, so nothing is low
 -- enough there. Where a stop is closed to alighting, no one is taken to arrive.
-use Rattle.std.specs.Prelude.{◌≡◌, Bool, true, false, not, ◌↔◌, ◌≢◌, List, ℕ, suc, ◌+◌, ◌≤◌, ◌<◌, eqb, length, get_or, set}
+use Rattle.std.specs.Prelude.{◌≡◌, Bool, true, false, not, ◌↔◌, ◌≢◌, List, ℕ, suc, ◌+◌, ◌≤◌, ◌<◌, eqb, length, get_or}
+use Rattle.std.specs.Prelude.{set}
 use Rattle.std.proofs.Math.Path.{refl, ap}
 use Rattle.std.proofs.Common.{sym, subst, ◌∙◌, arith, eq-eqb, ne_eqb, get_or-set_same, get_or-set_other}
 use Rattle.std.proofs.Math.Bool.{cond}
@@ -65,115 +66,117 @@ module _ (w : List ℕ) (a : ℕ) (v : List ℕ) (t : Timely w) where
 
   module _ (arrivals first : List ℕ) (s : Arrivals w arrivals first) (c : ℕ) (some : 1 ≤ c)
       (listed : c ≤ station_count w) (v' v'' : List ℕ) (k : Allowing w a v c v')
-      (f : Fronted w arrivals (get_or first c 0) (get_or first (c + 1) 0) (top_of c a) v' (get_or first (c + 1) 0) v'') where
-    -- where an arrival of the station stands
-    place : (i : ℕ) → Goes w i → station w (suc i) ≡ c → Placed arrivals (get_or first c 0) (get_or first (c + 1) 0) (suc i)
-    place i g h =
-        placed arrivals (get_or first c 0) (get_or first (c + 1) 0) (suc i) (s.rises c some listed)
-        (s.inside c some listed)
-        (subst (λ b. suc i ∈ part arrivals first b) h (s.all i g))
+      (f : Fronted w arrivals (get_or first c 0) (get_or first (c + 1) 0) (top_of c a) v' (get_or first (c + 1) 0) v'')
+    where
+      -- where an arrival of the station stands
+      place : (i : ℕ) → Goes w i → station w (suc i) ≡ c → Placed arrivals (get_or first c 0) (get_or first (c + 1) 0)
+          (suc i)
+      place i g h =
+          placed arrivals (get_or first c 0) (get_or first (c + 1) 0) (suc i) (s.rises c some listed)
+          (s.inside c some listed)
+          (subst (λ b. suc i ∈ part arrivals first b) h (s.all i g))
 
-    same : (i : ℕ) → Goes w i → station w (suc i) ≡ c → get_or v' (suc i) 0 ≡ get_or v (suc i) 0
-    same i g h = k.off i g (omega arith)
+      same : (i : ℕ) → Goes w i → station w (suc i) ≡ c → get_or v' (suc i) 0 ≡ get_or v (suc i) 0
+      same i g h = k.off i g (omega arith)
 
-    module _ (i : ℕ) (g : Goes w i) (h : station w (suc i) ≡ c) where
-      abbrev Here : Type 0
-      Here = Front w arrivals (get_or first c 0) (get_or first (c + 1) 0) (top_of c a) v' (suc i)
+      module _ (i : ℕ) (g : Goes w i) (h : station w (suc i) ≡ c) where
+        abbrev Here : Type 0
+        Here = Front w arrivals (get_or first c 0) (get_or first (c + 1) 0) (top_of c a) v' (suc i)
 
-      -- in place of a place, the arrival that stands there
-      to_frontier : Here → Ahead w a v (suc i)
-      to_frontier e =
+        -- in place of a place, the arrival that stands there
+        to_frontier : Here → Ahead w a v (suc i)
+        to_frontier e =
+            record {
+              elsewhere = (λ z. absurd (omega (arith, e.below, top_here c a (sym h ∙ z))));
+              reached =
+                  elim (ℕ_discrete c a) [
+                    | yes z ↦ absurd (omega (arith, e.below, top_here c a z))
+                    | no z ↦ omega (arith, e.below, top_other c a z, same i g h)
+                  ];
+              least =
+                  (λ j b z late.
+                  let p = place j b (z ∙ h) in
+                  omega (
+                    arith,
+                    e.least p.r p.from p.to (subst (λ m. arrive w m ≤ arrive w (suc i)) p.is late),
+                    ap (λ m. get_or v' m 0) p.is,
+                    same i g h,
+                    same j b (z ∙ h),
+                  ));
+              first =
+                  (λ j b z late.
+                  let p = place j b (z ∙ h) in
+                  omega (
+                    arith,
+                    e.first p.r p.from p.to (subst (λ m. arrive w m < arrive w (suc i)) p.is late),
+                    ap (λ m. get_or v' m 0) p.is,
+                    same i g h,
+                    same j b (z ∙ h),
+                  ));
+            }
+
+        from_frontier : Ahead w a v (suc i) → Here
+        from_frontier e =
+            record {
+              below = omega (arith, e.reached, top_other c a (λ z. e.elsewhere (h ∙ z)), same i g h);
+              least =
+                  (λ r from to late.
+                  let p = arrives_at w arrivals first s c some listed r from to in
+                  let here : station w (suc p.i) ≡ c = ap (station w) p.next ∙ p.here in
+                  omega (
+                    arith,
+                    e.least p.i p.goes (here ∙ sym h)
+                        (subst (λ m. arrive w m ≤ arrive w (suc i)) (sym p.next) late),
+                    ap (λ m. get_or v' m 0) p.next,
+                    same i g h,
+                    same p.i p.goes here,
+                  ));
+              first =
+                  (λ r from to late.
+                  let p = arrives_at w arrivals first s c some listed r from to in
+                  let here : station w (suc p.i) ≡ c = ap (station w) p.next ∙ p.here in
+                  omega (
+                    arith,
+                    e.first p.i p.goes (here ∙ sym h)
+                        (subst (λ m. arrive w m < arrive w (suc i)) (sym p.next) late),
+                    ap (λ m. get_or v' m 0) p.next,
+                    same i g h,
+                    same p.i p.goes here,
+                  ));
+            }
+
+        this_station : (x : ℕ) → (x < get_or v'' (suc i) 0) ↔ (Ahead w a v (suc i) × (x ≤ get_or v (suc i) 0))
+        this_station x =
+            let p = place i g h in
+            let known : (x < get_or v'' (suc i) 0) ↔ (Here × (x ≤ get_or v' (suc i) 0)) =
+            subst
+            (λ m.
+            (x < get_or v'' m 0)
+            ↔ (Front w arrivals (get_or first c 0) (get_or first (c + 1) 0) (top_of c a) v' m × (x ≤ get_or v' m 0)))
+            (sym p.is)
+            (f.at p.r x p.from p.to) in (
+              λ e. let d = known.0 e in (to_frontier d.0, omega (arith, d.1, same i g h)),
+              λ e. known.1 (from_frontier e.0, omega (arith, e.1, same i g h)),
+            )
+
+      other_station : (i : ℕ) → Goes w i → station w (suc i) ≢ c → get_or v'' (suc i) 0 ≡ get_or v' (suc i) 0
+      other_station i g n =
+          f.off (suc i)
+          (λ r from to z.
+          n (ap (station w) z ∙ (arrives_at w arrivals first s c some listed r from to).here))
+
+      pub allowing_more : Allowing w a v (c + 1) v''
+      allowing_more =
           record {
-            elsewhere = (λ z. absurd (omega (arith, e.below, top_here c a (sym h ∙ z))));
-            reached =
-                elim (ℕ_discrete c a) [
-                  | yes z ↦ absurd (omega (arith, e.below, top_here c a z))
-                  | no z ↦ omega (arith, e.below, top_other c a z, same i g h)
-                ];
-            least =
-                (λ j b z late.
-                let p = place j b (z ∙ h) in
-                omega (
-                  arith,
-                  e.least p.r p.from p.to (subst (λ m. arrive w m ≤ arrive w (suc i)) p.is late),
-                  ap (λ m. get_or v' m 0) p.is,
-                  same i g h,
-                  same j b (z ∙ h),
-                ));
-            first =
-                (λ j b z late.
-                let p = place j b (z ∙ h) in
-                omega (
-                  arith,
-                  e.first p.r p.from p.to (subst (λ m. arrive w m < arrive w (suc i)) p.is late),
-                  ap (λ m. get_or v' m 0) p.is,
-                  same i g h,
-                  same j b (z ∙ h),
-                ));
+            at =
+                (λ i x g h.
+                elim (ℕ_discrete (station w (suc i)) c) [
+                  | yes z ↦ this_station i g z x
+                  | no z ↦ rw (other_station i g z) (k.at i x g (omega arith))
+                ]);
+            off = (λ i g h. other_station i g (λ z. omega arith) ∙ k.off i g (omega arith));
+            long = f.long ∙ k.long;
           }
-
-      from_frontier : Ahead w a v (suc i) → Here
-      from_frontier e =
-          record {
-            below = omega (arith, e.reached, top_other c a (λ z. e.elsewhere (h ∙ z)), same i g h);
-            least =
-                (λ r from to late.
-                let p = arrives_at w arrivals first s c some listed r from to in
-                let here : station w (suc p.i) ≡ c = ap (station w) p.next ∙ p.here in
-                omega (
-                  arith,
-                  e.least p.i p.goes (here ∙ sym h)
-                      (subst (λ m. arrive w m ≤ arrive w (suc i)) (sym p.next) late),
-                  ap (λ m. get_or v' m 0) p.next,
-                  same i g h,
-                  same p.i p.goes here,
-                ));
-            first =
-                (λ r from to late.
-                let p = arrives_at w arrivals first s c some listed r from to in
-                let here : station w (suc p.i) ≡ c = ap (station w) p.next ∙ p.here in
-                omega (
-                  arith,
-                  e.first p.i p.goes (here ∙ sym h)
-                      (subst (λ m. arrive w m < arrive w (suc i)) (sym p.next) late),
-                  ap (λ m. get_or v' m 0) p.next,
-                  same i g h,
-                  same p.i p.goes here,
-                ));
-          }
-
-      this_station : (x : ℕ) → (x < get_or v'' (suc i) 0) ↔ (Ahead w a v (suc i) × (x ≤ get_or v (suc i) 0))
-      this_station x =
-          let p = place i g h in
-          let known : (x < get_or v'' (suc i) 0) ↔ (Here × (x ≤ get_or v' (suc i) 0)) =
-          subst
-          (λ m.
-          (x < get_or v'' m 0)
-          ↔ (Front w arrivals (get_or first c 0) (get_or first (c + 1) 0) (top_of c a) v' m × (x ≤ get_or v' m 0)))
-          (sym p.is)
-          (f.at p.r x p.from p.to) in (
-            λ e. let d = known.0 e in (to_frontier d.0, omega (arith, d.1, same i g h)),
-            λ e. known.1 (from_frontier e.0, omega (arith, e.1, same i g h)),
-          )
-
-    other_station : (i : ℕ) → Goes w i → station w (suc i) ≢ c → get_or v'' (suc i) 0 ≡ get_or v' (suc i) 0
-    other_station i g n =
-        f.off (suc i)
-        (λ r from to z.
-        n (ap (station w) z ∙ (arrives_at w arrivals first s c some listed r from to).here))
-
-    pub allowing_more : Allowing w a v (c + 1) v''
-    allowing_more =
-        record {
-          at =
-              (λ i x g h.
-              elim (ℕ_discrete (station w (suc i)) c) [
-                | yes z ↦ this_station i g z x
-                | no z ↦ rw (other_station i g z) (k.at i x g (omega arith))
-              ]);
-          off = (λ i g h. other_station i g (λ z. omega arith) ∙ k.off i g (omega arith));
-          long = f.long ∙ k.long;
-        }
 
 -- ---- stops that are closed to alighting
 -- what is paid on arrival at stop j, by one who may alight there

@@ -212,7 +212,8 @@ module _ (w arrivals : List ℕ) (from end top : ℕ) (v : List ℕ) where
   -- the words at places up to p are those of the frontier, the others as they were
   pub record Fronted (p : ℕ) (v' : List ℕ) : Type 0 where
     pub at : (r x : ℕ) → from ≤ r → r < p
-        → (x < get_or v' (get_or arrivals r 0) 0) ↔ (Front (get_or arrivals r 0) × (x ≤ get_or v (get_or arrivals r 0) 0))
+        → (x < get_or v' (get_or arrivals r 0) 0) ↔ (Front (get_or arrivals r 0) ×
+        (x ≤ get_or v (get_or arrivals r 0) 0))
     pub off : (k : ℕ) → ((r : ℕ) → from ≤ r → r < p → k ≢ get_or arrivals r 0) → get_or v' k 0 ≡ get_or v k 0
     pub long : length v' ≡ length v
 

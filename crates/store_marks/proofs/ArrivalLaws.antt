@@ -15,7 +15,7 @@ use Rattle.timetable.specs.Access.{stations_few}
 use Rattle.timetable.specs.Walks.{FromStation, walks_rise}
 use Rattle.timetable.specs.WalkTo.{stay_at}
 use Rattle.connections.specs.Connections.{on_foot}
-use Rattle.connections.specs.Sound.{Priced as PricedWay}
+use Rattle.connections.proofs.Sound.{Priced as PricedWay}
 use Rattle.store_stops.specs.Stopwise.{station, arrive, change_points, stay, Arrival}
 use Rattle.store_stops.specs.TimelyLaws.{timely}
 use Rattle.store_stops.specs.Ways.{good_way}

@@ -118,7 +118,8 @@ module _ (whole l x : List ℕ) (k end : ℕ) where
         subst (Keeps w a x₀) (sym (fill_done (root_label w d) left h g ∙ is)) (root_keeps w ok x₀ long a d)
 
 pub root_start : (w chain first : List ℕ) → is_timetable w ≡ true → Departures w chain first → (c : ℕ)
-    → c ≤ station_count w → (begin end : ℕ) → begin ≡ get_or first c 0 → end ≡ get_or first (c + 1) 0 → (d : ℕ) (x : List ℕ)
+    → c ≤ station_count w → (begin end : ℕ) → begin ≡ get_or first c 0 → end ≡ get_or first (c + 1) 0 → (d : ℕ)
+    (x : List ℕ)
     → fill (root_label w d) (waiting w c) x ≡ fill (root_label w d) (slice begin end chain) x
 root_start w chain first ok held c listed begin end from to d x =
     ap (λ l. fill (root_label w d) l x) (sym (part w chain first ok held c listed begin end from to))

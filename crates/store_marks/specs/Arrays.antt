@@ -93,7 +93,8 @@ fall_top [] low x g d h i = none i
 fall_top (k ∷ l) low x g d h i =
     go (fall_top l (min low (get_or x k 0)) (set x k (min low (get_or x k 0))) g d.1 (within_set l x k _ h))
   where
-    go : (g ∈ l → get_or (fall (min low (get_or x k 0)) l (set x k (min low (get_or x k 0)))) g 0 ≤ min low (get_or x k 0))
+    go : (g ∈ l → get_or (fall (min low (get_or x k 0)) l (set x k (min low (get_or x k 0)))) g 0 ≤ min low
+        (get_or x k 0))
         → get_or (fall low (k ∷ l) x) g 0 ≤ low
     go ih =
         cons_cases i

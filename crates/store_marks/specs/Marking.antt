@@ -1,7 +1,8 @@
 -- The flags that those raise who ride on from a node's labels are those of the stations where a connection along the
 -- node's changes ends well, and of the changes after which one can still end well. All tests pass the sooner the less
 -- was paid, so the least that a rider can have paid decides.
-use Rattle.std.specs.Prelude.{◌≡◌, Bool, true, false, ◌⊎◌, ◌↔◌, List, [], ◌∷◌, ◌++◌, ℕ, zero, suc, ◌+◌, ◌-◌, ◌≤◌, ◌<◌, ltb, length, set}
+use Rattle.std.specs.Prelude.{◌≡◌, Bool, true, false, ◌⊎◌, ◌↔◌, List, [], ◌∷◌, ◌++◌, ℕ, zero, suc, ◌+◌, ◌-◌, ◌≤◌, ◌<◌}
+use Rattle.std.specs.Prelude.{ltb, length, set}
 use Rattle.std.proofs.Math.Path.{refl, sym, ap, subst}
 use Rattle.std.proofs.Common.{◌∙◌, inl, inr, arith, nltb→le, length-set, get_or-set_same, get_or-set_other}
 use mathlib.Core.List.Memᴰ.{head as here}
@@ -300,7 +301,8 @@ module _ (w : List ℕ) (ok : is_timetable w ≡ true) (a d : ℕ) where
       arcs_marked arcs long =
           subst (Marked 64 (λ k. Ends w a d allowed rev (suc k)) arcs)
           (sym (run_tries (flag_arc w allowed) arc_tries (λ v s. refl) all arcs))
-          (tries_marked 64 (λ k. Ends w a d allowed rev (suc k)) (concat_map arc_tries all) arcs long arc_told arc_raised)
+          (tries_marked 64 (λ k. Ends w a d allowed rev (suc k)) (concat_map arc_tries all) arcs long arc_told
+          arc_raised)
 
       -- ---- kids
       module _ (q : List ℕ) (few : length q ≡ 2048) (bounded : Bounded w allowed d (catch_by w) q) where
@@ -382,7 +384,8 @@ module _ (w : List ℕ) (ok : is_timetable w ≡ true) (a d : ℕ) where
             let b = station w v.stop in
             cons_cases i
             (λ is.
-            slot_told t e v m (stay w b) (here_slot b) (stay_way w ok b (some v m) (listed v m)) refl (stay_slot v m) is)
+            slot_told t e v m (stay w b) (here_slot b) (stay_way w ok b (some v m) (listed v m)) refl (stay_slot v m)
+            is)
             (λ j.
             let r = Memᴰ.of_map (λ k. change_try w q v (on_foot (walk_at w k)) (walk_slot w k)) (walks_from w b) j in
             let k = r.0 in

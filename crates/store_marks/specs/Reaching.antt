@@ -46,7 +46,8 @@ module _ (w : List ℕ) (a d : ℕ) where
   paid_boards (c ∷ rev) g p h = h.catches.catches.boards
 
 -- a stop to which a trip comes back is of the station, and open
-back_there : (w : List ℕ) (j c : ℕ) → comes_back (stop_at w j) c ≡ true → (station w j ≡ c) × T (may_board (stop_at w j))
+back_there : (w : List ℕ) (j c : ℕ) → comes_back (stop_at w j) c ≡ true → (station w j ≡ c) × T
+    (may_board (stop_at w j))
 unfolding comes_back
 back_there w j c e =
     let t = subst T (sym e) tt in (
@@ -158,7 +159,8 @@ module _ (w : List ℕ) (ok : is_timetable w ≡ true) (c : ℕ) (x : List ℕ) 
   unfolding boarding
   boarding_in m b h r clear =
       let few = goes_few w ok (b + m) (r m (omega arith)) in
-      rw (lt-ltb (label_at w x b) unreached h) (visits_in w sure c m (2048 - b) b (label_at w x b) (omega arith) r clear)
+      rw (lt-ltb (label_at w x b) unreached h) (visits_in w sure c m (2048 - b) b (label_at w x b) (omega arith) r
+      clear)
 
   module _ (a d : ℕ) (rev : List Transfer) (labels : Labelled w a d rev c x) where
     label_paid : (i : ℕ) → Goes w i → station w i ≡ c → label_at w x i < unreached → Paid w a d rev i (label_at w x i)

@@ -321,7 +321,8 @@ module _ (w : List ℕ) (ok : is_timetable w ≡ true) where
 
 -- labels at a station are those of its departures
 labelled_same : (w : List ℕ) (a d : ℕ) (rev : List Transfer) (c : ℕ) (x y : List ℕ)
-    → ((g : ℕ) → Goes w g → station w g ≡ c → get_or y g 0 ≡ get_or x g 0) → Labelled w a d rev c x → Labelled w a d rev c y
+    → ((g : ℕ) → Goes w g → station w g ≡ c → get_or y g 0 ≡ get_or x g 0) → Labelled w a d rev c x → Labelled w a d rev
+    c y
 labelled_same w a d rev c x y same labels =
     record {
       attained = λ g boards at h.

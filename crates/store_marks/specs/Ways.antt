@@ -94,7 +94,8 @@ pub record RidesBetween (w : List ℕ) (c y e : ℕ) (x new : List ℕ) : Type 0
   pub is : new ≡ rides_by w c (stays w y e ++ foots w y k) x
 
 pub rides_between : (w : List ℕ) (c y e k : ℕ) (x mid new : List ℕ) → is_timetable w ≡ true → 1 ≤ y
-    → y ≤ station_count w → k ≡ walk_to w y e → mid ≡ rides_by w c (stays w y e) x → new ≡ rides_by w c (foots w y k) mid
+    → y ≤ station_count w → k ≡ walk_to w y e → mid ≡ rides_by w c (stays w y e) x → new ≡ rides_by w c (foots w y k)
+    mid
     → RidesBetween w c y e x new
 rides_between w c y e k x mid new ok some listed found stayed walked =
     record {

@@ -1,7 +1,8 @@
 -- The arrays that the store call prepares: departures and arrivals in their order, and what each arrival catches, as
 -- the later passes rely on them.
 use Rattle.std.specs.Prelude.{◌≡◌, true, List, ℕ, zero, suc, ◌+◌, ◌-◌, ◌≤◌, ◌<◌, length, get_or, take, drop, set}
-use Rattle.std.proofs.Common.{sym, ap, subst, ◌∙◌, add-zero, arith, length-set, length-take, take-take, get_or-set_same, get_or-set_other}
+use Rattle.std.proofs.Common.{sym, ap, subst, ◌∙◌, add-zero, arith, length-set, length-take, take-take, get_or-set_same}
+use Rattle.std.proofs.Common.{get_or-set_other}
 use Rattle.std.proofs.Math.Seq.{slice}
 use Rattle.words.specs.Put.{put, take_put}
 use Rattle.lists.specs.Lists.{◌∈◌, Distinct}

@@ -1,7 +1,10 @@
 -- Flags of some nodes in one array, so many for each node from lo on: of n flags each, flag k of node v stands at
 -- n * (v - lo) and k further.
-use Rattle.std.specs.Prelude.{◌≡◌, refl, Bool, true, ◌⊎◌, ◌↔◌, List, ◌++◌, ℕ, suc, ◌+◌, ◌-◌, ◌*◌, ◌≤◌, ◌<◌, T, ltb, length, get_or, take, drop, replicate}
-use Rattle.std.proofs.Common.{sym, ap, subst, ◌∙◌, inl, inr, mul-suc, mul-le-mul_left, arith, ltb→lt, nltb→le, length-take, length-drop, length-append, length-take-le, get_or-take, get_or-drop, get_or-append-add}
+use Rattle.std.specs.Prelude.{◌≡◌, refl, Bool, true, ◌⊎◌, ◌↔◌, List, ◌++◌, ℕ, suc, ◌+◌, ◌-◌, ◌*◌, ◌≤◌, ◌<◌, T, ltb}
+use Rattle.std.specs.Prelude.{length, get_or, take, drop, replicate}
+use Rattle.std.proofs.Common.{sym, ap, subst, ◌∙◌, inl, inr, mul-suc, mul-le-mul_left, arith, ltb→lt, nltb→le}
+use Rattle.std.proofs.Common.{length-take, length-drop, length-append, length-take-le, get_or-take, get_or-drop}
+use Rattle.std.proofs.Common.{get_or-append-add}
 use Rattle.std.proofs.Math.ListN.{get_or-append}
 use Rattle.lists.specs.Lists.{◌∈◌}
 use Rattle.lists.specs.Tests.{either}

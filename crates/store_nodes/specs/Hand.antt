@@ -1,8 +1,10 @@
 -- Labels at hand. Those of a node stand at the departures of the station where it boards, so that those of several
 -- nodes stand side by side; for each station it is noted whose they are, by one more than the node's number, and behind
 -- the 65 places of stations, one more than its number too, the last node behind which some go on.
-use Rattle.std.specs.Prelude.{◌≡◌, refl, Bool, true, ◌≢◌, ◌⊎◌, List, [], ◌∷◌, ℕ, ◌+◌, ◌≤◌, ◌<◌, max, eqb, ltb, length, get_or, set, replicate}
-use Rattle.std.proofs.Common.{sym, ap, subst, ◌∙◌, inl, inr, arith, eqb-true, ltb→lt, nltb→le, get_or-set_same, get_or-set_other}
+use Rattle.std.specs.Prelude.{◌≡◌, refl, Bool, true, ◌≢◌, ◌⊎◌, List, [], ◌∷◌, ℕ, ◌+◌, ◌≤◌, ◌<◌, max, eqb, ltb, length}
+use Rattle.std.specs.Prelude.{get_or, set, replicate}
+use Rattle.std.proofs.Common.{sym, ap, subst, ◌∙◌, inl, inr, arith, eqb-true, ltb→lt, nltb→le, get_or-set_same}
+use Rattle.std.proofs.Common.{get_or-set_other}
 use Rattle.std.proofs.Math.Decide.{ℕ_discrete}
 use Rattle.lists.specs.Tests.{either}
 use Rattle.timetable.specs.Words.{station_count, is_timetable}

@@ -1,6 +1,7 @@
 -- Flags that were raised by themselves are raised with others, place by place, and on the way it is seen whether there
 -- is one.
-use Rattle.std.specs.Prelude.{◌≡◌, refl, Bool, true, false, cond, ◌⊎◌, ◌↔◌, List, ℕ, ◌+◌, ◌≤◌, ◌<◌, eqb, length, get_or, set}
+use Rattle.std.specs.Prelude.{◌≡◌, refl, Bool, true, false, cond, ◌⊎◌, ◌↔◌, List, ℕ, ◌+◌, ◌≤◌, ◌<◌, eqb, length, get_or}
+use Rattle.std.specs.Prelude.{set}
 use Rattle.std.proofs.Common.{sym, ap, subst, ◌∙◌, inl, inr, arith, eqb-true, ne_eqb, get_or-set_same, get_or-set_other}
 use Rattle.std.proofs.Math.Decide.{ℕ_discrete}
 use Rattle.std.proofs.lemmas.Bool.{eqb-false}
@@ -73,7 +74,8 @@ joining_more i old fresh flags seen seen' f before few long is next =
     at k h =
         elim (ℕ_discrete k i) [
           | yes same ↦
-              subst (λ k. (get_or (set flags i f) k 0 ≡ 1) ↔ ((get_or old k 0 ≡ 1) ⊎ (get_or fresh k 0 ≡ 1))) (sym same) here
+              subst (λ k. (get_or (set flags i f) k 0 ≡ 1) ↔ ((get_or old k 0 ≡ 1) ⊎ (get_or fresh k 0 ≡ 1))) (sym same)
+              here
           | no other ↦
               subst (λ z. (z ≡ 1) ↔ ((get_or old k 0 ≡ 1) ⊎ (get_or fresh k 0 ≡ 1)))
               (sym (get_or-set_other flags i k f 0 other))

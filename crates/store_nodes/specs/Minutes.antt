@@ -13,7 +13,7 @@ use Rattle.stores.specs.Words.{beginnings}
 use Rattle.stores.specs.Sequences.{Even}
 use Rattle.stores.specs.Nodes.{nodes_made_lem}
 use Rattle.stores.specs.Stored.{sequences}
-use Rattle.stores.specs.StoredLaws.{stored_odd}
+use Rattle.stores.proofs.StoredLaws.{stored_odd}
 use Rattle.optimality.specs.Along.{read_back}
 use Rattle.optimality.specs.Ways.{Way}
 use Rattle.optimality.specs.Continuing.{closing_exactly}

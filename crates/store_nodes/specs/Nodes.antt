@@ -8,12 +8,12 @@ use Rattle.lists.specs.Members.{none, cons_cases, concat_map_out}
 use Rattle.lists.specs.Places.{get_d_in}
 use Rattle.timetable.specs.Words.{is_timetable}
 use Rattle.connections.specs.Connections.{Transfer, Connection, direct, onward, stations}
-use Rattle.connections.specs.OptimalLaws.{boarded_at, boarded_distinct}
+use Rattle.connections.proofs.OptimalLaws.{boarded_at, boarded_distinct}
 use Rattle.stores.specs.Words.{beginnings, final, nodes}
 use Rattle.stores.specs.Sequences.{Even, begin_even}
 use Rattle.stores.specs.Nodes.{node_out}
 use Rattle.stores.specs.Stored.{sequences}
-use Rattle.stores.specs.StoredLaws.{stored_out, stored_odd, sequence_is}
+use Rattle.stores.proofs.StoredLaws.{stored_out, stored_odd, sequence_is}
 use Rattle.store_stops.specs.RideStops.{net_of, spelled_sound}
 use Rattle.store_marks.specs.Reaching.{boards_at}
 use Rattle.store_tree.specs.Tree.{changing, rooted, node_at}
@@ -102,6 +102,7 @@ module _ (w : List ℕ) (yes : is_timetable w ≡ true) (a : ℕ) where
   pub sequenced : (v : ℕ) → v < length (rooted (sequences w a)) → Sequenced a (node_at (sequences w a) v)
   sequenced v h =
       cons_cases
-      (subst (λ l. node_at (sequences w a) v ∈ l) (root_first (sequences w a)) (get_d_in (rooted (sequences w a)) v [] h))
+      (subst (λ l. node_at (sequences w a) v ∈ l) (root_first (sequences w a))
+      (get_d_in (rooted (sequences w a)) v [] h))
       (λ e. subst (Sequenced a) (sym e) (record { apart = (none, tt) }))
       (λ m. node (node_at (sequences w a) v) m)

@@ -105,7 +105,8 @@ module _ (w : List ℕ) (yes : is_timetable w ≡ true) (a : ℕ) (work : List �
 
   -- the change of a node leads elsewhere than the parent boards
   pub node_onward : (u : ℕ) → u ≤ s.n → 1 ≤ u
-      → Onward w (boards_at a (backwards (node_at (sequences w a) (parent_in (get_or work u 0))))) (slot_in (get_or work u 0))
+      → Onward w (boards_at a (backwards (node_at (sequences w a) (parent_in (get_or work u 0)))))
+      (slot_in (get_or work u 0))
   node_onward u h some =
       let made = stored_made w yes a in
       let p = parent_in (get_or work u 0) in

@@ -63,7 +63,8 @@ module _ (w : List ℕ) (c j u : ℕ) where
     change_fits x h e cheap = omega (arith, held.priced.price c some few)
 
     pub all_open : (caught : List ℕ) (f x sum : ℕ) (q q' q'' : List ℕ) → is_timetable w ≡ true → station w j ≡ c
-        → get_or caught j 0 ≡ catch_by w (stay w c) j → f ≡ get_or caught j 0 → x ≡ get_or first (66 + c) 0 → sum ≡ u + x
+        → get_or caught j 0 ≡ catch_by w (stay w c) j → f ≡ get_or caught j 0 → x ≡ get_or first (66 + c) 0 → sum ≡ u +
+        x
         → q' ≡ lowered f sum q → Offering w j u (WalkTo w c (walks_to w c)) q' q'' → Offering w j u (Open w j) q q''
     all_open caught f x sum q q' q'' accepted here catches reads price adds lowers walks =
         let costs = price ∙ held.priced.price c some few in

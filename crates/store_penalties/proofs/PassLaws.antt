@@ -52,5 +52,6 @@ module _ (w deps caught : List ℕ) (arranged : Arranged w deps caught) where
         settles w a d v q low arranged.ordered
         (subst (λ l. Swept w a d l v q low) (take_all x (departures w) (omega arith)) s)
 
-pub in_time_lem : (w deps : List ℕ) (d begin n x : ℕ) → InTime w deps d begin n → begin ≤ x → x < n → d ≤ minute_at w deps x
+pub in_time_lem : (w deps : List ℕ) (d begin n x : ℕ) → InTime w deps d begin n → begin ≤ x → x < n → d ≤ minute_at w
+    deps x
 in_time_lem w deps d begin n x late h g = late.each x h g

@@ -139,7 +139,8 @@ module _ (w : List ℕ) (yes : is_timetable w ≡ true) (y : ℕ) (high : y ≤ 
         side_slots w false y (sym is-first i) (sym is-end i)
         ++ ((y - 1) ∷ side_slots w true y (sym is-first i) (sym is-end i))
 
-    long : length (slots_from w y) ≡ length (side_slots w false y first end) + (1 + length (side_slots w true y first end))
+    long : length (slots_from w y) ≡ length (side_slots w false y first end) +
+        (1 + length (side_slots w true y first end))
     long =
         omega (
           arith,

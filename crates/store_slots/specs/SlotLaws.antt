@@ -24,7 +24,7 @@ use Rattle.timetable.specs.Check.{length_stations}
 use Rattle.timetable.specs.Walks.{FromStation, walks_few, walks_rise, good_walk, walk_place_lem, walk_from, walk_rises}
 use Rattle.timetable.specs.Walks.{walk_out}
 use Rattle.connections.specs.Connections.{Change, Transfer, transfer, on_foot, changes_of}
-use Rattle.connections.specs.RideLaws.{changes_out}
+use Rattle.connections.proofs.RideLaws.{changes_out}
 use Rattle.store_slots.specs.Slots.{slots_most, here_slot, walk_slot, transfer_at, walks_from, slots_from, slots}
 
 -- pairs compared by the station alighted at, then the one boarded at
@@ -103,7 +103,8 @@ module _ (w : List ℕ) where
       (lt-ltb (y - 1) 64 low)
       ∙ λ i. record { alighted = same i; boarded = same i }
 
-  pub walk_stands_lem : (k : ℕ) → transfer_at w (64 + k) ≡ record { alighted = (walk_at w k).from; boarded = (walk_at w k).to }
+  pub walk_stands_lem : (k : ℕ) → transfer_at w (64 + k) ≡ record
+      { alighted = (walk_at w k).from; boarded = (walk_at w k).to }
   unfolding transfer_at
   walk_stands_lem k =
       let far : 64 ≤ 64 + k = omega arith in

@@ -87,7 +87,12 @@ module _ (w : List ℕ) (yes : is_timetable w ≡ true) (a d : ℕ) (v : List �
 
       is : p ≡ get_or v (suc i) 0
       is =
-          omega (arith, low, f.least (arrive w (suc i)) (get_or v (suc i) 0) (reaches i g alights reached) (omega arith))
+          omega (
+            arith,
+            low,
+            f.least (arrive w (suc i)) (get_or v (suc i) 0) (reaches i g alights reached)
+                (omega arith),
+          )
 
       -- what v has elsewhere at this station is that of someone who arrives, or is larger than any
       compare : (k : ℕ) → Goes w k → Alights w (suc k) → station w (suc k) ≡ station w (suc i) → {G : Type 0}

@@ -9,8 +9,8 @@ use Rattle.timetable.specs.Words.{stop_at, is_timetable}
 use Rattle.connections.specs.Rides.{may_board}
 use Rattle.connections.specs.Connections.{Change, Transfer, transfer, Net, Connection, direct, onward, Feasible}
 use Rattle.connections.specs.Connections.{ready, arrival, penalty, stations}
-use Rattle.connections.specs.Feasibility.{earlier, has_stations}
-use Rattle.connections.specs.Sound.{Sound}
+use Rattle.connections.proofs.Feasibility.{earlier, has_stations}
+use Rattle.connections.proofs.Sound.{Sound}
 use Rattle.optimality.specs.Along.{read_back, Along, Ends, Frontier}
 use Rattle.optimality.specs.AlongLaws.{boarded, changed, join}
 use Rattle.optimality.specs.Frontiers.{arrives}

@@ -14,8 +14,8 @@ use Rattle.lists.specs.Lists.{◌∈◌}
 use Rattle.lists.specs.Tests.{either}
 use Rattle.connections.specs.Rides.{Ride, no_stop, ride_points, ride_in, may_board}
 use Rattle.connections.specs.Connections.{Change, Net, net, Changes, ready}
-use Rattle.connections.specs.RideLaws.{rides_in, rides_out, board_alike, alight_alike, points_split, points_more}
-use Rattle.connections.specs.Sound.{Sound, sound}
+use Rattle.connections.proofs.RideLaws.{rides_in, rides_out, board_alike, alight_alike, points_split, points_more}
+use Rattle.connections.proofs.Sound.{Sound, sound}
 use Rattle.store_stops.specs.Stopwise.{
   station,
   arrive,

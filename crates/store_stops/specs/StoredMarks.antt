@@ -7,10 +7,10 @@ use Rattle.lists.specs.Lists.{◌∈◌}
 use Rattle.connections.specs.Connections.{Net, Connection, direct, onward, Boards, Feasible, ready, departure}
 use Rattle.connections.specs.Connections.{stations}
 use Rattle.connections.specs.Rides.{Ride}
-use Rattle.connections.specs.Sound.{Sound}
-use Rattle.connections.specs.OptimalLaws.{optimal_own_minute}
+use Rattle.connections.proofs.Sound.{Sound}
+use Rattle.connections.proofs.OptimalLaws.{optimal_own_minute}
 use Rattle.stores.specs.Stored.{stored}
-use Rattle.stores.specs.StoredLaws.{sequence_is, stored_in, stored_out}
+use Rattle.stores.proofs.StoredLaws.{sequence_is, stored_in, stored_out}
 use Rattle.optimality.specs.Ways.{Way}
 use Rattle.store_stops.specs.Stopwise.{station, depart, Goes}
 use Rattle.store_stops.specs.Settled.{Timely}

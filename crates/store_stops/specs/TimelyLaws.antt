@@ -12,7 +12,7 @@ use Rattle.timetable.specs.Check.{length_stations, length_trips}
 use Rattle.timetable.specs.Access.{trip_is, trip_long, stop_is, spelled_valid, start_most, trip_stops_lem}
 use Rattle.timetable.specs.Access.{stops_few}
 use Rattle.connections.specs.Rides.{no_stop}
-use Rattle.connections.specs.Sound.{valid_trip_lem, trips_valid_lem}
+use Rattle.connections.proofs.Sound.{valid_trip_lem, trips_valid_lem}
 use Rattle.store_stops.specs.Stopwise.{arrive, depart, stay, Goes}
 use Rattle.store_stops.specs.Settled.{Timely}
 use Rattle.store_stops.specs.Ways.{stay_way, good_way}

@@ -9,8 +9,8 @@ use Rattle.timetable.specs.Access.{station_is, spelled_valid}
 use Rattle.timetable.specs.Walks.{FromStation, walks_rise, walk_place_lem, walk_from, walk_in_lem, walk_out}
 use Rattle.timetable.specs.WalkTo.{Replaced, Kept, stays}
 use Rattle.connections.specs.Connections.{Change, no_station, change_at, on_foot}
-use Rattle.connections.specs.RideLaws.{Own, changes_in, walks_in_lem, changes_out}
-use Rattle.connections.specs.Sound.{Priced, change_priced}
+use Rattle.connections.proofs.RideLaws.{Own, changes_in, walks_in_lem, changes_out}
+use Rattle.connections.proofs.Sound.{Priced, change_priced}
 use Rattle.store_stops.specs.Stopwise.{stay, ways_of}
 
 -- a change at station c that takes and costs what it says

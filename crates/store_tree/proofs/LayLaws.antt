@@ -50,7 +50,8 @@ module _
           k
           (entries_more t w v (suc n) (omega arith))
 
-      pub node_more : 1 ≤ v → (a b p s : ℕ) (out' : List ℕ) → s ≡ slot_in (get_or w v 0) → a ≡ (transfer_at t s).alighted
+      pub node_more : 1 ≤ v → (a b p s : ℕ) (out' : List ℕ) → s ≡ slot_in (get_or w v 0) → a ≡
+          (transfer_at t s).alighted
           → b ≡ (transfer_at t s).boarded → p ≡ parent_in (get_or w v 0)
           → out' ≡ put (3 * v - 1) (a ∷ b ∷ p ∷ []) out
           → Writing (entries_to t w 1 (suc n)) (entries_to t w (v + 1) (suc n)) old out' 2 (3 * (v + 1) - 1)
@@ -87,20 +88,21 @@ module _
 
 -- the slot of a node is one of the timetable's
 module _ (t w : List ℕ) (n v s : ℕ) (spelled : is_timetable t ≡ true)
-    (listed : (v : ℕ) → v ≤ n → slot_in (get_or w v 0) ∈ slots t) (h : v < n + 1) (is : s ≡ slot_in (get_or w v 0)) where
-  in_slots : s ∈ slots t
-  in_slots = subst (λ s. s ∈ slots t) (sym is) (listed v (omega arith))
+    (listed : (v : ℕ) → v ≤ n → slot_in (get_or w v 0) ∈ slots t) (h : v < n + 1) (is : s ≡ slot_in (get_or w v 0))
+  where
+    in_slots : s ∈ slots t
+    in_slots = subst (λ s. s ∈ slots t) (sym is) (listed v (omega arith))
 
-  pub node_small : s < 320
-  node_small = slot_small t spelled s in_slots
+    pub node_small : s < 320
+    node_small = slot_small t spelled s in_slots
 
-  pub alighted_small : (a : ℕ) → a ≡ (transfer_at t s).alighted → a < 65536
-  alighted_small a e =
-      omega (arith, (slot_stations t spelled s in_slots).alighted_last, stations_few t spelled)
+    pub alighted_small : (a : ℕ) → a ≡ (transfer_at t s).alighted → a < 65536
+    alighted_small a e =
+        omega (arith, (slot_stations t spelled s in_slots).alighted_last, stations_few t spelled)
 
-  pub boarded_small : (b : ℕ) → b ≡ (transfer_at t s).boarded → b < 65536
-  boarded_small b e =
-      omega (arith, (slot_stations t spelled s in_slots).boarded_last, stations_few t spelled)
+    pub boarded_small : (b : ℕ) → b ≡ (transfer_at t s).boarded → b < 65536
+    boarded_small b e =
+        omega (arith, (slot_stations t spelled s in_slots).boarded_last, stations_few t spelled)
 
 -- ---- one target
 module _ (target b v at : ℕ) (old : List ℕ) where
@@ -185,7 +187,8 @@ module _
 
       pub to_more : (out' : List ℕ) (here' : ℕ) → out' ≡ put here (hits_to ts b v i (i + c)) out
           → here' ≡ here + length (hits_to ts b v i (i + c))
-          → Writing (node_hits w ts b 0 0 (suc n)) (node_hits w ts b (i + c) (v + 1) (suc n - (v + 1))) old out' at here'
+          → Writing (node_hits w ts b 0 0 (suc n)) (node_hits w ts b (i + c) (v + 1) (suc n - (v + 1))) old out' at
+          here'
       to_more =
           writing_more
           (node_hits w ts b 0 0 (suc n))

@@ -240,7 +240,8 @@ module _
       pub kid_more : (out' : List ℕ) (here' : ℕ)
           → out' ≡ put here (kid_words v (marked (get_or flags (get_or list j 0) 0) (get_or list j 0))) out
           → here' ≡ here + length (marked (get_or flags (get_or list j 0) 0) (get_or list j 0))
-          → Writing (kid_words v (slot_marks flags list)) (kid_words v (slot_marks flags (drop (j + 1) list))) old out' at
+          → Writing (kid_words v (slot_marks flags list)) (kid_words v (slot_marks flags (drop (j + 1) list))) old out'
+          at
           here'
       kid_more out' here' e f =
           writing_more

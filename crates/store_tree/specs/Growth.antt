@@ -1,7 +1,9 @@
 -- How the tree grows: it begins with its root, and taking a node adds its kids and arcs. What does not fit then does
 -- not fit a store.
-use Rattle.std.specs.Prelude.{◌≡◌, refl, true, cond, ◌≢◌, ℕ, zero, suc, ◌+◌, ◌-◌, ◌*◌, ◌≤◌, ◌<◌, ltb, length, take, drop, set}
-use Rattle.std.proofs.Common.{sym, subst, ◌∙◌, inl, inr, add-one, arith, lt-ltb, le-ltb, ltb→lt, nltb→le, length-set, take-append-drop, get_or-set_same, get_or-set_other}
+use Rattle.std.specs.Prelude.{◌≡◌, refl, true, cond, ◌≢◌, ℕ, zero, suc, ◌+◌, ◌-◌, ◌*◌, ◌≤◌, ◌<◌, ltb, length, take}
+use Rattle.std.specs.Prelude.{drop, set}
+use Rattle.std.proofs.Common.{sym, subst, ◌∙◌, inl, inr, add-one, arith, lt-ltb, le-ltb, ltb→lt, nltb→le, length-set}
+use Rattle.std.proofs.Common.{take-append-drop, get_or-set_same, get_or-set_other}
 use Rattle.std.proofs.Math.Path.{ap}
 use mathlib.Core.List.{List, [], ◌∷◌, ◌++◌, map}
 use Rattle.std.proofs.Math.Decide.{ℕ_discrete}

@@ -22,7 +22,8 @@ module _ {A B : Type 0} (f : A → List B) where
       ∙ ap (λ x. concat_map f (take v l) ++ x) (append-nil (f (get_or l v d)))
 
 module _ {A B : Type 0} where
-  pub get_d_map : (g : A → B) (l : List A) (i : ℕ) (d : A) (e : B) → i < length l → get_or (map g l) i e ≡ g (get_or l i d)
+  pub get_d_map : (g : A → B) (l : List A) (i : ℕ) (d : A) (e : B) → i < length l → get_or (map g l) i e ≡ g
+      (get_or l i d)
   get_d_map g [] i d e h = absurd (omega arith)
   get_d_map g (x ∷ l) zero d e h = refl
   get_d_map g (x ∷ l) (suc i) d e h = get_d_map g l i d e (omega arith)

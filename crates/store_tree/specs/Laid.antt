@@ -2,7 +2,8 @@
 -- and then for each station the nodes with an arc to it. Once all nodes are taken they are the words of the store.
 use Rattle.std.specs.Prelude.{◌≡◌, Bool, true, false, cond, ◌≢◌, eqb, get_or}
 use Rattle.std.proofs.Math.Path.{refl, sym, ap}
-use Rattle.std.proofs.Common.{◌∙◌, add-zero, zero-add, add-one, eq-eqb, ne_eqb, take-append-drop, get_or-drop, drop-drop}
+use Rattle.std.proofs.Common.{◌∙◌, add-zero, zero-add, add-one, eq-eqb, ne_eqb, take-append-drop, get_or-drop}
+use Rattle.std.proofs.Common.{drop-drop}
 use mathlib.Core.List.Memᴰ.{head as here}
 use mathlib.Core.List.{List, [], ◌∷◌, ◌++◌, map, append_assoc, append-nil}
 use mathlib.Core.List.Memᴰ.{tail as there}
@@ -235,7 +236,8 @@ module _
         ∙ arcs_counted ps t made
         ∙ sym (grown_arcs t ps made source w ts n m g)
 
-    arcs_to_lem : (b : ℕ) → 1 ≤ b → b ≤ station_count t → node_hits w ts b 0 0 (suc n) ≡ flat (arcs_to ps b 0 (rooted ps))
+    arcs_to_lem : (b : ℕ) → 1 ≤ b → b ≤ station_count t → node_hits w ts b 0 0 (suc n) ≡ flat
+        (arcs_to ps b 0 (rooted ps))
     arcs_to_lem b low high =
         ap (node_hits w ts b 0 0) (sym long)
         ∙ hits_nodes ps w ts b low (omega (arith, high, stations_few t made.timetable)) 0 0 (rooted ps) (drop m ts)
@@ -256,7 +258,8 @@ module _
         ∙ sym (flat_concat (λ b. arcs_to ps b 0 (rooted ps)) (range 1 k))
         ∙ ap flat (arc_order ps k made.odd made.within)
 
-    entry_at_lem : (j : ℕ) → j < length (nodes ps) → entry_at t w (1 + j) ≡ node_entry (nodes ps) (get_or (nodes ps) j [])
+    entry_at_lem : (j : ℕ) → j < length (nodes ps) → entry_at t w (1 + j) ≡ node_entry (nodes ps)
+        (get_or (nodes ps) j [])
     unfolding rooted
     entry_at_lem j h =
         let near : 1 + j ≡ suc j = omega arith in

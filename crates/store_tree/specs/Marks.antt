@@ -1,6 +1,7 @@
 -- The stations that flags mark, rising, and the slots that flags mark, in their order: where the flags tell of a node
 -- which arcs or kids it has, they are its arcs or kids.
-use Rattle.std.specs.Prelude.{◌≡◌, refl, Bool, true, false, List, [], ◌∷◌, ◌++◌, map, ℕ, suc, ◌+◌, ◌<◌, T, eqb, length, get_or, drop}
+use Rattle.std.specs.Prelude.{◌≡◌, refl, Bool, true, false, List, [], ◌∷◌, ◌++◌, map, ℕ, suc, ◌+◌, ◌<◌, T, eqb, length}
+use Rattle.std.specs.Prelude.{get_or, drop}
 use Rattle.std.proofs.Math.Path.{ap}
 use Rattle.std.proofs.Common.{subst, ◌∙◌, add-zero, add-one, arith, eq-eqb, ne_eqb, drop-cons}
 use mathlib.Core.List.Memᴰ.{head as here}
@@ -52,7 +53,8 @@ unfolding marks_from
 marks_none b = refl
 
 pub marks_more : (flags : List ℕ) (j : ℕ) → j < length flags
-    → marks_from (j + 1) (drop j flags) ≡ marked (get_or flags j 0) (j + 1) ++ marks_from (j + 1 + 1) (drop (j + 1) flags)
+    → marks_from (j + 1) (drop j flags) ≡ marked (get_or flags j 0) (j + 1) ++ marks_from (j + 1 + 1)
+    (drop (j + 1) flags)
 unfolding marks_from
 marks_more flags j h = rw (drop-cons flags j 0 h, add-one (j + 1), add-one j)
 
@@ -61,7 +63,8 @@ unfolding slot_marks
 slots_none flags = refl
 
 pub slots_more : (flags l : List ℕ) (j : ℕ) → j < length l
-    → slot_marks flags (drop j l) ≡ marked (get_or flags (get_or l j 0) 0) (get_or l j 0) ++ slot_marks flags (drop (j + 1) l)
+    → slot_marks flags (drop j l) ≡ marked (get_or flags (get_or l j 0) 0) (get_or l j 0) ++ slot_marks flags
+    (drop (j + 1) l)
 unfolding slot_marks
 slots_more flags l j h = rw (drop-cons l j 0 h, add-one j)
 

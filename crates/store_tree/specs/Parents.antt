@@ -67,7 +67,8 @@ module _ (ps : List (List ℕ)) (v : ℕ) (h : suc v < length (rooted ps)) where
       ends (x ∷ y ∷ q) h o = refl
 
   pub parent_and_change : (source : ℕ)
-      → changing (node_at ps (place (front (front (node_at ps (suc v)))) (rooted ps))) (last_of source (node_at ps (suc v)))
+      → changing (node_at ps (place (front (front (node_at ps (suc v)))) (rooted ps)))
+      (last_of source (node_at ps (suc v)))
       ≡ node_at ps (suc v)
   parent_and_change source =
       (λ i. changing (parent_at i) (last_is source i))

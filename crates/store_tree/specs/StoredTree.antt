@@ -8,10 +8,10 @@ use Rattle.timetable.specs.Check.{length_stations}
 use Rattle.timetable.specs.Access.{spelled_valid}
 use Rattle.connections.specs.Connections.{Net, net, Connection, direct, onward, ready, Feasible}
 use Rattle.connections.specs.Connections.{stations}
-use Rattle.connections.specs.Sound.{Sound, sound}
-use Rattle.connections.specs.Feasibility.{stations_listed}
+use Rattle.connections.proofs.Sound.{Sound, sound}
+use Rattle.connections.proofs.Feasibility.{stations_listed}
 use Rattle.stores.specs.Stored.{sequences}
-use Rattle.stores.specs.StoredLaws.{stored_out, stored_odd, sequence_is}
+use Rattle.stores.proofs.StoredLaws.{stored_out, stored_odd, sequence_is}
 use Rattle.store_slots.specs.SlotLaws.{way_slot}
 use Rattle.store_tree.specs.Tree.{Slotted, Made}
 

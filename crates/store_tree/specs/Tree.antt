@@ -3,7 +3,8 @@
 -- it a node. A change is told by its slot. Nodes are taken in the order of their numbers, and the kids of each get the
 -- next numbers, in the order of the slots: by the station alighted at, then the one boarded at. The reader needs this
 -- file and Taking: Numbering shows that these are the numbers of the store's nodes, and Growth what taking a node does.
-use Rattle.std.specs.Prelude.{◌≡◌, Bool, true, cond, ◌⊎◌, List, [], ◌∷◌, ◌++◌, map, ℕ, suc, ◌+◌, ◌*◌, ◌/◌, ◌%◌, ◌≤◌, ◌<◌, T, ltb, length, get_or, take}
+use Rattle.std.specs.Prelude.{◌≡◌, Bool, true, cond, ◌⊎◌, List, [], ◌∷◌, ◌++◌, map, ℕ, suc, ◌+◌, ◌*◌, ◌/◌, ◌%◌, ◌≤◌}
+use Rattle.std.specs.Prelude.{◌<◌, T, ltb, length, get_or, take}
 use Rattle.timetable.specs.Timetable.{stations_most}
 use Rattle.timetable.specs.Words.{station_count, is_timetable}
 use Rattle.lists.specs.Lists.{◌∈◌, filter, any, concat_map, range, same}

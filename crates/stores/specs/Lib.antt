@@ -4,7 +4,4 @@ pub mod Worked
 pub mod Sequences
 pub mod Nodes
 pub mod RoundTrip
-pub mod WellMade
-pub mod StoredLaws
-pub mod KeptLaws
 pub mod WithoutWalks

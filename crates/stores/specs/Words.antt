@@ -3,7 +3,8 @@
 -- station, predecessor. Parent and predecessor are 0 for the root (the source) or a prefix node's number from 1."
 -- Document 02, One: "prefix nodes hold both (alighted, boarded, parent, so a store has 2 + 3n + 2m words ..)". A
 -- sequence names for each change the station alighted at and the one boarded at, then the target.
-use Rattle.std.specs.Prelude.{Bool, true, false, not, ◌&&◌, List, [], ◌∷◌, ◌++◌, map, ℕ, zero, suc, ◌+◌, ◌*◌, leb, ltb, length, get_or, drop}
+use Rattle.std.specs.Prelude.{Bool, true, false, not, ◌&&◌, List, [], ◌∷◌, ◌++◌, map, ℕ, zero, suc, ◌+◌, ◌*◌, leb, ltb}
+use Rattle.std.specs.Prelude.{length, get_or, drop}
 use Rattle.lists.specs.Lists.{filter, any, concat_map, before, same, sort, tail}
 use Rattle.connections.specs.Connections.{Net, Connection, stations}
 use Rattle.connections.specs.Planner.{planner_list, rows_of}
@@ -119,7 +120,8 @@ nodes_made count node (three ∷ rest) =
 -- "stations listed, [..] predecessor at most n", of so many stations and n nodes
 abbrev pub arcs_made : (count n : ℕ) → List (List ℕ) → Bool
 arcs_made count n [] = true
-arcs_made count n (pair ∷ rest) = is_station count (get_or pair 0 0) && leb (get_or pair 1 0) n && arcs_made count n rest
+arcs_made count n (pair ∷ rest) = is_station count (get_or pair 0 0) && leb (get_or pair 1 0) n && arcs_made count n
+    rest
 
 -- "arcs strictly rising"
 abbrev pub arcs_rise : List (List ℕ) → Bool

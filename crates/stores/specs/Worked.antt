@@ -33,7 +33,8 @@ unfolding variant rides_of may_board may_alight ride_points changes_of planner_l
 case_i = refl
 
 pub case_j : answer (net M) (0 ∷ 1 ∷ 3 ∷ 0 ∷ []) 1 470 3 ≡ one_ride 90 0 1 1 3 ∷ []
-unfolding M variant rides_of may_board may_alight ride_points changes_of planner_list connections entries result dominates
+unfolding M variant rides_of may_board may_alight ride_points changes_of planner_list connections entries result
+    dominates
     equal rows_of tie_key answer kept_list readable
 case_j = refl
 

@@ -36,7 +36,8 @@ module _
         let zero-long : piece_length mark (drop i s) ≡ 0 = rw none in
         omega arith
 
-    pub piece_found : i ≤ length s → (i ≡ length s → ⊥) → get_or s i 0 ≡ mark → i ≡ from + piece_length mark (drop from s)
+    pub piece_found : i ≤ length s → (i ≡ length s → ⊥) → get_or s i 0 ≡ mark → i ≡ from + piece_length mark
+        (drop from s)
     unfolding piece_length
     piece_found h g e =
         let zero-long : piece_length mark (drop i s) ≡ 0 =

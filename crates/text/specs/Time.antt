@@ -57,7 +57,8 @@ module _ (f : List ℕ) where
 
   module _ (some : length f ≡ 0 → ⊥) where
     by_form : (form : Bool) → is_time f ≡ form → time_value f
-        ≡ cond form (minute_of (pair_value (get_or f 0 0) (get_or f 1 0)) (pair_value (get_or f 3 0) (get_or f 4 0))) no_number
+        ≡ cond form (minute_of (pair_value (get_or f 0 0) (get_or f 1 0)) (pair_value (get_or f 3 0) (get_or f 4 0)))
+        no_number
     unfolding time_value
     by_form form e = rw (ne_eqb (length f) 0 some, e)
 

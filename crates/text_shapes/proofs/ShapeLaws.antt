@@ -101,7 +101,8 @@ module _ (line values old : List ℕ) (count : ℕ)
         sym (walk_kind e ∙ simp (ne_eqb (length fields) 4 other))
 
     pub walk_shape_lem : kind ≡ 87 → count ≡ 4 → (r : Line)
-        → r ≡ walk_of (get_or values 0 0) (get_or values 1 0) (get_or values 2 0) (get_or values 3 0) → r ≡ shape_of line
+        → r ≡ walk_of (get_or values 0 0) (get_or values 1 0) (get_or values 2 0) (get_or values 3 0) → r ≡ shape_of
+        line
     unfolding walk_shape
     walk_shape_lem e n r h =
         let four : length fields ≡ 4 = omega (arith, counted_fields) in
@@ -117,7 +118,8 @@ module _ (line values old : List ℕ) (count : ℕ)
         sym (stop_kind e ∙ simp (ne_eqb (length fields) 7 other))
 
     pub stop_shape_lem : kind ≡ 84 → count ≡ 7 → (r : Line)
-        → r ≡ stop_of (get_or values 0 0) (get_or values 1 0) (get_or values 2 0) (get_or values 3 0) (get_or values 4 0)
+        → r ≡ stop_of (get_or values 0 0) (get_or values 1 0) (get_or values 2 0) (get_or values 3 0)
+        (get_or values 4 0)
         (get_or values 5 0) (get_or values 6 0)
         → r ≡ shape_of line
     unfolding stop_shape

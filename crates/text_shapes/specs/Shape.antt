@@ -121,7 +121,8 @@ module _ (from to minutes points : ℕ) where
             simp (le-leb from 9999 f, le-leb to 9999 t, le-leb minutes 9999 m, lt-leb points 9999 h)
 
         pub walk_shaped : points ≤ 9999
-            → Walk (record { from = from; to = to; minutes = minutes; points = points }) ≡ walk_of from to minutes points
+            → Walk (record { from = from; to = to; minutes = minutes; points = points }) ≡ walk_of from to minutes
+            points
         unfolding walk_of
         walk_shaped h = simp (le-leb from 9999 f, le-leb to 9999 t, le-leb minutes 9999 m, le-leb points 9999 h)
 

@@ -123,7 +123,8 @@ module _ (n : ℕ) (d : Walk) where
       go false h = omega arith
 
   -- they are the first
-  count_in : (l : List Walk) (k y : ℕ) → valid_walks n l ≡ true → k < length l → (get_or l k d).from ≤ y → k < count_to l y
+  count_in : (l : List Walk) (k y : ℕ) → valid_walks n l ≡ true → k < length l → (get_or l k d).from ≤ y → k < count_to
+      l y
   unfolding count_to
   count_in [] k y e h g = absurd (omega arith)
   count_in (w ∷ l) zero y e h g = go (leb w.from y) refl

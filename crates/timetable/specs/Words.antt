@@ -2,7 +2,8 @@
 -- depart, ride penalty and mark of each stop, trip by trip; the place of each trip's first stop among all stops, and N;
 -- the number of each trip; how many walks there are from no station, from stations up to 1, up to 2 and so on; from,
 -- to, minutes and penalty of each walk.
-use Rattle.std.specs.Prelude.{Bool, cond, ◌&&◌, List, [], ◌∷◌, ◌++◌, map, ℕ, suc, ◌+◌, ◌-◌, ◌*◌, leb, eqb, length, get_or, take}
+use Rattle.std.specs.Prelude.{Bool, cond, ◌&&◌, List, [], ◌∷◌, ◌++◌, map, ℕ, suc, ◌+◌, ◌-◌, ◌*◌, leb, eqb, length}
+use Rattle.std.specs.Prelude.{get_or, take}
 use Rattle.lists.specs.Lists.{range, same}
 use Rattle.questions.specs.Question.{ask, first_no}
 use Rattle.timetable.specs.Timetable.{Station, Walk, Stop, Trip, Timetable, stops_of, valid}
@@ -121,8 +122,8 @@ number_at w k = get_or w (stop_place w (stop_count w) + (trip_count w + 1) + k) 
 abbrev pub foot_place : List ℕ → ℕ
 foot_place w = stop_place w (stop_count w) + (trip_count w + 1) + trip_count w
 
--- how many walks there are from stations up to y: the walks from station y are those from walksTo w (y - 1) on, to
--- before walksTo w y, counted from 0
+-- how many walks there are from stations up to y: the walks from station y are those from walks_to w (y - 1) on, to
+-- before walks_to w y, counted from 0
 unfoldable pub walks_to : List ℕ → ℕ → ℕ
 walks_to w y = get_or w (foot_place w + y) 0
 
@@ -163,7 +164,8 @@ chained w = eqb (start_at w 0) 0 && rise 0 (map (start_at w) (range 1 (trip_coun
 
 -- the counts of walks by station are those of the walks
 unfoldable pub footed : List ℕ → Bool
-footed w = same (map (walks_to w) (range 0 (suc (station_count w)))) (foot_words (station_count w) (timetable_of w).walks)
+footed w = same (map (walks_to w) (range 0 (suc (station_count w))))
+    (foot_words (station_count w) (timetable_of w).walks)
 
 -- "Could the timetable words come from an accepted text? 9", where document 02, Eleven, has question 9 "admit gaps and
 -- count no bytes": from a text and the changes after it. The crate accepted proves that this is what it decides.

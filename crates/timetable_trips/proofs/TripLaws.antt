@@ -9,7 +9,8 @@ use lib.Dec.{leb, eqb}
 use Rattle.lists.specs.Tests.{and_true, and_false}
 use Rattle.timetable.specs.Timetable.{Stop, ends, follows, runs, valid_trip, valid_trips}
 use Rattle.timetable.specs.Words.{stop_at, start_at, trip_at, rise}
-use Rattle.timetable.specs.Check.{stops_at, trips_at, starts_at, trips_test, between, between_more, between_none, rise_most}
+use Rattle.timetable.specs.Check.{stops_at, trips_at, starts_at, trips_test, between, between_more, between_none}
+use Rattle.timetable.specs.Check.{rise_most}
 use Rattle.timetable_trips.specs.Steps.{begins, passes}
 
 -- ---- stops of a trip, one by one

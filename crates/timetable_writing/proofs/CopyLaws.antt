@@ -52,7 +52,8 @@ stops_copied w body out s first end at long few is h g e =
     ∙ sym (stops_part w first end h (omega arith)))
 
 pub numbers_copied : (w numbers out : List ℕ) (s t n first end at : ℕ) → 16384 ≤ length w → get_or w 0 0 ≤ 64
-    → get_or w 1 0 ≤ 256 → get_or w 2 0 ≤ 2048 → s ≡ get_or w 0 0 → t ≡ get_or w 1 0 → n ≡ get_or w 2 0 → first ≤ end → end ≤ 256
+    → get_or w 1 0 ≤ 256 → get_or w 2 0 ≤ 2048 → s ≡ get_or w 0 0 → t ≡ get_or w 1 0 → n ≡ get_or w 2 0 → first ≤ end →
+    end ≤ 256
     → out
     ≡ put at
     (take (end - first)

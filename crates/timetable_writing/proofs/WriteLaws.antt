@@ -24,7 +24,8 @@ module _ (stations walks at : ℕ) (walking old : List ℕ) (few : stations ≤ 
   pub feet_none : old ≡ put at (take 0 (foot_words stations (walks_in walking 0 walks))) old
   feet_none = sym (put_none at old)
 
-  module _ (y : ℕ) (table : List ℕ) (held : table ≡ put at (take y (foot_words stations (walks_in walking 0 walks))) old)
+  module _ (y : ℕ) (table : List ℕ) (held : table ≡ put at (take y (foot_words stations (walks_in walking 0 walks)))
+      old)
     where
       pub feet_more : y ≤ stations → (r : ℕ) → r ≡ count_to (walks_in walking 0 walks) y
           → set table (at + y) r ≡ put at (take (y + 1) (foot_words stations (walks_in walking 0 walks))) old

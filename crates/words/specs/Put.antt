@@ -1,7 +1,9 @@
 -- Words put into a lent slice. "Words past a result keep their values": so do the words before it.
 -- All of this speaks of lists of numbers, and so of words of any width.
 use Rattle.std.specs.Prelude.{◌≡◌, refl, List, [], ◌∷◌, ◌++◌, ℕ, suc, ◌+◌, ◌≤◌, ◌<◌, length, take, drop, set, get_or}
-use Rattle.std.proofs.Common.{sym, ap, ◌∙◌, append_assoc, append-nil, add-zero, zero-add, add-one, arith, length-append, length-take, length-drop, take-append-drop, drop-cons, take-suc, take_at, drop_at, drop-drop, length-take-le, drop-set-lt, take-take}
+use Rattle.std.proofs.Common.{sym, ap, ◌∙◌, append_assoc, append-nil, add-zero, zero-add, add-one, arith, length-append}
+use Rattle.std.proofs.Common.{length-take, length-drop, take-append-drop, drop-cons, take-suc, take_at, drop_at}
+use Rattle.std.proofs.Common.{drop-drop, length-take-le, drop-set-lt, take-take}
 use Rattle.std.proofs.Math.ListN.{get_or-append}
 use Rattle.std.proofs.lemmas.List.{set_at, take-append-le}
 

@@ -89,12 +89,14 @@ tables_long = refl
 
 -- ---- direct rides
 direct_g : direct_rows (net M) 2 501 3 ≡ one_ride 14 0 3 1 2 ∷ []
-unfolding M variant rides_of may_board may_alight ride_points changes_of direct_rows directs entries result dominates equal
+unfolding M variant rides_of may_board may_alight ride_points changes_of direct_rows directs entries result dominates
+    equal
     rows_of tie_key
 direct_g = refl
 
 direct_h : direct_rows (net M) 2 503 3 ≡ one_ride 17 0 2 1 2 ∷ []
-unfolding M variant rides_of may_board may_alight ride_points changes_of direct_rows directs entries result dominates equal
+unfolding M variant rides_of may_board may_alight ride_points changes_of direct_rows directs entries result dominates
+    equal
     rows_of tie_key
 direct_h = refl
 

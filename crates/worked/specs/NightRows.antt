@@ -87,42 +87,50 @@ stored_5 = refl
 
 -- ---- the planner's rows
 pub rows_4_3 : planned night 4 40 3 ≡ two_rides 30 48 1 3 4 2 2 3 ∷ []
-unfolding night rides_of may_board may_alight ride_points changes_of planner_list connections entries result dominates equal
+unfolding night rides_of may_board may_alight ride_points changes_of planner_list connections entries result dominates
+    equal
     rows_of tie_key
 rows_4_3 = refl
 
 pub rows_1_3 : planned night 1 40 3 ≡ one_ride 30 31 2 1 3 ∷ []
-unfolding night rides_of may_board may_alight ride_points changes_of planner_list connections entries result dominates equal
+unfolding night rides_of may_board may_alight ride_points changes_of planner_list connections entries result dominates
+    equal
     rows_of tie_key
 rows_1_3 = refl
 
 pub rows_2_3 : planned night 2 40 3 ≡ three_rides 30 98 3 1 2 1 1 2 2 1 3 ∷ []
-unfolding night rides_of may_board may_alight ride_points changes_of planner_list connections entries result dominates equal
+unfolding night rides_of may_board may_alight ride_points changes_of planner_list connections entries result dominates
+    equal
     rows_of tie_key
 rows_2_3 = refl
 
 pub rows_2_5 : planned night 2 40 5 ≡ three_rides 17 75 3 1 2 1 1 2 2 1 2 ∷ two_rides 24 69 3 1 2 1 3 4 ∷ []
-unfolding night rides_of may_board may_alight ride_points changes_of planner_list connections entries result dominates equal
+unfolding night rides_of may_board may_alight ride_points changes_of planner_list connections entries result dominates
+    equal
     rows_of tie_key
 rows_2_5 = refl
 
 pub rows_2_1 : planned night 2 40 1 ≡ two_rides 12 62 3 1 2 1 1 2 ∷ one_ride 14 31 3 1 3 ∷ []
-unfolding night rides_of may_board may_alight ride_points changes_of planner_list connections entries result dominates equal
+unfolding night rides_of may_board may_alight ride_points changes_of planner_list connections entries result dominates
+    equal
     rows_of tie_key
 rows_2_1 = refl
 
 pub rows_4_5 : planned night 4 40 5 ≡ two_rides 17 25 1 1 2 2 1 2 ∷ one_ride 24 19 1 3 4 ∷ []
-unfolding night rides_of may_board may_alight ride_points changes_of planner_list connections entries result dominates equal
+unfolding night rides_of may_board may_alight ride_points changes_of planner_list connections entries result dominates
+    equal
     rows_of tie_key
 rows_4_5 = refl
 
 pub rows_1_3_at_54 : planned night 1 54 3 ≡ two_rides 16 62 1 2 4 2 2 3 ∷ []
-unfolding night rides_of may_board may_alight ride_points changes_of planner_list connections entries result dominates equal
+unfolding night rides_of may_board may_alight ride_points changes_of planner_list connections entries result dominates
+    equal
     rows_of tie_key
 rows_1_3_at_54 = refl
 
 pub rows_5_3_at_66 : planned night 5 66 3 ≡ one_ride 4 23 2 2 3 ∷ []
-unfolding night rides_of may_board may_alight ride_points changes_of planner_list connections entries result dominates equal
+unfolding night rides_of may_board may_alight ride_points changes_of planner_list connections entries result dominates
+    equal
     rows_of tie_key
 rows_5_3_at_66 = refl
 

@@ -1,6 +1,7 @@
 -- What the calls of Calls reply and write for a text that is read to a timetable, where the words of a store, or the
 -- rows of the planner's list, are known. All follows from the promises: nothing is left to ask but what is known.
-use Rattle.std.specs.Prelude.{◌≡◌, refl, true, false, ◌&&◌, List, [], ◌∷◌, ◌++◌, ℕ, ◌+◌, ◌*◌, ◌-◌, ◌≤◌, ◌<◌, leb, eqb, length, drop}
+use Rattle.std.specs.Prelude.{◌≡◌, refl, true, false, ◌&&◌, List, [], ◌∷◌, ◌++◌, ℕ, ◌+◌, ◌*◌, ◌-◌, ◌≤◌, ◌<◌, leb, eqb}
+use Rattle.std.specs.Prelude.{length, drop}
 use Rattle.std.proofs.Common.{sym, ◌∙◌, add-zero, arith}
 use Rattle.std.proofs.Math.Path.{ap}
 use borrow.Author.Tests.{leb-true, eqb-false, le-leb, lt-leb}
@@ -35,7 +36,7 @@ use Rattle.demands.specs.Demands.{Query}
 use Rattle.promises.specs.Packed.{packed_reply, packed_count}
 use Rattle.promises.specs.Query.{row_words}
 use Rattle.promises.specs.Promises.{Loaded, Made, StoreFits, word_count, shown_words, Shows as Shown, Stores as Stored}
-use Rattle.promises.specs.Proved.{promises}
+use Rattle.promises.proofs.Proved.{promises}
 use Rattle.worked.specs.Calls.{Slices, returned, Written, in_turn, Refuses, read, timetable_after, built}
 use Rattle.worked.specs.Calls.{tables_after, trips_of, made, store_slice, asked_from, answer_from, direct_asked}
 use Rattle.worked.specs.Calls.{direct_answer, Stores, Shows, ShowsNone, IllMade, Rides, RidesNone}
@@ -197,12 +198,12 @@ module _ (s : Slices) (text : List ℕ) (t : Timetable) (lines count : ℕ) (k :
         text_lines = lines;
         accepted = k.accepted;
         timetable_before = s.timetable;
-        read_reply_lem = read s text;
+        reply_to_read = read s text;
         read = record { replies = refl; writes = refl };
         read_succeeds = omega (arith, read_done, k.few_lines);
         work = s.space;
         lines_before = s.tables;
-        build_reply_lem = built s text;
+        reply_to_build = built s text;
         built = record { replies = refl; writes = refl };
         build_succeeds = omega (arith, built_done, k.few_counted);
       }

@@ -187,7 +187,8 @@ walk_cases s =
       at_end_store =
           store_known s text_round_at_end round_at_end 10 2 known_end 1 1 3 _ end_stored
           (omega arith) (omega arith) (omega arith) (omega arith) refl;
-      at_start = asks s text_round_at_start round_at_start 10 2 4 4 known_start refl refl refl refl _ walked_from_source;
+      at_start = asks s text_round_at_start round_at_start 10 2 4 4 known_start refl refl refl refl _
+          walked_from_source;
       at_start_store =
           store_known s text_round_at_start round_at_start 10 2 known_start 1 1 2 _ start_stored
           (omega arith) (omega arith) (omega arith) (omega arith) refl;

@@ -15,7 +15,8 @@ pub returns-then-number-ne0-clause-lines : goal.returns-then-number-ne0-clause-l
 returns-then-number-ne0-clause-lines c = search denied_lines
 
 pub add_asked-requires-clause-work_value : goal.add_asked-requires-clause-work_value
-add_asked-requires-clause-work_value c = none_left _ _ _ _ c.order_number-number.result c.order_number-number.ensures.value (search rules) (search rules)
+add_asked-requires-clause-work_value c = none_left _ _ _ _ c.order_number-number.result
+    c.order_number-number.ensures.value (search rules) (search rules)
 
 pub add_asked-requires-clause-order_len : goal.add_asked-requires-clause-order_len
 add_asked-requires-clause-order_len c = (

@@ -37,7 +37,15 @@ pub put_in-requires-in-Whole-clause-order_len : goal.put_in-requires-in-Whole-cl
 put_in-requires-in-Whole-clause-order_len c = (search rules, search added_order)
 
 pub rebuild-count-requires : goal.rebuild-count-requires
-rebuild-count-requires c = (search after_room, search added_yes, search rules, search rules, search lines_room, search work_room)
+rebuild-count-requires c = (
+  search after_room,
+  search added_yes,
+  search rules,
+  search rules,
+  search lines_room,
+  search
+      work_room,
+)
 
 pub returns-in-Whole-clause-value : goal.returns-in-Whole-clause-value
 returns-in-Whole-clause-value c = search added_reply

@@ -15,7 +15,8 @@ pub returns-then-number-ne0-clause-lines : goal.returns-then-number-ne0-clause-l
 returns-then-number-ne0-clause-lines c = search denied_lines
 
 pub cancel_asked-requires-clause-work_value : goal.cancel_asked-requires-clause-work_value
-cancel_asked-requires-clause-work_value c = none_left _ _ _ _ c.order_number-number.result c.order_number-number.ensures.value (search rules) (search rules)
+cancel_asked-requires-clause-work_value c = none_left _ _ _ _ c.order_number-number.result
+    c.order_number-number.ensures.value (search rules) (search rules)
 
 pub cancel_asked-requires-clause-order_len : goal.cancel_asked-requires-clause-order_len
 cancel_asked-requires-clause-order_len c = (

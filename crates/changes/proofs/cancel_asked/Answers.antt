@@ -24,7 +24,14 @@ pub take_out-requires : goal.take_out-requires
 take_out-requires c = (search words_room, search granted, search place_inside, search rules, search rules)
 
 pub rebuild-count-requires : goal.rebuild-count-requires
-rebuild-count-requires c = (search after_room, search done_yes, search rules, search done_order, search lines_room, search work_room)
+rebuild-count-requires c = (
+  search after_room,
+  search done_yes,
+  search rules,
+  search done_order,
+  search lines_room,
+  search work_room,
+)
 
 pub returns-clause-value : goal.returns-clause-value
 returns-clause-value c = search done_reply

@@ -12,16 +12,16 @@ put_number-requires c = (search rules, search number_small)
 
 pub write_words-requires : goal.write_words-requires
 write_words-requires c = (
-      search trip_stations,
-      search trip_trips,
-      search trip_stops_lem,
-      search rules,
-      search rules,
-      search rules,
-      search rules,
-      search rules,
-      search rules,
-    )
+  search trip_stations,
+  search trip_trips,
+  search trip_stops_lem,
+  search rules,
+  search rules,
+  search rules,
+  search rules,
+  search rules,
+  search rules,
+)
 
 pub returns-in-Accepted-clause-trip_read : goal.returns-in-Accepted-clause-trip_read
 returns-in-Accepted-clause-trip_read c = search trip_whole

@@ -24,4 +24,11 @@ pub returns-clause-front : goal.returns-clause-front
 returns-clause-front c = search filled_front
 
 pub returns-clause-body_len_unchanged : goal.returns-clause-body_len_unchanged
-returns-clause-body_len_unchanged c = (search rules, search rules, search rules, search front_trips, search front_starts)
+returns-clause-body_len_unchanged c = (
+  search rules,
+  search rules,
+  search rules,
+  search front_trips,
+  search
+      front_starts,
+)

@@ -21,4 +21,11 @@ pub returns-clause-middle : goal.returns-clause-middle
 returns-clause-middle c = search filled_middle
 
 pub returns-clause-body_len_unchanged : goal.returns-clause-body_len_unchanged
-returns-clause-body_len_unchanged c = (search rules, search rules, search rules, search middle_trips, search middle_stops)
+returns-clause-body_len_unchanged c = (
+  search rules,
+  search rules,
+  search rules,
+  search middle_trips,
+  search
+      middle_stops,
+)

@@ -25,4 +25,11 @@ pub returns-clause-filled : goal.returns-clause-filled
 returns-clause-filled c = search filled_without
 
 pub returns-clause-body_len_unchanged : goal.returns-clause-body_len_unchanged
-returns-clause-body_len_unchanged c = (search rules, search rules, search rules, search without_trips, search without_stops)
+returns-clause-body_len_unchanged c = (
+  search rules,
+  search rules,
+  search rules,
+  search without_trips,
+  search
+      without_stops,
+)

@@ -28,7 +28,12 @@ pub returns-then-stops-gt-STOPS_MOST : goal.returns-then-stops-gt-STOPS_MOST
 returns-then-stops-gt-STOPS_MOST c = search stops_no
 
 pub draw-requires-clause-v_value : goal.draw-requires-clause-v_value
-draw-requires-clause-v_value c = (search counts_yes, search rules, c.mark_lines.ensures.marks_len_unchanged ∙ c.requires.1)
+draw-requires-clause-v_value c = (
+  search counts_yes,
+  search rules,
+  c.mark_lines.ensures.marks_len_unchanged ∙
+      c.requires.1,
+)
 
 pub draw-requires-clause-numbers_value : goal.draw-requires-clause-numbers_value
 draw-requires-clause-numbers_value c = (search numbers_drawn, search rules, search rules)

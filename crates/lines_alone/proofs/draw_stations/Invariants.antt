@@ -8,7 +8,8 @@ use Rattle.lines_alone.specs.Drawn.{plain_station}
 use Rattle.lines_alone.proofs.draw_stations.Given as goal
 
 abbrev pub invariant-loop-i : goal.invariant-loop-i
-invariant-loop-i l = (l.i ≤ l.n) × (length l.body ≡ length l.initial.body) × (l.body ≡ put 0 (station_words (replicate l.i plain_station)) l.initial.body)
+invariant-loop-i l = (l.i ≤ l.n) × (length l.body ≡ length l.initial.body) ×
+    (l.body ≡ put 0 (station_words (replicate l.i plain_station)) l.initial.body)
 
 abbrev pub decreases-loop-i : goal.decreases-loop-i
 decreases-loop-i l = l.n - l.i

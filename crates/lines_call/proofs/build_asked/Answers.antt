@@ -34,7 +34,15 @@ pub order_trips-requires-clause-in_bounds : goal.order_trips-requires-clause-in_
 order_trips-requires-clause-in_bounds c = (search rules, search asked_yes, search rules)
 
 pub build_tables-count-requires : goal.build_tables-count-requires
-build_tables-count-requires c = (search rules, search asked_yes, search rules, search rules, search rules, search part_long)
+build_tables-count-requires c = (
+  search rules,
+  search asked_yes,
+  search rules,
+  search rules,
+  search rules,
+  search
+      part_long,
+)
 
 pub returns-clause-value : goal.returns-clause-value
 returns-clause-value c = search done_reply

@@ -7,9 +7,11 @@ use Rattle.lines_found.proofs.GroupLaws.{Kept, Given}
 use Rattle.lines_found.proofs.group.Given as goal
 
 abbrev pub invariant-loop-k : goal.invariant-loop-k
-invariant-loop-k l = (l.k ≤ l.trips) × (l.trips ≤ 256) × Given l.words l.order l.trips × (l.count ≤ l.k) × (length l.numbers ≡ 256)
+invariant-loop-k l = (l.k ≤ l.trips) × (l.trips ≤ 256) × Given l.words l.order l.trips × (l.count ≤ l.k) ×
+    (length l.numbers ≡ 256)
     × (length l.ends ≡ 256) × (length l.lasts ≡ 256)
-    × (length l.chains ≡ 1024) × Kept l.words l.initial.numbers l.initial.ends l.numbers l.ends l.lasts l.count l.k × OfLasts l.words l.lasts l.count l.chains
+    × (length l.chains ≡ 1024) × Kept l.words l.initial.numbers l.initial.ends l.numbers l.ends l.lasts l.count l.k ×
+    OfLasts l.words l.lasts l.count l.chains
 
 abbrev pub decreases-loop-k : goal.decreases-loop-k
 decreases-loop-k l = l.trips - l.k

@@ -14,7 +14,14 @@ pub slice_bounds-turn_back-end : goal.slice_bounds-turn_back-end
 slice_bounds-turn_back-end c = search work_long
 
 pub turn_back-requires : goal.turn_back-requires
-turn_back-requires c = (search words_long, search accepted, search tables_long, search (part_long, work_long), search result_long)
+turn_back-requires c = (
+  search words_long,
+  search accepted,
+  search tables_long,
+  search (part_long, work_long),
+  search
+      result_long,
+)
 
 pub returns-clause-value : goal.returns-clause-value
 returns-clause-value c = search stop_reply

@@ -14,7 +14,14 @@ pub slice_bounds-turn-end : goal.slice_bounds-turn-end
 slice_bounds-turn-end c = search work_long
 
 pub turn-requires : goal.turn-requires
-turn-requires c = (search words_long, search accepted, search tables_long, search (part_long, work_long), search result_long)
+turn-requires c = (
+  search words_long,
+  search accepted,
+  search tables_long,
+  search (part_long, work_long),
+  search
+      result_long,
+)
 
 pub returns-clause-value : goal.returns-clause-value
 returns-clause-value c = search trip_reply

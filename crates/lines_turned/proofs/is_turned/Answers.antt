@@ -1,5 +1,6 @@
 use Prim.Native.Nat.{◌-◌}
-use Rattle.lines_turned.proofs.TurnLaws.{line_few, front_inside, front_differs, front_agrees, line_fits, lines_differ, lines_agree, lists_order, lists_inside, lists_decide}
+use Rattle.lines_turned.proofs.TurnLaws.{line_few, front_inside, front_differs, front_agrees, line_fits, lines_differ}
+use Rattle.lines_turned.proofs.TurnLaws.{lines_agree, lists_order, lists_inside, lists_decide}
 use borrow.Author.Rules.{rules}
 use Rattle.lines_turned.proofs.is_turned.Goals as goal
 

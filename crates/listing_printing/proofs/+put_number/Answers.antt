@@ -1,7 +1,6 @@
 use native.Mathlib.Omega.{arith}
 use lib.ListN.{length, length-set}
 use Prim.Native.Nat.{◌<◌}
-use borrow.Author.Rules.{rules}
 use Rattle.listing_printing.proofs.NumberLaws.{one_room, one_end, one_words}
 use Rattle.listing_printing.proofs.NumberLaws.{more_room, more_within, more_end, more_words, more_kept}
 use Rattle.listing_printing.proofs.+put_number.Goals as goal

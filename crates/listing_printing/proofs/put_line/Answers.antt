@@ -1,4 +1,3 @@
-use Prim.Native.Nat.{◌-◌}
 use borrow.Author.Rules.{rules}
 use Rattle.listing_printing.proofs.LineLaws.{line_place_lem, line_words_lem, line_end_lem, line_whole}
 use Rattle.listing_printing.proofs.put_line.Goals as goal

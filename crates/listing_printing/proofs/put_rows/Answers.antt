@@ -1,4 +1,3 @@
-use Prim.Native.Nat.{◌-◌}
 use borrow.Author.Rules.{rules}
 use Rattle.listing_printing.proofs.LineLaws.{short_at, short_out, all_at, all_out, line_room, room_left}
 use Rattle.listing_printing.proofs.LineLaws.{cost_at_lem, cost_out, ride_at_lem, ride_out}
@@ -14,7 +13,13 @@ pub put_line-at-requires : goal.put_line-at-requires
 put_line-at-requires c = search line_room
 
 pub loop-i-preserved-then-rides-eq0 : goal.loop-i-preserved-then-rides-eq0
-loop-i-preserved-then-rides-eq0 c = (search rules, (search rules, (search room_left, (search cost_at_lem, search cost_out))))
+loop-i-preserved-then-rides-eq0 c = (
+  search rules,
+  (
+    search rules,
+    (search room_left, (search cost_at_lem, search cost_out)),
+  ),
+)
 
 pub put_line-at-requires-in-loop-i : goal.put_line-at-requires-in-loop-i
 put_line-at-requires-in-loop-i c = search line_room

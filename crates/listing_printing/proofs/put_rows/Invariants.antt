@@ -11,7 +11,8 @@ invariant-loop-i l = (l.i ≤ length l.answer)
     × ((length l.out ≡ length l.initial.out)
     × ((l.at + 12 * (length l.answer - l.i) ≤ length l.out)
     × ((l.at + length (lines_from (drop l.i l.answer) l.left l.rides) ≡ l.start + length (lines_from l.answer l.rows 0))
-    × (put l.at (lines_from (drop l.i l.answer) l.left l.rides) l.out ≡ put l.start (lines_from l.answer l.rows 0) l.initial.out))))
+    × (put l.at (lines_from (drop l.i l.answer) l.left l.rides) l.out ≡ put l.start (lines_from l.answer l.rows 0)
+    l.initial.out))))
 
 abbrev pub decreases-loop-i : goal.decreases-loop-i
 decreases-loop-i l = length l.answer - l.i

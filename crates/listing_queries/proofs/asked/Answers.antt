@@ -9,12 +9,26 @@ returns-then-from-gt-NUMBER_MOST c = simp (lt-leb _ _ c.if-from-gt-NUMBER_MOST.t
 
 pub returns-then-to-gt-NUMBER_MOST : goal.returns-then-to-gt-NUMBER_MOST
 unfolding asked_of
-returns-then-to-gt-NUMBER_MOST c = simp (le-leb _ _ c.if-from-gt-NUMBER_MOST.false, lt-leb _ _ c.if-to-gt-NUMBER_MOST.true)
+returns-then-to-gt-NUMBER_MOST c = simp (
+  le-leb _ _ c.if-from-gt-NUMBER_MOST.false,
+  lt-leb _ _
+      c.if-to-gt-NUMBER_MOST.true,
+)
 
 pub returns-then-minute-gt-NUMBER_MOST : goal.returns-then-minute-gt-NUMBER_MOST
 unfolding asked_of
-returns-then-minute-gt-NUMBER_MOST c = simp (le-leb _ _ c.if-from-gt-NUMBER_MOST.false, le-leb _ _ c.if-to-gt-NUMBER_MOST.false, lt-leb _ _ c.if-minute-gt-NUMBER_MOST.true)
+returns-then-minute-gt-NUMBER_MOST c = simp (
+  le-leb _ _ c.if-from-gt-NUMBER_MOST.false,
+  le-leb _ _
+      c.if-to-gt-NUMBER_MOST.false,
+  lt-leb _ _ c.if-minute-gt-NUMBER_MOST.true,
+)
 
 pub returns : goal.returns
 unfolding asked_of
-returns c = simp (le-leb _ _ c.if-from-gt-NUMBER_MOST.false, le-leb _ _ c.if-to-gt-NUMBER_MOST.false, le-leb _ _ c.if-minute-gt-NUMBER_MOST.false)
+returns c = simp (
+  le-leb _ _ c.if-from-gt-NUMBER_MOST.false,
+  le-leb _ _ c.if-to-gt-NUMBER_MOST.false,
+  le-leb _ _
+      c.if-minute-gt-NUMBER_MOST.false,
+)

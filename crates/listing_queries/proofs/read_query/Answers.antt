@@ -1,5 +1,6 @@
 -- Each way out is a law on the line and the ends of its fields.
-use Rattle.listing_queries.proofs.QueryLaws.{too_short, other_kind, no_comma, one_field, two_fields, more_fields, three_fields}
+use Rattle.listing_queries.proofs.QueryLaws.{too_short, other_kind, no_comma, one_field, two_fields, more_fields}
+use Rattle.listing_queries.proofs.QueryLaws.{three_fields}
 use Rattle.listing_queries.proofs.read_query.Goals as goal
 
 pub returns-then-n-lt2 : goal.returns-then-n-lt2

@@ -30,6 +30,8 @@ returns-clause-p_after c = (
   search rules,
   search rules,
   bound_more _ _ _ _ _ _ c.requires.6 c.merge.ensures.merged.0,
-  noted_more _ _ _ _ _ _ _ _ _ _ _ _ _ _ c.merge.ensures.merged.0 c.requires.6 c.requires.7 c.note_pattern-reached.ensures.lowered
-      c.requires.5 c.requires.1 c.requires.2 c.read_arc-r.ensures.path_after.0 c.read_arc-r.ensures.path_after.1 c.read_arc-r.ensures.path_after.3 c.merge.ensures.mine_len_unchanged.1,
+  noted_more _ _ _ _ _ _ _ _ _ _ _ _ _ _ c.merge.ensures.merged.0 c.requires.6 c.requires.7
+      c.note_pattern-reached.ensures.lowered
+      c.requires.5 c.requires.1 c.requires.2 c.read_arc-r.ensures.path_after.0 c.read_arc-r.ensures.path_after.1
+      c.read_arc-r.ensures.path_after.3 c.merge.ensures.mine_len_unchanged.1,
 )

@@ -46,8 +46,10 @@ loop-j-preserved c = (
   boarded_here _ _ _ _ _ c.requires.le_r.3 c.loop-j.invariant.0 c.if-j-r.false c.word-boarded.ensures.0,
   c.step_turned-s.ensures.falls_2.0,
   c.step_turned-s.ensures.q_after_2.0,
-  ready_next _ c.requires.in_bounds.1 _ c.requires.in_bounds.2 _ _ _ c.loop-j.invariant.0 c.requires.le_r.3 _ _ _ _ c.loop-j.invariant.5 _
-      c.loop-j.invariant.8 _ c.word-alighted.ensures.0 _ c.word-boarded.ensures.0 _ c.step_turned-s.ensures.q_after _ c.step_turned-s.ensures.falls_2.1,
+  ready_next _ c.requires.in_bounds.1 _ c.requires.in_bounds.2 _ _ _ c.loop-j.invariant.0 c.requires.le_r.3 _ _ _ _
+      c.loop-j.invariant.5 _
+      c.loop-j.invariant.8 _ c.word-alighted.ensures.0 _ c.word-boarded.ensures.0 _ c.step_turned-s.ensures.q_after _
+      c.step_turned-s.ensures.falls_2.1,
   search rules,
   search rules,
   search rules,
@@ -55,15 +57,19 @@ loop-j-preserved c = (
 )
 
 pub returns-then-j-r-clause-lowered : goal.returns-then-j-r-clause-lowered
-returns-then-j-r-clause-lowered c = ended _ c.requires.in_bounds.1 _ c.requires.in_bounds.2 _ _ _ c.loop-j.invariant.0 c.requires.le_r.3 _ _ _ _ c.loop-j.invariant.5 _
-    c.loop-j.invariant.8 _ c.word-alighted.ensures.0 c.if-j-r.true _ _ _ c.requires.p_value.4 c.loop-j.invariant.4 c.finish_turned-noted.ensures.best_after
+returns-then-j-r-clause-lowered c = ended _ c.requires.in_bounds.1 _ c.requires.in_bounds.2 _ _ _ c.loop-j.invariant.0
+    c.requires.le_r.3 _ _ _ _ c.loop-j.invariant.5 _
+    c.loop-j.invariant.8 _ c.word-alighted.ensures.0 c.if-j-r.true _ _ _ c.requires.p_value.4 c.loop-j.invariant.4
+    c.finish_turned-noted.ensures.best_after
 
 pub returns-then-j-r-clause-within : goal.returns-then-j-r-clause-within
 returns-then-j-r-clause-within c = search within_from
 
 pub returns-then-s-ge-MINUTES-clause-lowered : goal.returns-then-s-ge-MINUTES-clause-lowered
-returns-then-s-ge-MINUTES-clause-lowered c = stopped _ c.requires.in_bounds.1 _ c.requires.in_bounds.2 _ _ _ c.loop-j.invariant.0 c.requires.le_r.3 _ _ _ _ c.loop-j.invariant.5 _
-    c.loop-j.invariant.8 _ c.word-alighted.ensures.0 _ c.word-boarded.ensures.0 c.if-j-r.false _ c.step_turned-s.ensures.q_after _ c.step_turned-s.ensures.falls_2.1 c.step_turned-s.ensures.falls_2.2
+returns-then-s-ge-MINUTES-clause-lowered c = stopped _ c.requires.in_bounds.1 _ c.requires.in_bounds.2 _ _ _
+    c.loop-j.invariant.0 c.requires.le_r.3 _ _ _ _ c.loop-j.invariant.5 _
+    c.loop-j.invariant.8 _ c.word-alighted.ensures.0 _ c.word-boarded.ensures.0 c.if-j-r.false _
+    c.step_turned-s.ensures.q_after _ c.step_turned-s.ensures.falls_2.1 c.step_turned-s.ensures.falls_2.2
     c.if-s-ge-MINUTES.true _ _ c.loop-j.invariant.4
 
 pub returns-then-s-ge-MINUTES-clause-p_after : goal.returns-then-s-ge-MINUTES-clause-p_after

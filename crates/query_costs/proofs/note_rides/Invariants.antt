@@ -19,7 +19,8 @@ invariant-loop-c l = Good l.lines l.c
     × (length l.best ≡ length l.initial.best)
     × Within l.noted l.initial.best l.best
     × (l.noted.from ≤ 2880)
-    × (taken_all (lowest no_points l.p) l.change.minutes.0 l.change.points.0 l.initial.best (near_read l.lines l.from l.s.from l.to)
+    × (taken_all (lowest no_points l.p) l.change.minutes.0 l.change.points.0 l.initial.best
+    (near_read l.lines l.from l.s.from l.to)
     ≡ taken_all (lowest no_points l.p) l.change.minutes.0 l.change.points.0 l.best (near_left l.lines l.s.from l.c))
 
 abbrev pub decreases-loop-c : goal.decreases-loop-c

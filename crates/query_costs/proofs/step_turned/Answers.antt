@@ -7,7 +7,14 @@ use Rattle.query_costs.proofs.StepLaws.{left_first, left_second}
 use Rattle.query_costs.proofs.step_turned.Goals as goal
 
 pub step-requires-clause-falls : goal.step-requires-clause-falls
-step-requires-clause-falls c = (search falls_second, search spare_is_first, search rules, search rules, search fitting_second)
+step-requires-clause-falls c = (
+  search falls_second,
+  search spare_is_first,
+  search rules,
+  search rules,
+  search
+      fitting_second,
+)
 
 pub returns-then-turned-clause-q_after : goal.returns-then-turned-clause-q_after
 returns-then-turned-clause-q_after c = search turned_second
@@ -19,7 +26,14 @@ pub returns-then-turned-clause-falls_2 : goal.returns-then-turned-clause-falls_2
 returns-then-turned-clause-falls_2 c = (search next_second, search value_second, search rules)
 
 pub step-requires-2-clause-falls : goal.step-requires-2-clause-falls
-step-requires-2-clause-falls c = (search falls_first, search spare_is_second, search rules, search rules, search fitting_first)
+step-requires-2-clause-falls c = (
+  search falls_first,
+  search spare_is_second,
+  search rules,
+  search rules,
+  search
+      fitting_first,
+)
 
 pub returns-clause-q_after : goal.returns-clause-q_after
 returns-clause-q_after c = search turned_first

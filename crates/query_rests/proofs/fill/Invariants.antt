@@ -6,7 +6,8 @@ use Rattle.query_rests.specs.Spans.{Stored}
 use Rattle.query_rests.proofs.fill.Given as goal
 
 abbrev pub invariant-loop-i : goal.invariant-loop-i
-invariant-loop-i l = (l.from ≤ l.i) × (l.i ≤ l.to) × (length l.z ≡ length l.initial.z) × Stored (λ k. l.points.0) l.from l.i l.initial.z l.z
+invariant-loop-i l = (l.from ≤ l.i) × (l.i ≤ l.to) × (length l.z ≡ length l.initial.z) × Stored (λ k. l.points.0) l.from
+    l.i l.initial.z l.z
 
 abbrev pub decreases-loop-i : goal.decreases-loop-i
 decreases-loop-i l = l.to - l.i

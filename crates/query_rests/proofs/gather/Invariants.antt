@@ -10,7 +10,8 @@ use Rattle.query_rests.proofs.gather.Given as goal
 abbrev pub invariant-loop-c : goal.invariant-loop-c
 invariant-loop-c l = Good l.lines l.c
     × (length l.z ≡ length l.initial.z)
-    × (note_all l.initial.z (catches l.change.minutes.0 l.change.points.0 l.old (near_read l.lines l.from l.minute l.to))
+    × (note_all l.initial.z (catches l.change.minutes.0 l.change.points.0 l.old
+    (near_read l.lines l.from l.minute l.to))
     ≡ note_all l.z (catches l.change.minutes.0 l.change.points.0 l.old (near_left l.lines l.minute l.c)))
 
 abbrev pub decreases-loop-c : goal.decreases-loop-c

@@ -6,7 +6,16 @@ use Rattle.query_shown.proofs.WayLaws.{onward_first, onward_stands, onward_more,
 use Rattle.query_shown.proofs.first_in_time.Goals as goal
 
 pub rest-kept-requires : goal.rest-kept-requires
-rest-kept-requires c = (search rules, search rules, search rules, search rules, search keeps_none, search rules, search rules)
+rest-kept-requires c = (
+  search rules,
+  search rules,
+  search rules,
+  search rules,
+  search keeps_none,
+  search rules,
+  search
+      rules,
+)
 
 pub ride_on-head-requires : goal.ride_on-head-requires
 ride_on-head-requires c = (search rules, search rules, search starts_there, search rules, search rules)

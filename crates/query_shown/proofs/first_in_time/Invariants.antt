@@ -9,7 +9,8 @@ use Rattle.query_shown.proofs.WayLaws.{Onward}
 use Rattle.query_shown.proofs.first_in_time.Given as goal
 
 abbrev pub invariant-loop-i : goal.invariant-loop-i
-invariant-loop-i l = Onward l.words l.lines l.path l.r l.sought.arrive l.sought.source l.sought.minute l.depart l.initial.rides l.initial.at l.i l.rides l.at
+invariant-loop-i l = Onward l.words l.lines l.path l.r l.sought.arrive l.sought.source l.sought.minute l.depart
+    l.initial.rides l.initial.at l.i l.rides l.at
     × Keeps l.words l.path l.r l.sought.arrive l.sought.minute l.i l.kept l.work
     × (l.r ≤ 64)
     × (2880 ≤ length l.work)

@@ -13,22 +13,22 @@ returns-then-not-arc_rises c = search arc_falls
 
 pub loop-k-preserved : goal.loop-k-preserved
 loop-k-preserved c = (
-      search rules,
-      arc_good
-          _
-          _
-          _
-          _
-          c.arc_count-arcs.ensures.0
-          c.loop-k.invariant.1
-          c.loop-k-test.true
-          _
-          c.arc_made.ensures
-          (ap not c.if-not-arc_made.false)
-          _
-          c.arc_rises.ensures
-          (ap not c.if-not-arc_rises.false),
-    )
+  search rules,
+  arc_good
+      _
+      _
+      _
+      _
+      c.arc_count-arcs.ensures.0
+      c.loop-k.invariant.1
+      c.loop-k-test.true
+      _
+      c.arc_made.ensures
+      (ap not c.if-not-arc_made.false)
+      _
+      c.arc_rises.ensures
+      (ap not c.if-not-arc_rises.false),
+)
 
 pub returns : goal.returns
 returns c = search arcs_done

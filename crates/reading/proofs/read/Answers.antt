@@ -1,7 +1,9 @@
 -- Two refusals come before the lines are read. Then the answer of the lines decides, and only an accepted text has its
 -- words written.
 use borrow.Author.Rules.{rules}
-use Rattle.reading.proofs.ReadLaws.{short_reply, short_values, short_words, long_reply, long_values, long_words, refused_reply, refused_values, refused_words, few_stations, few_trips, few_stops, few_walks_lem, done_reply, done_values, done_words}
+use Rattle.reading.proofs.ReadLaws.{short_reply, short_values, short_words, long_reply, long_values, long_words}
+use Rattle.reading.proofs.ReadLaws.{refused_reply, refused_values, refused_words, few_stations, few_trips, few_stops}
+use Rattle.reading.proofs.ReadLaws.{few_walks_lem, done_reply, done_values, done_words}
 use Rattle.reading.proofs.read.Goals as goal
 
 pub returns-then-timetable-lt-WORDS_LEAST-clause-reply : goal.returns-then-timetable-lt-WORDS_LEAST-clause-reply
@@ -33,15 +35,15 @@ returns-in-Refused-clause-words c = search refused_words
 
 pub write_timetable-requires : goal.write_timetable-requires
 write_timetable-requires c = (
-      search few_stations,
-      search few_trips,
-      search few_stops,
-      search few_walks_lem,
-      search rules,
-      search rules,
-      search rules,
-      search rules,
-    )
+  search few_stations,
+  search few_trips,
+  search few_stops,
+  search few_walks_lem,
+  search rules,
+  search rules,
+  search rules,
+  search rules,
+)
 
 pub returns-in-Accepted-clause-reply : goal.returns-in-Accepted-clause-reply
 returns-in-Accepted-clause-reply c = search done_reply

@@ -1,5 +1,6 @@
 -- The questions 3 to 5, in document 01's order: seven ways out, each a law of `station_number_at`.
-use Rattle.reading_lines.proofs.NumberLaws.{minutes_refused, points_refused, behind_walks, behind_stops, out_of_turn, stations_full, station_taken}
+use Rattle.reading_lines.proofs.NumberLaws.{minutes_refused, points_refused, behind_walks, behind_stops, out_of_turn}
+use Rattle.reading_lines.proofs.NumberLaws.{stations_full, station_taken}
 use Rattle.reading_lines.proofs.station_number.Goals as goal
 
 pub returns-then-minutes-ne0 : goal.returns-then-minutes-ne0

@@ -1,5 +1,6 @@
 -- The parts of question 6, one after the other: seven ways out, each a law of `stop_fits_at`.
-use Rattle.reading_lines.proofs.NumberLaws.{no_station_lem, unlisted, first_fits, same_station, too_early, last_fits, middle_fits}
+use Rattle.reading_lines.proofs.NumberLaws.{no_station_lem, unlisted, first_fits, same_station, too_early, last_fits}
+use Rattle.reading_lines.proofs.NumberLaws.{middle_fits}
 use Rattle.reading_lines.proofs.stop_fits.Goals as goal
 
 pub returns-then-l-lt1 : goal.returns-then-l-lt1

@@ -1,5 +1,6 @@
 -- The questions 3 to 6, in document 01's order: seven ways out, each a law of `stop_number_at`.
-use Rattle.reading_lines.proofs.NumberLaws.{out_of_range, other_trip, other_stop, trips_full, stops_full, stop_taken, stop_refused}
+use Rattle.reading_lines.proofs.NumberLaws.{out_of_range, other_trip, other_stop, trips_full, stops_full, stop_taken}
+use Rattle.reading_lines.proofs.NumberLaws.{stop_refused}
 use Rattle.reading_lines.proofs.stop_number.Goals as goal
 
 pub returns-then-not-stop_in_range : goal.returns-then-not-stop_in_range

@@ -1,5 +1,6 @@
 -- The questions 3 to 6, in their order: six ways out, each a law of `walk_number_at`.
-use Rattle.reading_lines.proofs.NumberLaws.{walk_out_of_range, walk_behind_stops, walk_falls, walks_full, walk_taken, walk_refused}
+use Rattle.reading_lines.proofs.NumberLaws.{walk_out_of_range, walk_behind_stops, walk_falls, walks_full, walk_taken}
+use Rattle.reading_lines.proofs.NumberLaws.{walk_refused}
 use Rattle.reading_lines.proofs.walk_number.Goals as goal
 
 pub returns-then-not-walk_in_range : goal.returns-then-not-walk_in_range

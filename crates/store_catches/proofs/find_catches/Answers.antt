@@ -1,5 +1,6 @@
 use Prim.Native.Nat.{◌-◌}
-use Rattle.store_catches.proofs.CatchLaws.{caught_start, number_is, number_few, arrives_few, arrives_listed, arrives_first, arrives_near, arrives_in_time, caught_more, all_caught}
+use Rattle.store_catches.proofs.CatchLaws.{caught_start, number_is, number_few, arrives_few, arrives_listed}
+use Rattle.store_catches.proofs.CatchLaws.{arrives_first, arrives_near, arrives_in_time, caught_more, all_caught}
 use borrow.Author.Rules.{rules}
 use Rattle.store_catches.proofs.find_catches.Goals as goal
 

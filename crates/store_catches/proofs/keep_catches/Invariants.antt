@@ -8,7 +8,8 @@ use Rattle.store_catches.proofs.KeepLaws.{KeptIn}
 use Rattle.store_catches.proofs.keep_catches.Given as goal
 
 abbrev pub invariant-loop-k : goal.invariant-loop-k
-invariant-loop-k l = (l.k ≤ l.n) × (l.n ≡ length (by_station l.words)) × (l.n ≤ 2048) × (4096 ≤ l.at) × (l.at ≤ 20480) × Standing l.words l.chain l.first
+invariant-loop-k l = (l.k ≤ l.n) × (l.n ≡ length (by_station l.words)) × (l.n ≤ 2048) × (4096 ≤ l.at) × (l.at ≤ 20480) ×
+    Standing l.words l.chain l.first
     × KeptIn l.words (take l.k (by_station l.words)) l.at l.chain
 
 abbrev pub decreases-loop-k : goal.decreases-loop-k

@@ -1,6 +1,7 @@
 -- The station's departures stand in the chain from where they begin to where the next station's begin.
 use Rattle.timetable.specs.Access.{stations_few}
-use Rattle.store_catches.proofs.CatchLaws.{listed_at, listed_to, waiting_rises, waiting_inside, waiting_by_minute, waiting_first}
+use Rattle.store_catches.proofs.CatchLaws.{listed_at, listed_to, waiting_rises, waiting_inside, waiting_by_minute}
+use Rattle.store_catches.proofs.CatchLaws.{waiting_first}
 use borrow.Author.Rules.{rules}
 use Rattle.store_catches.proofs.soonest_at.Goals as goal
 

@@ -1,7 +1,8 @@
 use Prim.Native.Nat.{◌-◌}
 use borrow.Author.Rules.{rules}
 use Rattle.store_frontier.specs.Front.{fronting_all}
-use Rattle.store_frontier.proofs.FrontLaws.{end_most, end_nearer, end_behind, run_from, minute_held, run_ordered, front_first, front_out, front_minute, arrival_inside, arrival_stop}
+use Rattle.store_frontier.proofs.FrontLaws.{end_most, end_nearer, end_behind, run_from, minute_held, run_ordered}
+use Rattle.store_frontier.proofs.FrontLaws.{front_first, front_out, front_minute, arrival_inside, arrival_stop}
 use Rattle.store_frontier.proofs.allow_station.Goals as goal
 
 pub loop-p-init : goal.loop-p-init

@@ -8,7 +8,8 @@ use Rattle.store_frontier.proofs.allow_station.Given as goal
 
 abbrev pub invariant-loop-p : goal.invariant-loop-p
 invariant-loop-p l = (l.begin ≤ l.p)
-    × ((l.p ≤ l.end) × ((length l.v ≡ length l.initial.v) × Fronting l.words l.arrivals l.begin l.end l.initial.low.0 l.initial.v l.p l.low.0 l.v))
+    × ((l.p ≤ l.end) × ((length l.v ≡ length l.initial.v) × Fronting l.words l.arrivals l.begin l.end l.initial.low.0
+    l.initial.v l.p l.low.0 l.v))
 
 abbrev pub decreases-loop-p : goal.decreases-loop-p
 decreases-loop-p l = l.end - l.p

@@ -3,7 +3,8 @@ use borrow.Author.Rules.{rules}
 use Rattle.timetable.specs.Access.{stations_few}
 use Rattle.store_stops.specs.OpenWays.{station_most}
 use Rattle.store_departures.specs.Held.{held_first}
-use Rattle.store_frontier.proofs.OntoLaws.{station_some, station_listed, station_here, here_inside, onto_bounds, own_bounds}
+use Rattle.store_frontier.proofs.OntoLaws.{station_some, station_listed, station_here, here_inside, onto_bounds}
+use Rattle.store_frontier.proofs.OntoLaws.{own_bounds}
 use Rattle.store_frontier.proofs.onto_bound.Goals as goal
 
 pub stop_at-c-requires : goal.stop_at-c-requires

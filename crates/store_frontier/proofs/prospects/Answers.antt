@@ -1,6 +1,7 @@
 -- The departures from minute d on are passed, and those in front of them leave too early.
 use borrow.Author.Rules.{rules}
-use Rattle.store_frontier.proofs.PassLaws.{words_long, stations_most_lem, order_within, order_rises, pass_first, passes_all, passes_bounded}
+use Rattle.store_frontier.proofs.PassLaws.{words_long, stations_most_lem, order_within, order_rises, pass_first}
+use Rattle.store_frontier.proofs.PassLaws.{passes_all, passes_bounded}
 use Rattle.store_frontier.proofs.prospects.Goals as goal
 
 pub first_from-begin-requires : goal.first_from-begin-requires

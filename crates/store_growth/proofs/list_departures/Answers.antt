@@ -23,7 +23,8 @@ chain_departures-requires c = (
 pub returns : goal.returns
 returns c = (
   search ordered,
-  standing_of _ _ _ _ c.chain_departures.ensures.chain_after c.chain_departures.ensures.chain_len c.chain_departures.ensures.begins
+  standing_of _ _ _ _ c.chain_departures.ensures.chain_after c.chain_departures.ensures.chain_len
+      c.chain_departures.ensures.begins
       (omega (arith, c.chain_departures.ensures.first_len_unchanged, c.requires.5)),
   search rules,
 )

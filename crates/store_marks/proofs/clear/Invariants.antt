@@ -9,7 +9,8 @@ use Rattle.store_marks.proofs.clear.Given as goal
 
 abbrev pub invariant-loop-k : goal.invariant-loop-k
 invariant-loop-k l = (l.begin ≤ l.k) × (l.k ≤ l.end) × (length l.x ≡ length l.initial.x)
-    × (fill (λ g. unreached) (slice l.begin l.end l.chain) l.initial.x ≡ fill (λ g. unreached) (slice l.k l.end l.chain) l.x)
+    × (fill (λ g. unreached) (slice l.begin l.end l.chain) l.initial.x ≡ fill (λ g. unreached) (slice l.k l.end l.chain)
+    l.x)
 
 abbrev pub decreases-loop-k : goal.decreases-loop-k
 decreases-loop-k l = l.end - l.k

@@ -10,7 +10,8 @@ use Rattle.store_marks.proofs.label_root.Given as goal
 
 abbrev pub invariant-loop-k : goal.invariant-loop-k
 invariant-loop-k l = (get_or l.first l.source 0 ≤ l.k) × (l.k ≤ l.end) × (length l.x ≡ 2048)
-    × (fill (root_label l.words l.d) (waiting l.words l.source) l.initial.x ≡ fill (root_label l.words l.d) (slice l.k l.end l.chain) l.x)
+    × (fill (root_label l.words l.d) (waiting l.words l.source) l.initial.x ≡ fill (root_label l.words l.d)
+    (slice l.k l.end l.chain) l.x)
 
 abbrev pub decreases-loop-k : goal.decreases-loop-k
 decreases-loop-k l = l.end - l.k

@@ -8,7 +8,8 @@ use Rattle.store_marks.specs.Riding.{boardings, run, flag_arc, flag_kids}
 use Rattle.store_marks.proofs.mark.Given as goal
 
 abbrev pub invariant-loop-k : goal.invariant-loop-k
-invariant-loop-k l = (get_or l.first l.c 0 ≤ l.k) × (l.k ≤ l.end) × (l.end ≤ length l.chain) × (length l.arcs ≡ 64) × (length l.kids ≡ 320)
+invariant-loop-k l = (get_or l.first l.c 0 ≤ l.k) × (l.k ≤ l.end) × (l.end ≤ length l.chain) × (length l.arcs ≡ 64) ×
+    (length l.kids ≡ 320)
     × (run (flag_arc l.words l.allowed) (boardings l.words l.c l.x (waiting l.words l.c)) l.initial.arcs
     ≡ run (flag_arc l.words l.allowed) (boardings l.words l.c l.x (slice l.k l.end l.chain)) l.arcs)
     × (run (flag_kids l.words l.q) (boardings l.words l.c l.x (waiting l.words l.c)) l.initial.kids

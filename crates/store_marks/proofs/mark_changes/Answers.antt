@@ -5,7 +5,15 @@ use Rattle.store_marks.proofs.ArrivalLaws.{kids_tried, kids_stay}
 use Rattle.store_marks.proofs.mark_changes.Goals as goal
 
 pub mark_own-requires-clause-words_value : goal.mark_own-requires-clause-words_value
-mark_own-requires-clause-words_value c = (search rules, search held_first, search held_prices, search rules, search rules, search rules)
+mark_own-requires-clause-words_value c = (
+  search rules,
+  search held_first,
+  search held_prices,
+  search rules,
+  search
+      rules,
+  search rules,
+)
 
 pub has_walks-requires : goal.has_walks-requires
 has_walks-requires c = search held_first

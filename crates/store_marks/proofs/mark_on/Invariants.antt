@@ -9,7 +9,8 @@ use Rattle.store_marks.specs.Riding.{visits, run, flag_arc, flag_kids}
 use Rattle.store_marks.proofs.mark_on.Given as goal
 
 abbrev pub invariant-loop-y : goal.invariant-loop-y
-invariant-loop-y l = (is_timetable l.words ≡ true) × Goes l.words l.j × (l.ride.0 ≡ points_of l.words l.j) × (l.y.0 ≤ 3166900 + 100 * l.j)
+invariant-loop-y l = (is_timetable l.words ≡ true) × Goes l.words l.j × (l.ride.0 ≡ points_of l.words l.j) ×
+    (l.y.0 ≤ 3166900 + 100 * l.j)
     × (length l.arcs ≡ 64) × (length l.kids ≡ 320) × (length l.initial.arcs ≡ 64) × (length l.initial.kids ≡ 320)
     × (run (flag_arc l.words l.allowed) (visits l.words l.c (2048 - l.i) l.i l.initial.y.0) l.initial.arcs
     ≡ run (flag_arc l.words l.allowed) (visits l.words l.c (2048 - l.j) l.j l.y.0) l.arcs)

@@ -10,7 +10,8 @@ use Rattle.store_marks.proofs.ride_all.Given as goal
 
 abbrev pub invariant-loop-k : goal.invariant-loop-k
 invariant-loop-k l = (get_or l.first l.c 0 ≤ l.k) × (l.k ≤ l.end) × (l.end ≤ length l.chain) × (length l.x ≡ 2048)
-    × (rides l.words l.c (on_foot l.way) (waiting l.words l.c) l.initial.x ≡ rides l.words l.c (on_foot l.way) (slice l.k l.end l.chain) l.x)
+    × (rides l.words l.c (on_foot l.way) (waiting l.words l.c) l.initial.x ≡ rides l.words l.c (on_foot l.way)
+    (slice l.k l.end l.chain) l.x)
 
 abbrev pub decreases-loop-k : goal.decreases-loop-k
 decreases-loop-k l = l.end - l.k

@@ -29,7 +29,8 @@ invariant-loop-p l = Routes l.words l.order l.n l.catch
     × (length l.x ≡ 2048)
     × (length l.arcs ≡ 6144)
     × (length l.kids ≡ 30720)
-    × Sought l.words l.chunk.source l.chain (get_or l.first l.chunk.source 0) l.p l.last l.chunk.lo l.chunk.hi l.arcs l.kids
+    × Sought l.words l.chunk.source l.chain (get_or l.first l.chunk.source 0) l.p l.last l.chunk.lo l.chunk.hi l.arcs
+    l.kids
     × Sounded l.words l.chunk.source l.chain (get_or l.first l.chunk.source 0) l.p l.chunk.lo l.chunk.hi l.reach
 
 abbrev pub decreases-loop-p : goal.decreases-loop-p

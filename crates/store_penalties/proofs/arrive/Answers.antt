@@ -1,7 +1,8 @@
 -- The word that is stored is the lesser of the two, and the changes are offered from there.
 use borrow.Author.Rules.{rules}
 use Rattle.timetable.specs.Access.{stations_few}
-use Rattle.store_penalties.proofs.ArriveLaws.{station_some, station_few, station_is, station_cheap, station_caught, paid_most, arrived, offered}
+use Rattle.store_penalties.proofs.ArriveLaws.{station_some, station_few, station_is, station_cheap, station_caught}
+use Rattle.store_penalties.proofs.ArriveLaws.{paid_most, arrived, offered}
 use Rattle.store_penalties.proofs.arrive.Goals as goal
 
 pub stop_at-c-requires : goal.stop_at-c-requires

@@ -7,7 +7,8 @@ use Rattle.store_stops.specs.Stopwise.{unreached}
 use Rattle.store_penalties.proofs.fill.Given as goal
 
 abbrev pub invariant-loop-k : goal.invariant-loop-k
-invariant-loop-k l = (l.k ≤ length l.initial.a) × (length l.a ≡ length l.initial.a) × (l.a ≡ replicate l.k unreached ++ drop l.k l.initial.a)
+invariant-loop-k l = (l.k ≤ length l.initial.a) × (length l.a ≡ length l.initial.a) ×
+    (l.a ≡ replicate l.k unreached ++ drop l.k l.initial.a)
 
 abbrev pub decreases-loop-k : goal.decreases-loop-k
 decreases-loop-k l = length l.initial.a - l.k

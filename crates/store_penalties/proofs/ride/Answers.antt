@@ -1,7 +1,8 @@
 -- Either no one boards, and no one arrives, or someone arrives at the next stop.
 use borrow.Author.Rules.{rules}
 use Rattle.query_minutes.specs.Compared.{at_least_yes, at_least_no}
-use Rattle.store_penalties.proofs.RideLaws.{read_at, read_low, passed, sum_fits, next_fits, next_few, next_arrives, next_some, next_most, next_cheap, next_caught, accepted, ridden}
+use Rattle.store_penalties.proofs.RideLaws.{read_at, read_low, passed, sum_fits, next_fits, next_few, next_arrives}
+use Rattle.store_penalties.proofs.RideLaws.{next_some, next_most, next_cheap, next_caught, accepted, ridden}
 use Rattle.store_penalties.proofs.ride.Goals as goal
 
 pub board-b-requires : goal.board-b-requires

@@ -9,14 +9,14 @@ loop-y-init c = (search rules, search rules, search all_first)
 
 pub list_from-here-requires : goal.list_from-here-requires
 list_from-here-requires c = (
-      search rules,
-      search rules,
-      search rules,
-      search station_few,
-      search station_last,
-      search rules,
-      search all_room,
-    )
+  search rules,
+  search rules,
+  search rules,
+  search station_few,
+  search station_last,
+  search rules,
+  search all_room,
+)
 
 pub loop-y-preserved : goal.loop-y-preserved
 loop-y-preserved c = (search rules, search rules, search all_more)

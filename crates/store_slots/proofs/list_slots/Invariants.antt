@@ -9,7 +9,8 @@ use Rattle.store_slots.proofs.list_slots.Given as goal
 abbrev pub invariant-loop-y : goal.invariant-loop-y
 invariant-loop-y l = (1 ≤ l.y)
     × (length l.list ≡ length l.initial.list)
-    × Writing (slots_to l.words 1 (suc l.stations)) (slots_to l.words l.y (suc l.stations)) l.initial.list l.list 0 l.here
+    × Writing (slots_to l.words 1 (suc l.stations)) (slots_to l.words l.y (suc l.stations)) l.initial.list l.list 0
+    l.here
 
 abbrev pub decreases-loop-y : goal.decreases-loop-y
 decreases-loop-y l = l.stations + 1 - l.y

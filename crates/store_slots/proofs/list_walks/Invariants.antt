@@ -8,7 +8,8 @@ use Rattle.store_slots.proofs.list_walks.Given as goal
 
 abbrev pub invariant-loop-k : goal.invariant-loop-k
 invariant-loop-k l = (length l.list ≡ length l.initial.list)
-    × Writing (side_slots l.words l.above l.y l.first l.end) (side_slots l.words l.above l.y l.k l.end) l.initial.list l.list l.at l.here
+    × Writing (side_slots l.words l.above l.y l.first l.end) (side_slots l.words l.above l.y l.k l.end) l.initial.list
+    l.list l.at l.here
 
 abbrev pub decreases-loop-k : goal.decreases-loop-k
 decreases-loop-k l = l.end - l.k

@@ -9,7 +9,8 @@ use Rattle.store_tree.proofs.put_kids.Given as goal
 abbrev pub invariant-loop-j : goal.invariant-loop-j
 invariant-loop-j l = (l.j ≤ length l.list)
     × (length l.work ≡ length l.initial.work)
-    × Writing (kid_words l.v (slot_marks l.kids l.list)) (kid_words l.v (slot_marks l.kids (drop l.j l.list))) l.initial.work l.work l.n l.here
+    × Writing (kid_words l.v (slot_marks l.kids l.list)) (kid_words l.v (slot_marks l.kids (drop l.j l.list)))
+    l.initial.work l.work l.n l.here
 
 abbrev pub decreases-loop-j : goal.decreases-loop-j
 decreases-loop-j l = length l.list - l.j

@@ -8,7 +8,8 @@ use Rattle.store_tree.proofs.write_hits.Given as goal
 
 abbrev pub invariant-loop-i : goal.invariant-loop-i
 invariant-loop-i l = (length l.store ≡ length l.initial.store)
-    × Writing (hits_to l.targets l.b l.v l.first l.end) (hits_to l.targets l.b l.v l.i l.end) l.initial.store l.store l.at l.here
+    × Writing (hits_to l.targets l.b l.v l.first l.end) (hits_to l.targets l.b l.v l.i l.end) l.initial.store l.store
+    l.at l.here
 
 abbrev pub decreases-loop-i : goal.decreases-loop-i
 decreases-loop-i l = l.end - l.i

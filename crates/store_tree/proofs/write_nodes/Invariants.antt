@@ -10,7 +10,8 @@ abbrev pub invariant-loop-v : goal.invariant-loop-v
 invariant-loop-v l = (1 ≤ l.v)
     × (l.v ≤ l.n + 1)
     × (length l.store ≡ length l.initial.store)
-    × Writing (entries_to l.words l.work 1 (suc l.n)) (entries_to l.words l.work l.v (suc l.n)) l.initial.store l.store 2 (3 * l.v - 1)
+    × Writing (entries_to l.words l.work 1 (suc l.n)) (entries_to l.words l.work l.v (suc l.n)) l.initial.store l.store
+    2 (3 * l.v - 1)
 
 abbrev pub decreases-loop-v : goal.decreases-loop-v
 decreases-loop-v l = l.n + 1 - l.v

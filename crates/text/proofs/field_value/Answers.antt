@@ -1,7 +1,8 @@
-use Prim.Native.Nat.{◌<◌, ◌-◌}
+use Prim.Native.Nat.{◌<◌}
 use native.Mathlib.Omega.{arith}
 use borrow.Author.Rules.{rules}
-use Rattle.text.specs.Number.{value_empty, value_long, value_zero, value_leading, value_digits, digits_end, digits_break, digits_more}
+use Rattle.text.specs.Number.{value_empty, value_long, value_zero, value_leading, value_digits, digits_end}
+use Rattle.text.specs.Number.{digits_break, digits_more}
 use Rattle.text.proofs.DigitLaws.{tens, tens_more, at_most_three}
 use Rattle.text.proofs.field_value.Goals as goal
 

@@ -8,7 +8,8 @@ use Rattle.text.proofs.DigitLaws.{tens}
 use Rattle.text.proofs.field_value.Given as goal
 
 abbrev pub invariant-loop-i : goal.invariant-loop-i
-invariant-loop-i l = (l.n ≡ length l.field) × ((l.n ≤ 4) × ((l.value < tens l.i) × (field_value l.field ≡ decimal l.value (drop l.i l.field))))
+invariant-loop-i l = (l.n ≡ length l.field) × ((l.n ≤ 4) × ((l.value < tens l.i) ×
+    (field_value l.field ≡ decimal l.value (drop l.i l.field))))
 
 abbrev pub decreases-loop-i : goal.decreases-loop-i
 decreases-loop-i l = l.n - l.i

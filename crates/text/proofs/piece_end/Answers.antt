@@ -1,4 +1,3 @@
-use Prim.Native.Nat.{◌-◌}
 use borrow.Author.Rules.{rules}
 use Rattle.text.specs.Piece.{piece_ends, piece_found, piece_goes_on}
 use Rattle.text.proofs.piece_end.Goals as goal

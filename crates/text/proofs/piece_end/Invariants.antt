@@ -6,7 +6,8 @@ use Rattle.text.specs.Piece.{piece_length}
 use Rattle.text.proofs.piece_end.Given as goal
 
 abbrev pub invariant-loop-i : goal.invariant-loop-i
-invariant-loop-i l = (l.from ≤ l.i) × (l.i ≤ length l.s) × (l.from + piece_length l.mark (drop l.from l.s) ≡ l.i + piece_length l.mark (drop l.i l.s))
+invariant-loop-i l = (l.from ≤ l.i) × (l.i ≤ length l.s) × (l.from + piece_length l.mark (drop l.from l.s) ≡ l.i +
+    piece_length l.mark (drop l.i l.s))
 
 abbrev pub decreases-loop-i : goal.decreases-loop-i
 decreases-loop-i l = length l.s - l.i

@@ -13,7 +13,11 @@ returns-then-depart-eq-EMPTY c = simp (c.if-depart-eq-EMPTY.true, ne_eqb _ _ c.i
 
 pub returns-then-depart-gt-NUMBER_MOST : goal.returns-then-depart-gt-NUMBER_MOST
 unfolding depart_fits
-returns-then-depart-gt-NUMBER_MOST c = simp (ne_eqb _ _ c.if-depart-eq-EMPTY.false, lt-leb _ _ c.if-depart-gt-NUMBER_MOST.true)
+returns-then-depart-gt-NUMBER_MOST c = simp (
+  ne_eqb _ _ c.if-depart-eq-EMPTY.false,
+  lt-leb _ _
+      c.if-depart-gt-NUMBER_MOST.true,
+)
 
 pub returns : goal.returns
 unfolding depart_fits

@@ -1,5 +1,4 @@
 use mathlib.Core.Path.{refl, sym}
-use Prim.Native.Nat.{◌-◌}
 use borrow.Author.Rules.{rules}
 use Rattle.words.specs.Put.{put_none}
 use Rattle.text_shapes.proofs.ValueLaws.{eight_count, eight_stored, last_count, last_stored, more_left, more_stored}

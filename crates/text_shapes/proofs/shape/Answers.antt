@@ -1,5 +1,6 @@
 -- The line's first byte and its count of fields choose the shape, and the array holds the values of its fields.
-use Rattle.text_shapes.proofs.ShapeLaws.{too_short, no_comma, station_fields_lem, station_shape_lem, walk_fields_lem, walk_shape_lem, stop_fields_lem, stop_shape_lem, other_kind}
+use Rattle.text_shapes.proofs.ShapeLaws.{too_short, no_comma, station_fields_lem, station_shape_lem, walk_fields_lem}
+use Rattle.text_shapes.proofs.ShapeLaws.{walk_shape_lem, stop_fields_lem, stop_shape_lem, other_kind}
 use Rattle.text_shapes.proofs.shape.Goals as goal
 
 pub returns-then-n-lt2 : goal.returns-then-n-lt2

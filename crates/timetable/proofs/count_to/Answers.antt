@@ -1,4 +1,3 @@
-use Prim.Native.Nat.{◌-◌}
 use borrow.Author.Rules.{rules}
 use Rattle.timetable.proofs.CountLaws.{count_more, count_done}
 use Rattle.timetable.proofs.count_to.Goals as goal

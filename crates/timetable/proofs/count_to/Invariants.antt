@@ -8,7 +8,8 @@ use Rattle.timetable.proofs.count_to.Given as goal
 abbrev pub invariant-loop-k : goal.invariant-loop-k
 invariant-loop-k l = (l.k ≤ l.walks)
     × (l.count ≤ l.k)
-    × (count_to (between (walk_in l.words l.place) 0 l.walks) l.y ≡ l.count + count_to (between (walk_in l.words l.place) l.k l.walks) l.y)
+    × (count_to (between (walk_in l.words l.place) 0 l.walks) l.y ≡ l.count + count_to
+    (between (walk_in l.words l.place) l.k l.walks) l.y)
 
 abbrev pub decreases-loop-k : goal.decreases-loop-k
 decreases-loop-k l = l.walks - l.k

@@ -1,6 +1,4 @@
-use Prim.Native.Nat.{◌-◌}
 use borrow.Author.Rules.{rules}
-use Rattle.timetable.specs.Words.{walk_at}
 use Rattle.timetable.specs.Access.{stations_few, trips_few, stops_few}
 use Rattle.timetable.proofs.WalkToLaws.{station_few, before_few, walk_few}
 use Rattle.timetable.proofs.WalkToLaws.{seek_begins, seek_none, seek_here, seek_on}

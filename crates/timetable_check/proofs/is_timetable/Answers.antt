@@ -1,5 +1,6 @@
 -- The tests are those of `decision`, in its order, and `decided` shows that they come to question 9.
-use Rattle.timetable_check.proofs.DecideLaws.{no_stations, many_stations, many_trips, many_stops, late_start, bad_numbers, bad_stations, many_walks, bad_walks, bad_feet, trips_decide}
+use Rattle.timetable_check.proofs.DecideLaws.{no_stations, many_stations, many_trips, many_stops, late_start}
+use Rattle.timetable_check.proofs.DecideLaws.{bad_numbers, bad_stations, many_walks, bad_walks, bad_feet, trips_decide}
 use Rattle.timetable_check.proofs.is_timetable.Goals as goal
 
 pub returns-then-stations-lt1 : goal.returns-then-stations-lt1

@@ -6,7 +6,8 @@ use Rattle.timetable.specs.Check.{numbers_at}
 use Rattle.timetable_check.proofs.numbers_climb.Given as goal
 
 abbrev pub invariant-loop-k : goal.invariant-loop-k
-invariant-loop-k l = (l.k ≤ l.trips) × (l.last < 65536) × (climb 0 (numbers_at l.words 0 l.trips) ≡ climb l.last (numbers_at l.words l.k l.trips))
+invariant-loop-k l = (l.k ≤ l.trips) × (l.last < 65536) × (climb 0 (numbers_at l.words 0 l.trips) ≡ climb l.last
+    (numbers_at l.words l.k l.trips))
 
 abbrev pub decreases-loop-k : goal.decreases-loop-k
 decreases-loop-k l = l.trips - l.k

@@ -9,7 +9,11 @@ returns-then-words-lt-WORDS_LEAST c = simp (lt-leb _ _ c.if-words-lt-WORDS_LEAST
 
 pub returns-then-is_timetable : goal.returns-then-is_timetable
 unfolding timetable_number
-returns-then-is_timetable c = simp (le-leb _ _ c.if-words-lt-WORDS_LEAST.false, ← c.is_timetable.ensures, c.if-is_timetable.true)
+returns-then-is_timetable c = simp (
+  le-leb _ _ c.if-words-lt-WORDS_LEAST.false,
+  ← c.is_timetable.ensures,
+  c.if-is_timetable.true,
+)
 
 pub returns : goal.returns
 unfolding timetable_number

@@ -6,7 +6,8 @@ use Rattle.timetable.specs.Check.{walks_at}
 use Rattle.timetable_check.proofs.walks_are_valid.Given as goal
 
 abbrev pub invariant-loop-k : goal.invariant-loop-k
-invariant-loop-k l = (l.k ≤ l.walks) × (valid_walks l.n (walks_at l.words 0 l.walks) ≡ valid_walks l.n (walks_at l.words l.k l.walks))
+invariant-loop-k l = (l.k ≤ l.walks) × (valid_walks l.n (walks_at l.words 0 l.walks) ≡ valid_walks l.n
+    (walks_at l.words l.k l.walks))
 
 abbrev pub decreases-loop-k : goal.decreases-loop-k
 decreases-loop-k l = l.walks - l.k

@@ -9,7 +9,8 @@ use Rattle.timetable_trips.proofs.trip_runs.Given as goal
 abbrev pub invariant-loop-i : goal.invariant-loop-i
 invariant-loop-i l = (l.first < l.i)
     × (l.i ≤ l.end)
-    × (runs l.n (stop_at l.words l.first) (stops_at l.words (l.first + 1) l.end) ≡ runs l.n l.before (stops_at l.words l.i l.end))
+    × (runs l.n (stop_at l.words l.first) (stops_at l.words (l.first + 1) l.end) ≡ runs l.n l.before
+    (stops_at l.words l.i l.end))
 
 abbrev pub decreases-loop-i : goal.decreases-loop-i
 decreases-loop-i l = l.end - l.i

@@ -1,5 +1,4 @@
 use mathlib.Core.Path.{refl, sym}
-use Prim.Native.Nat.{◌-◌}
 use borrow.Author.Rules.{rules}
 use Rattle.words.specs.Put.{put_none, copy_more, copied}
 use Rattle.words.proofs.copy_long.Goals as goal

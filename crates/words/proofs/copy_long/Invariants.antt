@@ -6,7 +6,8 @@ use Rattle.words.specs.Put.{put}
 use Rattle.words.proofs.copy_long.Given as goal
 
 abbrev pub invariant-loop-j : goal.invariant-loop-j
-invariant-loop-j l = (l.j ≤ l.n) × ((length l.dst ≡ length l.initial.dst) × (l.dst ≡ put l.at (take l.j l.src) l.initial.dst))
+invariant-loop-j l = (l.j ≤ l.n) × ((length l.dst ≡ length l.initial.dst) ×
+    (l.dst ≡ put l.at (take l.j l.src) l.initial.dst))
 
 abbrev pub decreases-loop-j : goal.decreases-loop-j
 decreases-loop-j l = l.n - l.j

@@ -12,7 +12,15 @@ pub loop-j-init : goal.loop-j-init
 loop-j-init c = (search rules, search sought_first)
 
 pub calls-preserved-then-g-j : goal.calls-preserved-then-g-j
-calls-preserved-then-g-j c = (search rules, search rules, search rules, search rules, search rules, search (no_trip, sought_none))
+calls-preserved-then-g-j c = (
+  search rules,
+  search rules,
+  search rules,
+  search rules,
+  search rules,
+  search
+      (no_trip, sought_none),
+)
 
 pub loop-j-preserved : goal.loop-j-preserved
 loop-j-preserved c = (
@@ -22,7 +30,15 @@ loop-j-preserved c = (
 )
 
 pub calls-preserved : goal.calls-preserved
-calls-preserved c = (search rules, search rules, search rules, search rules, search rules, search (some_trip, sought_here))
+calls-preserved c = (
+  search rules,
+  search rules,
+  search rules,
+  search rules,
+  search rules,
+  search
+      (some_trip, sought_here),
+)
 
 pub returns-clause-best_after : goal.returns-clause-best_after
 returns-clause-best_after c = search first_done

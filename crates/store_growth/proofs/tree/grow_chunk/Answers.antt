@@ -29,7 +29,8 @@ take_chunk-requires c = search some_chunk
 
 pub returns : goal.returns
 returns c = (
-  chunk_reached _ _ _ _ c.requires.0 _ _ _ _ _ _ _ c.requires.5 c.requires.6 c.requires.7 c.requires.8 _ c.requires.9 _ _ c.mark_chunk.ensures.0 c.mark_chunk.ensures.6
+  chunk_reached _ _ _ _ c.requires.0 _ _ _ _ _ _ _ c.requires.5 c.requires.6 c.requires.7 c.requires.8 _ c.requires.9 _
+      _ c.mark_chunk.ensures.0 c.mark_chunk.ensures.6
       c.mark_chunk.ensures.7 _ _ _ c.take_chunk.ensures,
   c.mark_chunk.ensures.1,
   c.mark_chunk.ensures.2,

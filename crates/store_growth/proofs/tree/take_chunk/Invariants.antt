@@ -13,7 +13,8 @@ invariant-loop-v l = (l.lo ≤ l.v)
     × (length l.kids ≡ 30720)
     × (length l.work ≡ length l.initial.work)
     × (length l.targets ≡ length l.initial.targets)
-    × Underway l.list l.initial.work l.initial.targets l.nodes l.ends l.lo l.hi l.arcs l.kids l.work l.targets l.n l.m l.v
+    × Underway l.list l.initial.work l.initial.targets l.nodes l.ends l.lo l.hi l.arcs l.kids l.work l.targets l.n l.m
+    l.v
 
 abbrev pub decreases-loop-v : goal.decreases-loop-v
 decreases-loop-v l = l.hi - l.v

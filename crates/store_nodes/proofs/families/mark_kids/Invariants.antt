@@ -18,8 +18,10 @@ invariant-loop-parent l = (1 ≤ l.v)
     × (length l.kids ≡ 30720)
     × (l.parent ≡ parent_in (get_or l.work l.v 0))
     × StaysOn l.words l.work l.parent l.c l.node l.v l.hope l.allowed l.q l.initial.x l.x l.initial.hand l.hand
-    × ToldOn 64 (ArcsAt l.words) l.words l.work l.parent l.lo l.node l.v l.c l.initial.x l.hope l.allowed l.q l.initial.arcs l.arcs
-    × ToldOn 320 (KidsAt l.words) l.words l.work l.parent l.lo l.node l.v l.c l.initial.x l.hope l.allowed l.q l.initial.kids l.kids
+    × ToldOn 64 (ArcsAt l.words) l.words l.work l.parent l.lo l.node l.v l.c l.initial.x l.hope l.allowed l.q
+    l.initial.arcs l.arcs
+    × ToldOn 320 (KidsAt l.words) l.words l.work l.parent l.lo l.node l.v l.c l.initial.x l.hope l.allowed l.q
+    l.initial.kids l.kids
 
 abbrev pub decreases-loop-parent : goal.decreases-loop-parent
 decreases-loop-parent l = l.hi - l.v

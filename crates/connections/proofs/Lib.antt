@@ -1,0 +1,9 @@
+pub mod Feasibility
+pub mod Listed
+pub mod OptimalLaws
+pub mod RideLaws
+pub mod Sound
+pub mod Ties
+pub mod Named
+pub mod Platforms
+pub mod WithoutWalks

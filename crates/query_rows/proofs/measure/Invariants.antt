@@ -1,0 +1,21 @@
+-- The words counted so far are those of the rows before the minute, each of which has the word of its arc.
+use mathlib.Core.Path.{◌≡◌}
+use Prim.Native.Nat.{◌≤◌, ◌*◌, ◌-◌}
+use lib.ListN.{length}
+use Rattle.promises.specs.Query.{rows}
+use Rattle.query_minutes.specs.Ending.{LeadsEnd}
+use Rattle.query_rows.specs.Named.{AllNamed}
+use Rattle.query_rows.proofs.PassLaws.{Counting}
+use Rattle.query_rows.proofs.measure.Given as goal
+
+abbrev pub invariant-loop-m : goal.invariant-loop-m
+invariant-loop-m l = (l.m ≤ 2880)
+    × (l.count ≤ 195 * l.m)
+    × LeadsEnd l.best l.end
+    × (length l.who ≡ 2880)
+    × (length l.work ≡ length l.initial.work)
+    × AllNamed l.words l.store l.asked.from l.asked.to l.asked.minute l.best l.who
+    × Counting l.best l.who (rows l.words l.store l.asked.from l.asked.to l.asked.minute) l.count l.least.0 l.m
+
+abbrev pub decreases-loop-m : goal.decreases-loop-m
+decreases-loop-m l = 2880 - l.m

@@ -1,0 +1,4 @@
+pub mod KeptLaws
+pub mod StoredLaws
+pub mod WellMade
+pub mod WithoutWalks
