@@ -3,3 +3,4 @@ pub mod NumberLaws
 pub mod CountLaws
 pub mod DrawLaws
 pub mod SomeLaws
+pub mod Alone

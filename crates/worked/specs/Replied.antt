@@ -30,7 +30,7 @@ use Rattle.lines.specs.DirectRides.{directs, direct_rows}
 use Rattle.lines_lookup.specs.Lookup.{line_count as counted_lines}
 use Rattle.lines_lookup.specs.Holding.{holding}
 use Rattle.lines_piece.specs.Piece.{piece_number}
-use Rattle.lines_alone.specs.Alone.{building_has_yes_alone}
+use Rattle.lines_alone.proofs.Alone.{building_has_yes_alone}
 use Rattle.lines_piece.specs.Handed.{trips_handed as handed}
 use Rattle.demands.specs.Demands.{Query}
 use Rattle.promises.specs.Packed.{packed_reply, packed_count}
