@@ -9,7 +9,7 @@ use Rattle.lists.specs.Lists.{◌∈◌, Distinct}
 use Rattle.lists.specs.Members.{none, cons_cases}
 use Rattle.lists.specs.Pigeonhole.{Within, pigeonhole}
 use Rattle.results.specs.Results.{dominates}
-use Rattle.results.specs.Domination.{dominates_in, dominates_out}
+use Rattle.results.proofs.Domination.{dominates_in, dominates_out}
 use Rattle.connections.specs.Rides.{Ride}
 use Rattle.connections.specs.Connections.{Change, Net, Connection, direct, onward, Feasible, Optimal, ready}
 use Rattle.connections.specs.Connections.{departure, arrival, penalty, cost, pattern}

@@ -6,8 +6,8 @@ use Rattle.std.proofs.Math.Path.{ap}
 use Rattle.timetable.specs.Timetable.{Timetable, valid}
 use Rattle.lists.specs.Lists.{◌∈◌, filter}
 use Rattle.results.specs.Results.{Undominated, Picked, Answers}
-use Rattle.results.specs.Answered.{result_answers}
-use Rattle.results.specs.Kept.{result_kept, empty_kept}
+use Rattle.results.proofs.Answered.{result_answers}
+use Rattle.results.proofs.Kept.{result_kept, empty_kept}
 use Rattle.connections.specs.Connections.{Feasible, Net, net, Connection, stations}
 use Rattle.connections.specs.Planner.{planner_list, measure, rows_of, row_says}
 use Rattle.connections.proofs.Sound.{Sound, sound}

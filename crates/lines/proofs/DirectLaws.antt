@@ -10,8 +10,8 @@ use Rattle.lists.specs.Lists.{◌∈◌, filter, first_of, range}
 use Rattle.lists.specs.Tests.{T_left, T_right, reads, writes, eq→eqb}
 use Rattle.lists.specs.Members.{filter_in, filter_out, first_out, concat_map_in, concat_map_out, range_in}
 use Rattle.results.specs.Results.{costs}
-use Rattle.results.specs.Domination.{NoWorse}
-use Rattle.results.specs.Kept.{costs_covered}
+use Rattle.results.proofs.Domination.{NoWorse}
+use Rattle.results.proofs.Kept.{costs_covered}
 use Rattle.connections.specs.Rides.{Ride, no_stop, ride_in, may_board, may_alight, may_ride}
 use Rattle.connections.specs.Connections.{Net, net, Connection, direct, onward, Feasible, arrival, penalty, cost}
 use Rattle.connections.specs.Planner.{boardable, measure, ride_count}

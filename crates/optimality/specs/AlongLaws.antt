@@ -4,7 +4,7 @@ use Rattle.std.specs.Prelude.{◌≡◌, refl, ◌↔◌, ℕ, ◌+◌, ◌≤�
 use Rattle.std.proofs.Common.{sym, ap, subst, ◌∙◌, arith}
 use mathlib.Core.List.{List, [], ◌∷◌, reverse_aux}
 use Rattle.lists.specs.Lists.{◌∈◌, tail}
-use Rattle.results.specs.Picks.{lead}
+use Rattle.results.proofs.Picks.{lead}
 use Rattle.connections.specs.Rides.{Ride}
 use Rattle.connections.specs.Connections.{Change, Transfer, transfer, Net, Connection, direct, onward, Boards, Changes}
 use Rattle.connections.specs.Connections.{Feasible, ready, arrival, penalty, stations}

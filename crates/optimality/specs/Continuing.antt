@@ -8,7 +8,7 @@ use mathlib.Core.List.{List, [], ◌∷◌, reverse_aux}
 use Prim.Native.Nat.{ℕ, ◌+◌, ◌≤◌}
 use Rattle.std.proofs.Math.ListN.{length}
 use Rattle.lists.specs.Lists.{tail}
-use Rattle.results.specs.Picks.{lead}
+use Rattle.results.proofs.Picks.{lead}
 use Rattle.connections.specs.Connections.{Transfer, transfer, Net, Connection, direct, onward, Feasible, ready, arrival}
 use Rattle.connections.specs.Connections.{penalty, stations}
 use Rattle.connections.proofs.Sound.{Sound}

@@ -4,7 +4,7 @@ use Rattle.std.specs.Prelude.{not, [], ℕ, suc, ◌≤◌, ◌<◌, T, ltb}
 use native.Mathlib.Omega.{arith, by_contra}
 use Rattle.std.proofs.Common.{ltb→lt, nltb→le}
 use Rattle.lists.specs.Tests.{either}
-use Rattle.results.specs.Domination.{Better, dominates_in, dominates_out}
+use Rattle.results.proofs.Domination.{Better, dominates_in, dominates_out}
 use Rattle.connections.specs.Connections.{Net, Connection, Feasible, Optimal, arrival, penalty}
 use Rattle.connections.specs.Connections.{cost}
 use Rattle.connections.proofs.Sound.{Sound}

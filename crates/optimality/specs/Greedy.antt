@@ -6,7 +6,7 @@ use Rattle.std.proofs.Common.{sym, ap, subst, ◌∙◌, inl, inr, arith}
 use Rattle.timetable.specs.Timetable.{last_minute}
 use Rattle.lists.specs.Lists.{◌∈◌, before, tail}
 use Rattle.lists.specs.Order.{before_cases, before_head, before_tail}
-use Rattle.results.specs.Picks.{lead}
+use Rattle.results.proofs.Picks.{lead}
 use Rattle.connections.specs.Rides.{Ride}
 use Rattle.connections.specs.Connections.{Change, Net, Connection, direct, onward, Boards, Feasible, ready, arrival}
 use Rattle.connections.specs.Connections.{penalty, stations, departure}

@@ -13,7 +13,7 @@ use Rattle.words.specs.Put.{put_front}
 use Rattle.replies.specs.Replies.{reply_of, words_after}
 use Rattle.timetable.specs.Timetable.{last_minute}
 use Rattle.results.specs.Results.{Measure, row, entries, result, costs, Climbs, Answers}
-use Rattle.results.specs.Answered.{result_answers}
+use Rattle.results.proofs.Answered.{result_answers}
 use Rattle.connections.specs.Connections.{Connection, duration}
 use Rattle.connections.specs.Planner.{measure, rows_of}
 use Rattle.promises.specs.Packed.{packed_count}

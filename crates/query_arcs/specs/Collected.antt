@@ -12,8 +12,8 @@ use Rattle.std.proofs.Math.ListN.{get_or-eq_default}
 use Rattle.lists.specs.Lists.{◌∈◌, tail}
 use Rattle.lists.specs.Places.{no_length}
 use Rattle.lists.specs.Members.{none, append_cases, cons_cases}
-use Rattle.results.specs.Best.{ByThen, by_lower}
-use Rattle.results.specs.Picks.{lead}
+use Rattle.results.proofs.Best.{ByThen, by_lower}
+use Rattle.results.proofs.Picks.{lead}
 use Rattle.connections.specs.Connections.{Transfer, Net, Connection, direct, onward, Feasible, ready, arrival}
 use Rattle.connections.specs.Connections.{penalty, stations}
 use Rattle.connections.proofs.Sound.{Sound}

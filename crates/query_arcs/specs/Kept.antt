@@ -1,7 +1,7 @@
 -- The least penalty for each minute of arrival, of the connections on a list.
 use Rattle.std.specs.Prelude.{◌≡◌, List, ℕ, ◌≤◌, ◌<◌, get_or}
 use Rattle.lists.specs.Lists.{◌∈◌}
-use Rattle.results.specs.Best.{ByThen}
+use Rattle.results.proofs.Best.{ByThen}
 use Rattle.connections.specs.Connections.{Connection, arrival, penalty}
 use Rattle.query_minutes.specs.Minutes.{no_points}
 use Rattle.query_costs.specs.Lowered.{kept}

@@ -8,7 +8,7 @@ use Rattle.std.proofs.Common.{get_or-set_other, ext_get_or}
 use native.Mathlib.Omega.{arith, min_cases}
 use Rattle.std.proofs.lemmas.List.{length-replicate}
 use Rattle.lists.specs.Tests.{either}
-use Rattle.results.specs.Best.{by_lower}
+use Rattle.results.proofs.Best.{by_lower}
 use Rattle.connections.specs.Connections.{Transfer, Net}
 use Rattle.optimality.specs.Along.{Ends}
 use Rattle.query_minutes.specs.Minutes.{no_points, blank}

@@ -8,7 +8,7 @@ use Prim.Native.Nat.{ℕ, suc, ◌≤◌, ◌<◌}
 use Rattle.std.proofs.Math.Decide.{dec_lt}
 use Rattle.std.proofs.Math.ListN.{get_or}
 use Rattle.lists.specs.Lists.{◌∈◌}
-use Rattle.results.specs.Best.{ByThen}
+use Rattle.results.proofs.Best.{ByThen}
 use Rattle.connections.specs.Connections.{Transfer, Net, Connection, Feasible, arrival, penalty, stations}
 use Rattle.connections.proofs.Sound.{Sound}
 use Rattle.optimality.specs.Along.{read_back}

@@ -1,7 +1,7 @@
 -- What the code of a query promises for one stored pattern: it lowers the least penalties of the arrival minutes to
 -- those of connections of the pattern, so that for each of them one is kept that arrives no later and costs no more.
 use Rattle.std.specs.Prelude.{◌≡◌, ◌⊎◌, List, ℕ, ◌≤◌, length, get_or}
-use Rattle.results.specs.Best.{ByThen}
+use Rattle.results.proofs.Best.{ByThen}
 use Rattle.connections.specs.Connections.{Transfer, Net}
 use Rattle.optimality.specs.Along.{Ends}
 use Rattle.query_minutes.specs.Minutes.{no_points}

@@ -11,7 +11,7 @@ use Rattle.std.proofs.Math.ListN.{length-replicate, get_or-eq_default}
 use Rattle.std.proofs.Math.Seq.{get_or-set_same, get_or-set_other}
 use Rattle.timetable.specs.Timetable.{Timetable, valid}
 use Rattle.lists.specs.Lists.{◌∈◌}
-use Rattle.results.specs.Best.{ByThen}
+use Rattle.results.proofs.Best.{ByThen}
 use Rattle.connections.specs.Rides.{Ride}
 use Rattle.connections.specs.Connections.{Net, net, Change, Transfer, transfer, Changes, ready}
 use Rattle.connections.proofs.Sound.{sound, ride_cheap}

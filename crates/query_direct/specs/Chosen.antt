@@ -12,9 +12,9 @@ use Rattle.std.proofs.Math.ListN.{length, get_or-eq_default}
 use Rattle.std.proofs.lemmas.List.{length-map}
 use Rattle.lists.specs.Lists.{◌∈◌, before, concat_map, tail}
 use Rattle.results.specs.Results.{Cost, Measure, pair, row, costs, Undominated, Picked, Climbs}
-use Rattle.results.specs.Best.{ByThen, Has, LeastPoints, Leads, leads_exactly}
-use Rattle.results.specs.Picks.{lead, costs_in, costs_out, undominated_cost}
-use Rattle.results.specs.Answered.{result_is, result_none}
+use Rattle.results.proofs.Best.{ByThen, Has, LeastPoints, Leads, leads_exactly}
+use Rattle.results.proofs.Picks.{lead, costs_in, costs_out, undominated_cost}
+use Rattle.results.proofs.Answered.{result_is, result_none}
 use Rattle.connections.specs.Rides.{Ride}
 use Rattle.connections.specs.Connections.{Connection, direct, duration, penalty, cost}
 use Rattle.connections.specs.Planner.{tie_key, measure, rows_of}

@@ -11,8 +11,8 @@ use Rattle.lists.specs.Lists.{◌∈◌, first_of}
 use Rattle.lists.specs.Tests.{reads, writes}
 use Rattle.lists.specs.Members.{none}
 use Rattle.results.specs.Results.{costs, Picked}
-use Rattle.results.specs.Domination.{NoWorse, Better, dominates_in}
-use Rattle.results.specs.Kept.{costs_covered, result_kept, empty_kept}
+use Rattle.results.proofs.Domination.{NoWorse, Better, dominates_in}
+use Rattle.results.proofs.Kept.{costs_covered, result_kept, empty_kept}
 use Rattle.connections.specs.Rides.{Ride, ride_in}
 use Rattle.connections.specs.Connections.{net, Connection, direct, cost}
 use Rattle.connections.specs.Planner.{measure, rows_of}

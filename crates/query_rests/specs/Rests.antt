@@ -5,7 +5,7 @@ use Rattle.std.proofs.Common.{sym, ap, ◌∙◌, arith}
 use Rattle.std.proofs.Math.Seq.{slice}
 use Rattle.timetable.specs.Words.{timetable_of}
 use Rattle.lists.specs.Lists.{◌∈◌, tail}
-use Rattle.results.specs.Picks.{lead}
+use Rattle.results.proofs.Picks.{lead}
 use Rattle.connections.specs.Rides.{Ride}
 use Rattle.connections.specs.Connections.{Change, Net, net, Connection, direct, onward, Boards, Feasible}
 use Rattle.connections.specs.Connections.{arrival, penalty, stations}

@@ -10,8 +10,8 @@ use Rattle.std.proofs.Math.ListN.{length}
 use Rattle.lists.specs.Lists.{◌∈◌, tail}
 use Rattle.lists.specs.Places.{no_length}
 use Rattle.results.specs.Results.{Cost, row}
-use Rattle.results.specs.Picks.{lead, pick}
-use Rattle.results.specs.Answered.{result_none}
+use Rattle.results.proofs.Picks.{lead, pick}
+use Rattle.results.proofs.Answered.{result_none}
 use Rattle.connections.specs.Connections.{Connection, arrival, duration, penalty}
 use Rattle.connections.specs.Planner.{measure, rows_of}
 use Rattle.query_minutes.specs.Minutes.{no_points, leads}

@@ -10,9 +10,9 @@ use Rattle.std.proofs.Math.ListN.{get_or-eq_default}
 use Rattle.lists.specs.Lists.{◌∈◌, before, tail}
 use Rattle.lists.specs.Members.{none, cons_cases}
 use Rattle.results.specs.Results.{Cost, pair, row, Undominated, Picked, Climbs}
-use Rattle.results.specs.Best.{ByThen, Has, LeastPoints, Leads, leads_exactly}
-use Rattle.results.specs.Picks.{lead, undominated_cost}
-use Rattle.results.specs.Answered.{result_is}
+use Rattle.results.proofs.Best.{ByThen, Has, LeastPoints, Leads, leads_exactly}
+use Rattle.results.proofs.Picks.{lead, undominated_cost}
+use Rattle.results.proofs.Answered.{result_is}
 use Rattle.connections.specs.Connections.{Connection, arrival, duration, penalty, cost}
 use Rattle.connections.specs.Planner.{tie_key, measure, rows_of}
 use Rattle.query_minutes.specs.Minutes.{no_points, leads}

@@ -9,7 +9,7 @@ use Rattle.lists.specs.Lists.{◌∈◌, before}
 use Rattle.lists.specs.Order.{before_trans, not_before_trans}
 use Rattle.lists.specs.Members.{none, append_cases, cons_cases}
 use Rattle.results.specs.Results.{Cost}
-use Rattle.results.specs.Best.{ByThen}
+use Rattle.results.proofs.Best.{ByThen}
 use Rattle.connections.specs.Connections.{Net, Connection, Feasible, arrival, penalty, stations}
 use Rattle.connections.specs.Planner.{tie_key}
 use Rattle.connections.proofs.Sound.{Sound}

@@ -13,7 +13,7 @@ use Rattle.lists.specs.Members.{filter_in, filter_out, concat_map_in, concat_map
 use Rattle.lists.specs.Pigeonhole.{Within}
 use Rattle.lists.specs.Sorting.{sort_in, sort_out}
 use Rattle.results.specs.Results.{undominated}
-use Rattle.results.specs.Picks.{undominated_in, undominated_out}
+use Rattle.results.proofs.Picks.{undominated_in, undominated_out}
 use Rattle.connections.specs.Connections.{Net, Connection, direct, onward, Optimal, stations}
 use Rattle.connections.specs.Planner.{planner_list, measure}
 use Rattle.connections.proofs.Sound.{Sound}

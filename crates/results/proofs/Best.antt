@@ -6,8 +6,8 @@ use native.Mathlib.Omega.{arith, by_contra}
 use Rattle.lists.specs.Lists.{◌∈◌, tail}
 use Rattle.lists.specs.Tests.{either}
 use Rattle.results.specs.Results.{Measure, pair, over, Undominated}
-use Rattle.results.specs.Domination.{dominates_in, dominates_out}
-use Rattle.results.specs.Picks.{lead}
+use Rattle.results.proofs.Domination.{dominates_in, dominates_out}
+use Rattle.results.proofs.Picks.{lead}
 
 -- by minute m one arrives for at most p points: so much is kept for that minute or for one before it
 pub record ByThen (best : ℕ → ℕ) (m p : ℕ) : Type 0 where

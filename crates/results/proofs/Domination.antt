@@ -31,7 +31,7 @@ module _ (x y : Cost) where
   dominates_out t =
       let a : x.minutes ≤ y.minutes = search reads in
       let b : x.points ≤ y.points = search reads in
-      elim (T_or_cases (ltb x.minutes y.minutes) (ltb x.points y.points) (search T_right)) [
+      elim (T_or_cases (ltb x.minutes y.minutes) (ltb x.points y.points) (search (T_right, T_or_left, reads))) [
         | inl s ↦ omega (arith, ltb→lt)
         | inr s ↦ omega (arith, ltb→lt)
       ]

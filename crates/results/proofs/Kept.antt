@@ -10,9 +10,9 @@ use Rattle.lists.specs.Lists.{◌∈◌}
 use Rattle.lists.specs.Members.{none}
 use Rattle.lists.specs.Sorting.{Inside, rising_unique}
 use Rattle.results.specs.Results.{Measure, pair, told, over, entries, result, costs, Undominated, Picked}
-use Rattle.results.specs.Domination.{NoWorse, Better, dominates_in, dominates_out, undominated_same}
-use Rattle.results.specs.Picks.{entries_in, entries_out, entries_rising, costs_in, costs_out, costs_rising}
-use Rattle.results.specs.Picks.{undominated_cost, optimum, pick, picked_once}
+use Rattle.results.proofs.Domination.{NoWorse, Better, dominates_in, dominates_out, undominated_same}
+use Rattle.results.proofs.Picks.{entries_in, entries_out, entries_rising, costs_in, costs_out, costs_rising}
+use Rattle.results.proofs.Picks.{undominated_cost, optimum, pick, picked_once}
 
 -- one with the cost and row of another has its pair
 pub same_pair : {X : Type 0} (m : Measure X) (c e : X) → m.cost c ≡ m.cost e → pair m c ≡ pair m e

@@ -13,7 +13,7 @@ use Rattle.lists.specs.Order.{before_irrefl, before_trans, before_total}
 use Rattle.lists.specs.Sorting.{sort_in, sort_out, sort_rising}
 use Rattle.results.specs.Results.{equal, Measure, pair, entry, over, undominated, ahead, shown, entries, costs}
 use Rattle.results.specs.Results.{Undominated, Picked}
-use Rattle.results.specs.Domination.{NoWorse, dominates_out, equal_in, equal_out}
+use Rattle.results.proofs.Domination.{NoWorse, dominates_out, equal_in, equal_out}
 
 -- the first of some words
 abbrev pub lead : List ℕ → ℕ

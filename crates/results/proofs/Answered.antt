@@ -14,9 +14,9 @@ use Rattle.lists.specs.Order.{before_head, before_cases, before_irrefl, before_s
 use Rattle.lists.specs.Sorting.{Inside, rising_unique}
 use Rattle.results.specs.Results.{Cost, Measure, pair, row, entry, told, entries, result, costs, Undominated}
 use Rattle.results.specs.Results.{Picked, Climbs, Answers}
-use Rattle.results.specs.Domination.{dominates_in}
-use Rattle.results.specs.Picks.{entries_in, entries_out, entries_rising, costs_in, costs_out, costs_rising}
-use Rattle.results.specs.Picks.{optimum, pick, picked_once}
+use Rattle.results.proofs.Domination.{dominates_in}
+use Rattle.results.proofs.Picks.{entries_in, entries_out, entries_rising, costs_in, costs_out, costs_rising}
+use Rattle.results.proofs.Picks.{optimum, pick, picked_once}
 
 module _ {X : Type 0} (m : Measure X) where
   -- a row is told from the entry
