@@ -16,8 +16,8 @@ use Rattle.text_shapes.specs.Shape.{shape_of}
 use Rattle.timetable.specs.Timetable.{Timetable, valid}
 use Rattle.timetable.specs.Words.{count_to, words, timetable_of, chained, footed, is_timetable}
 use Rattle.timetable.specs.Access.{spelled_valid}
-use Rattle.reading.specs.declared.Reply.{Reply}
-use Rattle.reading.specs.declared.Reply.TheVariants.{Refused as ReplyRefused}
+use Rattle.reading.specs.Reply.{Reply}
+use Rattle.reading.specs.Reply.{Refused as ReplyRefused}
 use Rattle.reading_lines.specs.Draft.{Draft, text_rules, blank, with_line}
 use Rattle.reading_lines.specs.Progress.{progress, line_number_at}
 use Rattle.reading.specs.Reading.{Outcome, Accepted, Refused, complete, ended, read_under, read_from, text_most}

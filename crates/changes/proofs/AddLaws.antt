@@ -15,8 +15,8 @@ use Rattle.timetable.specs.Check.{length_stations, length_trips}
 use Rattle.timetable.specs.Access.{spelled_valid}
 use Rattle.timetable.specs.Changes.{without, inserted, runs_as, place_of, added}
 use Rattle.reading.specs.Reading.{Outcome, Accepted, Refused, read_extra}
-use Rattle.reading.specs.declared.Reply.{Reply}
-use Rattle.reading.specs.declared.Reply.TheVariants.{Done, Refused as ReplyRefused}
+use Rattle.reading.specs.Reply.{Reply}
+use Rattle.reading.specs.Reply.{Done, Refused as ReplyRefused}
 use Rattle.accepted.specs.Valid.{is_valid, valid_is}
 use Rattle.accepted.specs.Changed.{climb_more}
 use Rattle.accepted.specs.Extra.{ExtraRead, extra_one, extra_valid}
@@ -28,8 +28,8 @@ use Rattle.lines_check.specs.Yes.{tables_asked}
 use Rattle.promises.specs.Changes.{add_number, add_outcome, add_reply, add_timetable, add_lines}
 use Rattle.changes_words.specs.Appended.{Fitting, put_in}
 use Rattle.changes_extra.specs.Extra.{TripIs, TripRead}
-use Rattle.changes_extra.specs.declared.Found.{Found}
-use Rattle.changes_extra.specs.declared.Found.TheVariants.{Whole, Refused as FoundRefused}
+use Rattle.changes_extra.specs.Found.{Found}
+use Rattle.changes_extra.specs.Found.{Whole, Refused as FoundRefused}
 use Rattle.changes.proofs.AskedLaws.{tables_yes, granted}
 use Rattle.changes.proofs.AfterLaws.{after_yes, after_spells, back, length_inserted}
 use Rattle.changes_places.specs.Runs.{all_stops}

@@ -7,8 +7,8 @@ use native.Mathlib.Omega.{arith}
 use borrow.Author.Tests.{not-true, not-false}
 use lib.Dec.{T}
 use Rattle.questions.specs.Question.{ask, first_no}
-use Rattle.replies.specs.declared.Reply.{Reply}
-use Rattle.replies.specs.declared.Reply.TheVariants.{Done, Refused}
+use Rattle.replies.specs.Reply.{Reply}
+use Rattle.replies.specs.Reply.{Done, Refused}
 use Rattle.replies.specs.Replies.{reply_done, reply_refused, words_done, words_kept}
 use Rattle.replies.specs.Later.{asked_on, asked_out}
 use Rattle.words.specs.Put.{put}

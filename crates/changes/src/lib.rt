@@ -11,11 +11,13 @@ ghost use Rattle.lines_order.specs.Order.{OrderOf};
 ghost use Rattle.lines_tables.specs.Tables.{table_words};
 ghost use Rattle.lines_tables.specs.Building.{line_count};
 ghost use Rattle.lines_check.specs.Question10.{tables_number};
+ghost use Rattle.replies.specs.Reply.{reply_seen};
+ghost use Rattle.reading.specs.Reply.{read_seen};
 ghost use Rattle.promises.specs.Changes.{cancel_reply, cancel_timetable, cancel_lines, add_reply, add_timetable};
 ghost use Rattle.promises.specs.Changes.{add_lines};
 
-use changes_extra::Found;
-use replies::Reply;
+use questions::Refusal;
+use reading::RefusedLine;
 
 // Builds the line tables of the timetable after a change, whose trips are given in order. Returns the number of lines.
 fn rebuild(timetable: &[u16], order: &[u16], lines: &mut [u16], work: &mut [u32]) -> u32
@@ -61,10 +63,10 @@ fn cancel_asked(
     work: &mut [u32],
     order: &mut [u16],
     trip: u32,
-) -> Reply
+) -> Result<u32, Refusal>
     requires work_value { tables_number timetable.old lines.old (length work.old) ≡ 0 }
     requires order_len { (length order.old ≡ 256) × OrderOf (timetable_of timetable.old).trips order.old }
-    ensures value { result
+    ensures value { reply_seen result
         ≡ cancel_reply timetable.old lines.old (length work.old) trip }
     ensures timetable_after { timetable.new
         ≡ cancel_timetable timetable.old lines.old (length work.old) trip }
@@ -73,16 +75,21 @@ fn cancel_asked(
 {
     let place = changes_places::place_of(timetable, trip);
     if !changes_places::is_running(timetable, place, trip) {
-        return Reply::Refused { number: 18 };
+        return Err(Refusal::NotRunning);
     }
     take_out(timetable, order, place);
     let count = rebuild(timetable, order, lines, work);
-    Reply::Done { count }
+    Ok(count)
 }
 
 // Cancels the trip of this number. Working space may hold any words afterwards.
-pub fn cancel(timetable: &mut [u16], lines: &mut [u16], work: &mut [u32], trip: u32) -> Reply
-    ensures reply { result
+pub fn cancel(
+    timetable: &mut [u16],
+    lines: &mut [u16],
+    work: &mut [u32],
+    trip: u32,
+) -> Result<u32, Refusal>
+    ensures reply { reply_seen result
         ≡ cancel_reply timetable.old lines.old (length work.old) trip }
     ensures timetable { timetable.new
         ≡ cancel_timetable timetable.old lines.old (length work.old) trip }
@@ -90,10 +97,7 @@ pub fn cancel(timetable: &mut [u16], lines: &mut [u16], work: &mut [u32], trip: 
         ≡ cancel_lines timetable.old lines.old (length work.old) trip }
 {
     let mut order = [0u16; lines_order::ORDER_WORDS];
-    let number = lines_check::order_number(timetable, lines, work, &mut order);
-    if number != 0 {
-        return Reply::Refused { number };
-    }
+    lines_check::order_number(timetable, lines, work, &mut order)?;
     cancel_asked(timetable, lines, work, &mut order, trip)
 }
 
@@ -106,13 +110,13 @@ fn add_free(
     trip: u32,
     text: &[u8],
     place: usize,
-) -> reading::Reply
+) -> Result<u32, RefusedLine>
     requires work_value { (tables_number timetable.old lines.old (length work.old) ≡ 0)
         × (place ≡ place_of trip (timetable_of timetable.old).numbers)
         × (place ≤ trip_count timetable.old)
         × (runs_as trip (timetable_of timetable.old).numbers ≡ false) }
     requires order_len { (length order.old ≡ 256) × OrderOf (timetable_of timetable.old).trips order.old }
-    ensures value { result
+    ensures value { read_seen result
         ≡ add_reply timetable.old lines.old (length work.old) trip
         text.now }
     ensures timetable_after { timetable.new
@@ -123,17 +127,11 @@ fn add_free(
         text.now }
 {
     let mut extra = [0u16; timetable::WORDS_LEAST];
-    match changes_extra::read_trip(timetable, trip, text, &mut extra) {
-        Found::Refused { number, line } => {
-            return reading::Reply::Refused { number, line };
-        }
-        Found::Whole => {
-            changes_words::put_in(timetable, place, &extra);
-            lines_order::put_in(timetable, order, place as u16);
-            let count = rebuild(timetable, order, lines, work);
-            return reading::Reply::Done { lines: count };
-        }
-    }
+    changes_extra::read_trip(timetable, trip, text, &mut extra)?;
+    changes_words::put_in(timetable, place, &extra);
+    lines_order::put_in(timetable, order, place as u16);
+    let count = rebuild(timetable, order, lines, work);
+    Ok(count)
 }
 
 // Adds a trip of this number, where questions 8 to 10 have their yes and the trips are given in order.
@@ -144,10 +142,10 @@ fn add_asked(
     order: &mut [u16],
     trip: u32,
     text: &[u8],
-) -> reading::Reply
+) -> Result<u32, RefusedLine>
     requires work_value { tables_number timetable.old lines.old (length work.old) ≡ 0 }
     requires order_len { (length order.old ≡ 256) × OrderOf (timetable_of timetable.old).trips order.old }
-    ensures value { result
+    ensures value { read_seen result
         ≡ add_reply timetable.old lines.old (length work.old) trip
         text.now }
     ensures timetable_after { timetable.new
@@ -159,10 +157,10 @@ fn add_asked(
 {
     let place = changes_places::place_of(timetable, trip);
     if changes_places::is_running(timetable, place, trip) {
-        return reading::Reply::Refused {
-            number: 19,
+        return Err(RefusedLine {
+            refusal: Refusal::Running,
             line: 0,
-        };
+        });
     }
     add_free(timetable, lines, work, order, trip, text, place)
 }
@@ -174,8 +172,8 @@ pub fn add(
     work: &mut [u32],
     trip: u32,
     text: &[u8],
-) -> reading::Reply
-    ensures reply { result
+) -> Result<u32, RefusedLine>
+    ensures reply { read_seen result
         ≡ add_reply timetable.old lines.old (length work.old) trip
         text.now }
     ensures timetable { timetable.new
@@ -186,9 +184,6 @@ pub fn add(
         text.now }
 {
     let mut order = [0u16; lines_order::ORDER_WORDS];
-    let number = lines_check::order_number(timetable, lines, work, &mut order);
-    if number != 0 {
-        return reading::Reply::Refused { number, line: 0 };
-    }
+    lines_check::order_number(timetable, lines, work, &mut order)?;
     add_asked(timetable, lines, work, &mut order, trip, text)
 }

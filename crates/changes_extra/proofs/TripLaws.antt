@@ -21,12 +21,12 @@ use Rattle.reading.specs.Reading.{Outcome, Accepted, Refused, read_under, read_e
 use Rattle.reading_lines.specs.Progress.{Within, Running}
 use Rattle.reading_lines.specs.declared.Progress.{Progress}
 use Rattle.reading.specs.Model.{stations_in, read_after, progress_of, LinesRead}
-use Rattle.reading.specs.declared.Lines.{Lines}
-use Rattle.reading.specs.declared.Lines.TheVariants.{Accepted as LinesAccepted, Refused as LinesRefused}
+use Rattle.reading.specs.Lines.{Lines}
+use Rattle.reading.specs.Lines.{Accepted as LinesAccepted, Refused as LinesRefused}
 use Rattle.accepted.specs.Extra.{extra_one}
 use Rattle.changes_extra.specs.Extra.{Single, StopsAre, StopsRead, TripRead}
 use Rattle.changes_places.specs.Runs.{stations_are, all_stops}
-use Rattle.changes_extra.specs.declared.Found.TheVariants.{Whole, Refused as FoundRefused}
+use Rattle.changes_extra.specs.Found.{Whole, Refused as FoundRefused}
 
 -- ---- stations whose words an array begins with
 abbrev no_station : Station

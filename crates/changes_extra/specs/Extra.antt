@@ -7,10 +7,10 @@ use Rattle.timetable.specs.Words.{start_words, words}
 use Rattle.reading.specs.Reading.{Outcome, Accepted, Refused}
 use Rattle.reading_lines.specs.Progress.{Within}
 use Rattle.reading.specs.Model.{body_words, progress_of}
-use Rattle.reading.specs.declared.Lines.{Lines}
-use Rattle.reading.specs.declared.Lines.TheVariants.{Accepted as LinesAccepted, Refused as LinesRefused}
-use Rattle.changes_extra.specs.declared.Found.{Found}
-use Rattle.changes_extra.specs.declared.Found.TheVariants.{Whole, Refused as FoundRefused}
+use Rattle.reading.specs.Lines.{Lines}
+use Rattle.reading.specs.Lines.{Accepted as LinesAccepted, Refused as LinesRefused}
+use Rattle.changes_extra.specs.Found.{Found}
+use Rattle.changes_extra.specs.Found.{Whole, Refused as FoundRefused}
 
 -- the extra trip of number n, alone with the stations, in the arrays; no walk line is a line of it
 pub record Single (n : ℕ) (one : Timetable) (body starts : List ℕ) : Type 0 where

@@ -5,18 +5,13 @@ ghost use Rattle.std.specs.Prelude.{◌≡◌, true, false, ◌≤◌, ◌<◌, 
 ghost use Rattle.words.specs.Put.{put};
 ghost use Rattle.timetable.specs.Changes.{runs_as};
 ghost use Rattle.timetable.specs.Words.{timetable_of, is_timetable};
+ghost use Rattle.reading.specs.Lines.{lines_seen};
 ghost use Rattle.reading.specs.Reading.{read_extra};
+ghost use Rattle.changes_extra.specs.Found.{found_seen};
 ghost use Rattle.changes_extra.specs.Extra.{StopsRead, TripRead};
 
-use reading::Lines;
-use reading_lines::Rules;
-
-// The lines of an extra trip: all of them read, or the refusal's number with its line.
-#[derive(Clone, Copy)]
-pub enum Found {
-    Whole,
-    Refused { number: u32, line: u32 },
-}
+use reading::RefusedLine;
+use reading_lines::{Progress, Rules};
 
 // Reads the lines of an extra trip behind the stations of the timetable.
 fn read_stops(
@@ -26,15 +21,15 @@ fn read_stops(
     body: &mut [u16],
     starts: &mut [u16],
     walking: &mut [u16],
-) -> Lines
+) -> Result<(Progress, u32), RefusedLine>
     requires { (16384 ≤ length words.now)
         × (is_timetable words.now ≡ true)
         × (runs_as number (timetable_of words.now).numbers ≡ false)
         × (length body.old ≡ 10368)
         × (length starts.old ≡ 257)
         × (length walking.old ≡ 1024) }
-    ensures { StopsRead number (read_extra (timetable_of words.now) number text.now) result
-        body.new starts.new }
+    ensures { StopsRead number (read_extra (timetable_of words.now) number text.now)
+        (lines_seen result) body.new starts.new }
 {
     let rules = Rules {
         extra: true,
@@ -64,29 +59,28 @@ fn put_number(numbers: &mut [u16], number: u32)
 
 // Reads the lines of an extra trip into the words of a timetable that has the same stations and this trip alone, and no
 // walks.
-pub fn read_trip(words: &[u16], number: u32, text: &[u8], extra: &mut [u16]) -> Found
+pub fn read_trip(
+    words: &[u16],
+    number: u32,
+    text: &[u8],
+    extra: &mut [u16],
+) -> Result<(), RefusedLine>
     requires { (16384 ≤ length words.now)
         × (is_timetable words.now ≡ true)
         × (runs_as number (timetable_of words.now).numbers ≡ false)
         × (length extra.old ≡ 16384) }
-    ensures trip_read { TripRead (read_extra (timetable_of words.now) number text.now) result
-        extra.new extra.old }
+    ensures trip_read { TripRead (read_extra (timetable_of words.now) number text.now)
+        (found_seen result) extra.new extra.old }
     ensures extra_len_unchanged { length extra.new ≡ length extra.old }
 {
     let mut body = [0u16; timetable::BODY_WORDS];
     let mut starts = [0u16; timetable::STARTS_WORDS];
     let mut numbers = [0u16; timetable::NUMBERS_WORDS];
     let mut walking = [0u16; timetable::WALKING_WORDS];
-    match read_stops(words, number, text, &mut body, &mut starts, &mut walking) {
-        Lines::Refused { number, line } => {
-            return Found::Refused { number, line };
-        }
-        Lines::Accepted(p, _) => {
-            put_number(&mut numbers, number);
-            timetable_writing::write_words(
-                extra, p.stations, p.trips, p.stops, 0, &body, &starts, &numbers, &walking,
-            );
-            return Found::Whole;
-        }
-    }
+    let (p, _) = read_stops(words, number, text, &mut body, &mut starts, &mut walking)?;
+    put_number(&mut numbers, number);
+    timetable_writing::write_words(
+        extra, p.stations, p.trips, p.stops, 0, &body, &starts, &numbers, &walking,
+    );
+    Ok(())
 }

@@ -40,7 +40,7 @@ module _ (w : List ℕ) (n trips k : ℕ) (is_trips : trips ≡ get_or w 1 0)
       let one = place_on_lem n (number_at w k) (numbers_at w (k + 1) trips) (omega arith) in
       omega (arith, left, here, one)
 
-  pub place_last : k ≤ trips → trips ≤ k → k ≡ place_of n (timetable_of w).numbers
+  pub place_last : k ≤ trips → trips ≤ k → trips ≡ place_of n (timetable_of w).numbers
   place_last h g =
       let none = ap (place_of n) (between_none (number_at w) k trips g) in
       omega (arith, left, none, place_none n, whole)

@@ -12,14 +12,12 @@ pub fn place_of(words: &[u16], number: u32) -> usize
         × (result ≤ trip_count words.now) }
 {
     let trips = words::word(words, 1) as usize;
-    let mut k = 0;
-    while k < trips {
+    for k in 0..trips {
         if number <= timetable::number_at(words, k) {
             return k;
         }
-        k += 1;
     }
-    k
+    trips
 }
 
 // Whether the trip of this number runs: then it stands in its place.

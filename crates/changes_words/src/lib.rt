@@ -30,11 +30,9 @@ fn shift_starts(words: &[u16], from: usize, to: usize, starts: &mut [u16], p: Co
     ensures starts_len_unchanged { length starts.new ≡ length starts.old }
 {
     let first = timetable::start_at(words, from);
-    let mut k = from;
-    while k < to {
+    for k in from..to {
         let end = timetable::start_at(words, k + 1);
         starts[p.trips + 1 + (k - from)] = (p.stops + (end - first)) as u16;
-        k += 1;
     }
 }
 

@@ -15,3 +15,10 @@ pub place_packed : (v : List ℕ) (n k line number start count r : ℕ) → numb
 unfolding packed_place
 place_packed v n k line number start count r e f g same h =
     h ∙ (λ i. packed (e i) (f i * 65536 + (g ∙ ap (λ m. length_told v m line) same) i))
+
+-- a refused line has no piece
+pub place_refused : (v : List ℕ) (n line number k r : ℕ) → k ≡ piece_number v n line → number ≡ k
+    → 0 ≡ start_told v n line → 0 ≡ length_told v n line → r ≡ packed number 0 → r ≡ packed_place v n line
+unfolding packed_place
+place_refused v n line number k r e same f g h =
+    h ∙ (λ i. packed ((same ∙ e) i) (f i * 65536 + g i))

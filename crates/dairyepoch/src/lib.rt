@@ -17,7 +17,7 @@ ghost use Rattle.promises.specs.Changes.{add_lines};
 ghost use Rattle.promises.specs.Packed.{packed, packed_reply, packed_count};
 ghost use Rattle.dairyepoch.specs.Packed.{packed_place};
 
-use replies_packed::{pack, pack_count, pack_reply};
+use replies_packed::{pack, pack_asked, pack_count, pack_reply};
 
 // What 1 in the index of a piece counts; its length stands below.
 const PIECE: u32 = 65536;
@@ -36,7 +36,7 @@ pub extern "C" fn dairyepoch_read(text: &[u8], timetable: &mut [u16]) -> u64
 pub extern "C" fn dairyepoch_check_timetable(timetable: &[u16]) -> u64
     ensures { result ≡ packed (timetable_number timetable.now) 0 }
 {
-    pack(timetable_check::timetable_number(timetable), 0)
+    pack_asked(timetable_check::timetable_number(timetable))
 }
 
 // Builds the line tables of timetable words, with lent working space.
@@ -63,7 +63,7 @@ pub extern "C" fn dairyepoch_check_lines(timetable: &[u16], lines: &[u16], work:
         (tables_number timetable.now lines.now (length work.old))
         0 }
 {
-    pack(lines_check::tables_number(timetable, lines, work), 0)
+    pack_asked(lines_check::tables_number(timetable, lines, work))
 }
 
 // Translates line tables to times by trip, then by stop.
@@ -155,7 +155,7 @@ pub extern "C" fn dairyepoch_direct(
 pub extern "C" fn dairyepoch_check_lines_alone(lines: &[u16], work: &mut [u32]) -> u64
     ensures { result ≡ packed (alone_number lines.now (length work.old)) 0 }
 {
-    pack(lines_alone::alone_number(lines, work), 0)
+    pack_asked(lines_alone::alone_number(lines, work))
 }
 
 // Where in the lent line tables the numbers of a line's trips stand: the index of the first, and how many there are.
@@ -163,10 +163,14 @@ pub extern "C" fn dairyepoch_check_lines_alone(lines: &[u16], work: &mut [u32]) 
 pub extern "C" fn dairyepoch_line_trips(lines: &[u16], work: &mut [u32], line: u32) -> u64
     ensures { result ≡ packed_place lines.now (length work.old) line }
 {
-    let place = lines_piece::line_place(lines, work, line);
-    let trips = lines_piece::line_trips(lines, work, line);
-    let count = trips.len();
-    pack(place.number, place.start * PIECE + count as u32)
+    match lines_piece::line_place(lines, work, line) {
+        Ok(place) => {
+            let trips = lines_piece::line_trips(lines, work, line);
+            let count = trips.len();
+            pack(0, place.start * PIECE + count as u32)
+        }
+        Err(refusal) => pack(refusal.number(), 0),
+    }
 }
 
 // Makes the store of a source.

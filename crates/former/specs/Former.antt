@@ -6,8 +6,8 @@ use Rattle.std.specs.Prelude.{cond, ◌&&◌, ◌||◌, List, [], ◌∷◌, ◌
 use Rattle.text.specs.Piece.{pieces}
 use Rattle.text.specs.Number.{empty_field, is_number, field_value}
 use Rattle.text.specs.Time.{time_value}
-use Rattle.reading.specs.declared.Reply.{Reply}
-use Rattle.reading.specs.declared.Reply.TheVariants.{Refused as ReplyRefused}
+use Rattle.reading.specs.Reply.{Reply}
+use Rattle.reading.specs.Reply.{Refused as ReplyRefused}
 use Rattle.reading_lines.specs.Draft.{blank}
 use Rattle.reading.specs.Reading.{Outcome, Refused, read_by, text_most, slices_least, reply_to, written}
 use Rattle.accepted.specs.Marks.{fielded}

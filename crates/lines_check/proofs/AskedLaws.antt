@@ -1,14 +1,16 @@
 -- The ways out of the questions to a query: those about the tables first, then the stations, then the minute.
-use mathlib.Core.Path.{◌≡◌, refl, sym, ◌∙◌}
+use mathlib.Core.Path.{◌≡◌, sym, ◌∙◌}
 use mathlib.Core.Bool.{Bool, true, false, not, ◌&&◌}
 use mathlib.Core.List.{List, [], ◌∷◌, ◌++◌}
-use Prim.Native.Nat.{ℕ, zero, suc, ◌≤◌, ◌<◌}
+use Prim.Native.Nat.{ℕ, ◌≤◌, ◌<◌}
 use borrow.Author.Tests.{le-leb, lt-leb, leb-true, not-true, not-false}
 use lib.Dec.{leb, eqb}
 use lib.ListN.{length, get_or}
 use Rattle.questions.specs.Question.{Question, ask, first_no, yes_here}
 use Rattle.lists.specs.Tests.{and_left}
-use Rattle.replies.specs.Later.{asked_on, asked_out}
+use Rattle.questions.specs.declared.Refusal.{Refusal}
+use Rattle.questions.specs.Refused.{question_number}
+use Rattle.replies.specs.Later.{asked_on, asked_refused}
 use Rattle.timetable.specs.Timetable.{last_minute}
 use Rattle.timetable.specs.Words.{timetable_of, is_timetable}
 use Rattle.timetable.specs.Check.{length_stations}
@@ -42,23 +44,19 @@ module _ (w : List ℕ) (a b : ℕ) (r s : Bool) (first : r ≡ listed (timetabl
   both_listed e h = simp (← first, not-false r yes-first, ← e, not-false s h)
 
 -- ---- the call
-module _ (w v : List ℕ) (n a b u number : ℕ) (is : number ≡ tables_number w v n) where
+module _ (w v : List ℕ) (n a b u : ℕ) where
   abbrev later : List Question
   later = ask 11 (named (timetable_of w) a b) ∷ ask 12 (leb u last_minute) ∷ []
 
-  pub tables_refused : (number ≡ 0 → ⊥) → number ≡ query_number w v n a b u
+  pub tables_refused : (r : Refusal) → question_number r ≡ tables_number w v n
+      → question_number r ≡ query_number w v n a b u
   unfolding query_number tables_number
-  tables_refused h = go number is h
-    where
-      go : (k : ℕ) → k ≡ first_no (tables_questions w v n) → (k ≡ 0 → ⊥) → k ≡ first_no
-          (tables_questions w v n ++ later)
-      go zero e h = absurd (h refl)
-      go (suc k) e h = sym (asked_out (tables_questions w v n) later (tables_asked w v n) k e)
+  tables_refused r e = asked_refused (tables_questions w v n) later (tables_asked w v n) r e
 
-  module _ (none : number ≡ 0) where
+  module _ (is : 0 ≡ tables_number w v n) where
     on : query_number w v n a b u ≡ first_no later
     unfolding query_number tables_number
-    on = asked_on (tables_questions w v n) later (tables_asked w v n) (sym is ∙ none)
+    on = asked_on (tables_questions w v n) later (tables_asked w v n) (sym is)
 
     module _ (r : Bool) (asked : r ≡ named (timetable_of w) a b) where
       pub not_named : not r ≡ true → 11 ≡ query_number w v n a b u
@@ -71,13 +69,13 @@ module _ (w v : List ℕ) (n a b u number : ℕ) (is : number ≡ tables_number 
       all_asked h g = sym (on ∙ simp (← asked, not-false r h, le-leb u last_minute g))
 
 -- ---- where the questions about the tables have no refusal, each has its yes
-module _ (w v : List ℕ) (n number : ℕ) (is : number ≡ tables_number w v n) (none : number ≡ 0) where
+module _ (w v : List ℕ) (n : ℕ) (is : 0 ≡ tables_number w v n) where
   abbrev long : Bool
   long = leb slices_least (length w) && leb slices_least (length v) && leb slices_least n
 
   no_refusal : first_no (tables_questions w v n) ≡ 0
   unfolding tables_number
-  no_refusal = sym is ∙ none
+  no_refusal = sym is
 
   long_yes : long ≡ true
   long_yes = yes_here 7 long (ask 9 (is_timetable w) ∷ ask 10 (are_tables w v) ∷ []) no_refusal

@@ -1,6 +1,6 @@
 -- Two lists are the same where their first words are, and the rest is.
 use mathlib.Core.Path.{◌≡◌, refl, sym, ◌∙◌}
-use mathlib.Core.Bool.{Bool, true, false, cond}
+use mathlib.Core.Bool.{Bool, true, false, not}
 use mathlib.Core.List.{List}
 use Prim.Native.Nat.{ℕ, ◌+◌, ◌≤◌, ◌<◌}
 use native.Mathlib.Numerals.{add-one}
@@ -10,6 +10,7 @@ use borrow.Author.Tests.{eq-eqb, ne_eqb}
 use lib.Dec.{eqb}
 use lib.ListN.{length, get_or, take, drop, drop_of_length-le}
 use lib.Seq.{length-take-le}
+use Rattle.std.specs.Int.{from_bool}
 use Rattle.lists.specs.Lists.{same}
 use Rattle.lists.specs.Places.{drop_taken}
 
@@ -46,7 +47,7 @@ counted_none a b n = record { none = λ e. refl; some = λ h. absurd (omega arit
 
 module _ (a b : List ℕ) (n i others : ℕ) (long-a : n ≤ length a) (long-b : n ≤ length b)
     (k : Counted a b n i others) where
-  pub counted_more : (x d : ℕ) → i < n → x ≡ get_or b i 0 → d ≡ cond (eqb (get_or a i 0) x) 0 1
+  pub counted_more : (x d : ℕ) → i < n → x ≡ get_or b i 0 → d ≡ from_bool (not (eqb (get_or a i 0) x))
       → Counted a b n (i + 1) (others + d)
   counted_more x d h read is = elim (ℕ_discrete (get_or a i 0) x) [ yes e ↦ alike e | no e ↦ unlike e ]
     where

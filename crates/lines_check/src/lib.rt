@@ -2,26 +2,19 @@
 //! with a timetable: are they its own?
 #![tactic(auto)]
 
-ghost use Rattle.std.specs.Prelude.{◌≡◌, true, cond, ◌≤◌, eqb, length, take};
+ghost use Rattle.std.specs.Prelude.{◌≡◌, true, ◌≤◌, length, take};
 ghost use Rattle.lists.specs.Lists.{same};
 ghost use Rattle.timetable.specs.Words.{timetable_of, is_timetable};
 ghost use Rattle.lines_order.specs.Order.{OrderOf};
+ghost use Rattle.questions.specs.Refused.{number_seen};
 ghost use Rattle.lines_check.specs.Question10.{are_tables, tables_number};
 ghost use Rattle.lines_check.specs.Asked.{listed, named, query_number};
 ghost use Rattle.lines_check.specs.Ordered.{Ordered};
 
+use questions::Refusal;
+
 // The last minute of the two days that a timetable has.
 const LAST_MINUTE: u32 = timetable::LAST_MINUTE;
-
-// 1 if the words differ, else 0.
-fn differ(a: u32, b: u32) -> u32
-    ensures { (result ≡ cond (eqb a b) 0 1) × (result ≤ 1) }
-{
-    if a != b {
-        return 1;
-    }
-    0
-}
 
 // Whether the first count words of both are the same. Those that differ are counted to the end: without a way out in
 // between, several are compared at a time.
@@ -30,10 +23,8 @@ fn same_words(lines: &[u16], work: &[u32], count: usize) -> bool
     ensures { result ≡ same (take count work.now) (take count lines.now) }
 {
     let mut others = 0u32;
-    let mut i = 0;
-    while i < count {
-        others += differ(work[i], words::word(lines, i));
-        i += 1;
+    for i in 0..count {
+        others += u32::from(work[i] != words::word(lines, i));
     }
     others == 0
 }
@@ -66,38 +57,42 @@ pub fn are_tables(words: &[u16], lines: &[u16], work: &mut [u32]) -> bool
     match_tables(words, &order, lines, work)
 }
 
-// Questions 8, 9 and 10 to a timetable and line tables lent with it: 0, or the number of the first no. If it is 0, the
-// array has the trips in order afterwards. Working space may hold any words.
-pub fn order_number(words: &[u16], lines: &[u16], work: &mut [u32], order: &mut [u16]) -> u32
+// Questions 8, 9 and 10 to a timetable and line tables lent with it. Where each has its yes, the array has the trips in
+// order afterwards. Working space may hold any words.
+pub fn order_number(
+    words: &[u16],
+    lines: &[u16],
+    work: &mut [u32],
+    order: &mut [u16],
+) -> Result<(), Refusal>
     requires { length order.old ≡ 256 }
-    ensures value { result
+    ensures value { number_seen result
         ≡ tables_number words.now lines.now (length work.old) }
-    ensures ordered { Ordered result words.now order.new }
+    ensures ordered { Ordered (number_seen result) words.now order.new }
     ensures order_len { length order.new ≡ 256 }
 {
     if words.len() < timetable::WORDS_LEAST {
-        return 8;
+        return Err(Refusal::Space);
     }
     if lines.len() < lines_tables::WORDS_LEAST {
-        return 8;
+        return Err(Refusal::Space);
     }
     if work.len() < lines_tables::WORDS_LEAST {
-        return 8;
+        return Err(Refusal::Space);
     }
     if !timetable_check::is_timetable(words) {
-        return 9;
+        return Err(Refusal::NoTimetable);
     }
     lines_order::order_trips(words, words::word(words, 1) as usize, order);
     if match_tables(words, order, lines, &mut work[0..lines_tables::WORDS_LEAST]) {
-        return 0;
+        return Ok(());
     }
-    10
+    Err(Refusal::OtherTables)
 }
 
-// Questions 8, 9 and 10 to a timetable and line tables lent with it: 0, or the number of the first no. Working space
-// may hold any words afterwards.
-pub fn tables_number(words: &[u16], lines: &[u16], work: &mut [u32]) -> u32
-    ensures { result
+// Questions 8, 9 and 10 to a timetable and line tables lent with it. Working space may hold any words afterwards.
+pub fn tables_number(words: &[u16], lines: &[u16], work: &mut [u32]) -> Result<(), Refusal>
+    ensures { number_seen result
         ≡ tables_number words.now lines.now (length work.old) }
 {
     let mut order = [0u16; lines_order::ORDER_WORDS];
@@ -129,7 +124,7 @@ fn are_named(words: &[u16], from: u32, to: u32) -> bool
     from != to
 }
 
-// Questions 8 to 12 to a query: 0, or the number of the first no. Working space may hold any words afterwards.
+// Questions 8 to 12 to a query. Working space may hold any words afterwards.
 pub fn query_number(
     words: &[u16],
     lines: &[u16],
@@ -137,19 +132,16 @@ pub fn query_number(
     from: u32,
     to: u32,
     minute: u32,
-) -> u32
-    ensures { result
+) -> Result<(), Refusal>
+    ensures { number_seen result
         ≡ query_number words.now lines.now (length work.old) from to minute }
 {
-    let number = tables_number(words, lines, work);
-    if number != 0 {
-        return number;
-    }
+    tables_number(words, lines, work)?;
     if !are_named(words, from, to) {
-        return 11;
+        return Err(Refusal::NotNamed);
     }
     if LAST_MINUTE < minute {
-        return 12;
+        return Err(Refusal::Minute);
     }
-    0
+    Ok(())
 }

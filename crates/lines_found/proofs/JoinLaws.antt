@@ -113,7 +113,3 @@ module _ (i z k n : ℕ) (numbers ends : List ℕ) where
               (raised i (take n ends)) (omega (arith, as_many, ap length ends-so-far))
               ∙ ap (λ l. put 0 l ends₀) (rw ends-so-far (sym (ends_join i z 0 ls inside)));
         }
-
-pub below_wider : (k n : ℕ) (l : List ℕ) → Below (k + 1) (take n l) → k < 256 → Below 65535 (take n l)
-unfolding Below
-below_wider k n l b h y m = omega (arith, b y m)

@@ -1,78 +1,96 @@
--- Raising words by one: the words are known by what is left to raise, and a turn of the loop takes one from that.
-use mathlib.Core.Path.{◌≡◌, refl, sym, subst, ◌∙◌}
+-- Raising words by one: those up to an index are raised, and a turn of the loop raises one more.
+use mathlib.Core.Path.{◌≡◌, refl, sym, ap, subst, ◌∙◌}
 use mathlib.Core.List.Memᴰ
-use mathlib.Core.List.Memᴰ.{head as here}
-use mathlib.Core.List.{List, [], ◌∷◌, ◌++◌, map, append_assoc}
-use mathlib.Core.List.Memᴰ.{tail as there}
-use Prim.Native.Nat.{ℕ, suc, ◌+◌, ◌^◌, ◌≤◌, ◌<◌}
+use mathlib.Core.List.{List, [], ◌∷◌, ◌++◌, map, map-append, append_assoc, append-nil}
+use Prim.Native.Nat.{ℕ, suc, ◌+◌, ◌-◌, ◌^◌, ◌≤◌, ◌<◌}
 use native.Mathlib.Numerals.{add-one}
 use native.Mathlib.Omega.{arith}
-use lib.ListN.{length, get_or, take, drop, set, length-append, length-map, take-append-drop}
-use lib.Seq.{slice, slice-cons, slice_empty, length-slice, take-take, take-suc-set, take-set-lt, drop-set-lt}
+use borrow.Rule.Slice.PartMut.{put_mid}
+use lib.ListN.{length, get_or, take, drop, set, length-append, length-map, drop_of_length-le}
+use lib.Seq.{slice, length-slice, length-take-le, take-take, take-suc, take-add, take_all, drop-cons, drop-drop}
+use lib.Seq.{set_at, get_or-append-add, get_or-drop}
+use Rattle.std.proofs.lemmas.List.{drop-take}
 use Rattle.words.specs.Put.{put}
 use Rattle.lists.specs.Lists.{◌∈◌}
+use Rattle.lists.specs.Places.{get_d_in}
 use Rattle.lines_order.specs.Steps.{Below, length_before}
 use Rattle.lines_found.specs.Steps.{raised}
 
--- the words behind place i, of the first n, once the word at place i is another
-slice_set : (l : List ℕ) (i n x : ℕ) → i < n → slice (suc i) n (set l i x) ≡ slice (suc i) n l
-slice_set l i n x h = rw (take-set-lt n l i x h, drop-set-lt (suc i) (take n l) i x (omega arith))
+-- ---- word by word
+-- the words with those before place i raised
+abbrev pub lifted : (i : ℕ) → List ℕ → List ℕ
+lifted i l = map suc (take i l) ++ drop i l
 
--- ---- bounds
-drop_in : (l : List ℕ) (i y : ℕ) → y ∈ drop i l → y ∈ l
-drop_in l i y m = subst (λ k. y ∈ k) (take-append-drop i l) (Memᴰ.append_right (take i l) m)
+pub lifted_none : (l : List ℕ) → l ≡ lifted 0 l
+lifted_none l = refl
 
-module _ (m n i : ℕ) (l : List ℕ) where
-  pub below_rest : Below m (take n l) → Below m (slice i n l)
+pub lifted_all : (l₀ l : List ℕ) (i : ℕ) → l ≡ lifted i l₀ → length l₀ ≤ i → l ≡ map suc l₀
+lifted_all l₀ l i is h =
+    is
+    ∙ (λ z. map suc (take_all i l₀ h z) ++ drop_of_length-le l₀ {i = i} h z)
+    ∙ append-nil (map suc l₀)
+
+module _ (l₀ l : List ℕ) (i : ℕ) (is : l ≡ lifted i l₀) (h : i < length l₀) where
+  front : List ℕ
+  front = map suc (take i l₀)
+
+  long : length front ≡ i
+  unfolding front
+  long = length-map (take i l₀) suc ∙ length-take-le i l₀ (omega arith)
+
+  lifted_here : get_or l i 0 ≡ get_or l₀ i 0
+  unfolding front
+  lifted_here =
+      let place : i ≡ length front + 0 = omega (arith, long) in
+      let first : i + 0 ≡ i = omega arith in
+      ap (λ k. get_or k i 0) is
+      ∙ ap (λ k. get_or (front ++ drop i l₀) k 0) place
+      ∙ get_or-append-add front (drop i l₀) 0 0
+      ∙ get_or-drop i l₀ 0 0
+      ∙ ap (λ k. get_or l₀ k 0) first
+
+  pub lift_fits : Below 65535 l₀ → get_or l i 0 + 1 < 2 ^ 16
   unfolding Below
-  below_rest b y k = b y (drop_in (take n l) i y k)
+  lift_fits b = omega (arith, lifted_here, b (get_or l₀ i 0) (get_d_in l₀ i 0 h))
 
-  module _ (b : Below m (slice i n l)) (h : i < n) (l₀ : List ℕ) (room : n ≤ length l₀)
-      (same : length l ≡ length l₀) where
-    pub below_here : get_or l i 0 < m
-    unfolding Below
-    below_here =
-        b (get_or l i 0) (rw (slice-cons i n l 0 h (omega arith)) (here refl))
-
-    pub below_next : (x : ℕ) → Below m (slice (i + 1) n (set l i x))
-    unfolding Below
-    below_next x y k =
-        b y (rw (slice-cons i n l 0 h (omega arith)) (there (rw (add-one i, slice_set l i n x h) at k)))
-
--- ---- raising
--- what the words come to where those from place i on, up to place n, are raised
-unfoldable pub raised_from : (n i : ℕ) → List ℕ → List ℕ
-raised_from n i l = take i l ++ (map suc (slice i n l) ++ drop n l)
-
-pub raising_starts : (l : List ℕ) (n i : ℕ) → i ≤ n → n ≤ length l → put 0 (raised i (take n l)) l ≡ raised_from n i l
-unfolding put raised raised_from
-raising_starts l n i h g =
-    let past : 0 + length (take i (take n l) ++ map suc (slice i n l)) ≡ n =
-    simp (length-append, length-map) (omega (arith, length_before l n i h g, length-slice i n l g)) in
-    rw (past, take-take i n l h, append_assoc (take i l) (map suc (slice i n l)) (drop n l))
-
-module _ (l₀ l whole : List ℕ) (n i : ℕ) (left : whole ≡ raised_from n i l) (room : n ≤ length l₀)
-    (same : length l ≡ length l₀) where
-  pub raised_on : i < n → whole ≡ raised_from n (i + 1) (set l i (get_or l i 0 + 1))
-  unfolding raised_from
-  raised_on h =
-      left
+  pub lifted_more : set l i (get_or l i 0 + 1) ≡ lifted (i + 1) l₀
+  unfolding front
+  lifted_more =
+      let word : ℕ = get_or l₀ i 0 in
+      let up : word + 1 ≡ suc word = omega arith in
+      (λ z. set (is z) i (lifted_here z + 1))
+      ∙ ap (λ k. set (front ++ k) i (word + 1)) (drop-cons l₀ i 0 h)
+      ∙ set_at front word (drop (suc i) l₀) (word + 1) i long
+      ∙ ap (λ k. front ++ (k ∷ drop (suc i) l₀)) up
       ∙ rw (
         add-one i,
-        take-suc-set l i (get_or l i 0 + 1) (omega arith),
-        slice-cons i n l 0 h (omega arith),
-        slice_set l i n (get_or l i 0 + 1) h,
-        drop-set-lt n l i (get_or l i 0 + 1) h,
-        append_assoc (take i l) ((get_or l i 0 + 1) ∷ []) _,
-        add-one (get_or l i 0),
+        take-suc l₀ i 0 h,
+        map-append suc (take i l₀) (get_or l₀ i 0 ∷ []),
+        append_assoc (map suc (take i l₀)) (suc (get_or l₀ i 0) ∷ []) (drop (suc i) l₀),
       )
 
-  pub raised_all : i ≤ n → n ≤ i → l ≡ whole
-  unfolding raised_from
-  raised_all h g =
-      let e : i ≡ n = omega arith in
-      sym (left ∙ rw (e, slice_empty n l, take-append-drop n l))
+-- ---- a part of the words
+module _ (l : List ℕ) (i n : ℕ) (inside : i ≤ n) where
+  whole : i + (n - i) ≡ n
+  whole = omega arith
 
-pub raise_fits : (n i : ℕ) (l l₀ : List ℕ) → Below 65535 (slice i n l) → i < n → n ≤ length l₀ → length l ≡ length l₀
-    → get_or l i 0 + 1 < 2 ^ 16
-raise_fits n i l l₀ b h room same = omega (arith, below_here 65535 n i l b h l₀ room same)
+  pub below_part : (k : ℕ) → Below (k + 1) (take n l) → k < 256 → Below 65535 (take (n - i) (drop i l))
+  unfolding Below
+  below_part k b few y m =
+      let split : take i l ++ take (n - i) (drop i l) ≡ take n l =
+      sym (take-add i (n - i) l) ∙ ap (λ j. take j l) whole in
+      omega (arith, b y (subst (λ w. y ∈ w) split (Memᴰ.append_right (take i l) m)))
+
+  pub raised_part : (k : ℕ) → n ≤ k → k < 256 → length l ≡ 256 → (part : List ℕ)
+      → part ≡ map suc (take (n - i) (drop i l)) → put_mid i (n - i) l part ≡ put 0 (raised i (take n l)) l
+  unfolding put raised
+  raised_part k h few room part is =
+      let those : take (n - i) (drop i l) ≡ slice i n l =
+      sym (drop-take i (n - i) l) ∙ ap (λ k. slice i k l) whole in
+      let rest : drop (n - i) (drop i l) ≡ drop n l = drop-drop (n - i) i l ∙ ap (λ k. drop k l) whole in
+      let past : 0 + length (take i (take n l) ++ map suc (slice i n l)) ≡ n =
+      simp (length-append, length-map)
+      (omega (arith, length_before l n i inside (omega arith), length-slice i n l (omega arith))) in
+      (λ z. take i l ++ ((is ∙ ap (map suc) those) z ++ rest z))
+      ∙ sym (append_assoc (take i l) (map suc (slice i n l)) (drop n l))
+      ∙ rw (past, take-take i n l inside)

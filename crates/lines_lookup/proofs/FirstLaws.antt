@@ -2,6 +2,7 @@
 use mathlib.Core.Path.{◌≡◌, sym, ◌∙◌}
 use mathlib.Core.List.{List}
 use Prim.Native.Nat.{ℕ, ◌+◌, ◌-◌, ◌≤◌, ◌<◌}
+use native.Mathlib.Omega.{arith}
 use borrow.Author.Tests.{le-leb, lt-leb}
 use lib.Dec.{leb}
 use Rattle.lines_lookup.specs.Lookup.{Line, depart_at}
@@ -14,8 +15,10 @@ module _
     (x u j : ℕ)
     (so_far : first_trip v l x u ≡ first_from (λ j. leb u (depart_at v l x j)) j (l.trips - j))
   where
-    pub none_left : l.trips ≤ j → j ≡ first_trip v l x u
-    none_left h = sym (so_far ∙ first_none (λ j. leb u (depart_at v l x j)) j l.trips h)
+    pub none_left : j ≤ l.trips → l.trips ≤ j → l.trips ≡ first_trip v l x u
+    none_left g h =
+        let all : l.trips ≡ j = omega arith in
+        all ∙ sym (so_far ∙ first_none (λ j. leb u (depart_at v l x j)) j l.trips h)
 
     module _ (r : ℕ) (is : r ≡ depart_at v l x j) (more : j < l.trips) where
       pub found : u ≤ r → j ≡ first_trip v l x u

@@ -2,7 +2,8 @@
 use mathlib.Core.Path.{◌≡◌, refl, sym, ap, ◌∙◌}
 use mathlib.Core.Bool.{Bool, true, false, not}
 use mathlib.Core.List.{List, [], ◌∷◌}
-use Prim.Native.Nat.{ℕ, suc, ◌+◌, ◌-◌, ◌*◌, ◌%◌, ◌/◌, ◌≤◌, ◌<◌}
+use Prim.Native.Nat.{ℕ, suc, ◌+◌, ◌-◌, ◌*◌, ◌%◌, ◌/◌, ◌≤◌, ◌<◌, min}
+use native.Mathlib.Decide.{ℕ_discrete}
 use native.Mathlib.Nat.{mul-le-mul, mod-lt, div-le_self}
 use native.Mathlib.Numerals.{add-one}
 use native.Mathlib.Omega.{arith}
@@ -98,16 +99,22 @@ module _ (v : List ℕ) (s : ℕ) where
         (is-from : from ≡ calls_place v (s - 1))
         (is-end : end ≡ calls_place v s)
       where
-        pub whole_list : calls_in v (record { from = from; end = end }) ≡ calls_of v s
+        whole_list : calls_in v (record { from = from; end = end }) ≡ calls_of v s
         unfolding calls_of list_of
         whole_list = rw (le-leb 1 s some, le-leb s (get_or v 0 0) (omega (arith, is-n)), is-from, is-end)
 
         -- no words stand past the end of the slice
-        pub cut_list : length v < end → calls_in v (record { from = from; end = length v }) ≡ calls_of v s
-        cut_list h =
-            ap (λ l. pairs_of (drop from l))
-            (take_all (length v) v (omega arith) ∙ sym (take_all end v (omega arith)))
-            ∙ whole_list
+        pub cut_list : (e : ℕ) → e ≡ min end (length v) → calls_in v (record { from = from; end = e }) ≡ calls_of v s
+        cut_list e is =
+            ap (λ n. calls_in v (record { from = from; end = n })) is
+            ∙ elim (ℕ_discrete (min end (length v)) end) [
+              | yes d ↦ ap (λ n. calls_in v (record { from = from; end = n })) d ∙ whole_list
+              | no d ↦ (
+                  ap (λ l. pairs_of (drop from l))
+                  (take_all (min end (length v)) v (omega arith) ∙ sym (take_all end v (omega arith)))
+                  ∙ whole_list
+                  )
+            ]
 
 -- ---- call by call
 module _ (v : List ℕ) (k end : ℕ) where

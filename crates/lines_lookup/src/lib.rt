@@ -35,7 +35,8 @@ const BOARDING_ONLY: usize = 1;
 const SETTING_DOWN_ONLY: usize = 2;
 
 // A line: where its words begin, its positions and its trips.
-#[derive(Clone, Copy)]
+// Stays: that each fits 16 bits is no part of the type, since line_at of specs/ makes lines of any numbers.
+#[derive(Clone, Copy, Default)]
 pub struct Line {
     pub at: usize,
     pub positions: usize,
@@ -49,8 +50,8 @@ pub struct Piece {
     pub end: usize,
 }
 
-// A call in the list of a station: the place of its line, and the place on it.
-#[derive(Clone, Copy)]
+// A call in the list of a station: the place of its line, and the place on it. Calls come in this order there.
+#[derive(Clone, Copy, PartialEq, Eq, PartialOrd, Ord)]
 pub struct Call {
     pub line: usize,
     pub place: usize,
@@ -200,31 +201,18 @@ pub fn list_of(v: &[u16], station: usize) -> Piece
         return Piece { from: 0, end: 0 };
     }
     let from = calls_place(v, station - 1);
-    let end = calls_place(v, station);
-    if v.len() < end {
-        return Piece { from, end: v.len() };
-    }
+    let end = calls_place(v, station).min(v.len());
     Piece { from, end }
 }
 
-// A number from 1 as a place from 0. A word that is 0 where none should be counts as 1.
-fn less_one(n: usize) -> usize
-    ensures { result ≡ n - 1 }
-{
-    if n == 0 {
-        return 0;
-    }
-    n - 1
-}
-
-// The call at index k.
+// The call at index k. Its numbers count from 1, its places from 0; a word that is 0 where none should be counts as 1.
 pub fn call_at(v: &[u16], k: usize) -> Call
     requires { k < 65536 }
     ensures { (result ≡ call_at v.now k) × (result.line < 65536) × (result.place < 65536) }
 {
     Call {
-        line: less_one(peek(v, k)),
-        place: less_one(peek(v, k + 1)),
+        line: peek(v, k).saturating_sub(1),
+        place: peek(v, k + 1).saturating_sub(1),
     }
 }
 
@@ -232,13 +220,7 @@ pub fn call_at(v: &[u16], k: usize) -> Call
 fn is_later(c: Call, d: Call) -> bool
     ensures { result ≡ later c d }
 {
-    if c.line < d.line {
-        return true;
-    }
-    if d.line < c.line {
-        return false;
-    }
-    c.place < d.place
+    c < d
 }
 
 // What is left of a list of calls after call c.
@@ -249,6 +231,7 @@ fn calls_after(v: &[u16], c: Call, list: Piece) -> Piece
 {
     let end = list.end;
     let mut k = list.from;
+    // Stays: a call is two words, and where the walk stops is the answer, which a range keeps in a second variable.
     while k + 1 < end {
         if is_later(c, call_at(v, k)) {
             break;
@@ -280,15 +263,10 @@ pub fn first_trip(v: &[u16], l: Line, x: usize, minute: usize) -> usize
     requires { (l.at < 65536) × (l.positions < 65536) × (l.trips < 65536) × (x < 65536) }
     ensures { (result ≡ first_trip v.now l x minute) × (result ≤ l.trips) }
 {
-    let mut j = 0;
-    let first = loop {
-        if l.trips <= j {
-            break j;
-        }
+    for j in 0..l.trips {
         if minute <= depart_at(v, l, x, j) {
-            break j;
+            return j;
         }
-        j += 1;
-    };
-    first
+    }
+    l.trips
 }

@@ -127,6 +127,10 @@ piece_is v n line s k is-s is-k =
     by_test true = refl
     by_test false = refl
 
+-- a refused line has an empty one
+pub none_piece : (v : List ℕ) (n line : ℕ) → 0 ≡ start_told v n line → 0 ≡ length_told v n line → [] ≡ piece v n line
+none_piece v n line e f = piece_is v n line 0 0 e f
+
 pub part_is : (v : List ℕ) (n line s k : ℕ) → s ≡ start_told v n line → k ≡ length_told v n line
     → take (s + k - s) (drop s v) ≡ take (length_told v n line) (drop (start_told v n line) v)
 part_is v n line s k is-s is-k = rw add-sub_cancel_left (λ i. take (is-k i) (drop (is-s i) v))

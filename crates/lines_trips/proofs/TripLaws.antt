@@ -1,17 +1,18 @@
 -- The ways out of the functions that read one trip, or compare two. In a timetable with a yes each trip has a first
 -- stop, and two trips are compared stop by stop, by what is left of them.
-use mathlib.Core.Path.{◌≡◌, sym, ap, ◌∙◌}
+use mathlib.Core.Path.{◌≡◌, refl, sym, ap, ◌∙◌}
 use mathlib.Core.Bool.{Bool, true, false, not, ◌&&◌}
-use mathlib.Core.List.{List}
-use Prim.Native.Nat.{ℕ, ◌+◌, ◌^◌, ◌≤◌, ◌<◌}
+use mathlib.Core.List.{List, [], ◌∷◌}
+use Prim.Native.Nat.{ℕ, suc, ◌+◌, ◌-◌, ◌^◌, ◌≤◌, ◌<◌}
+use native.Mathlib.Nat.{add-zero}
 use native.Mathlib.Omega.{arith}
-use native.Mathlib.Decide.{ℕ_discrete}
+use lib.ListN.{length}
 use borrow.Author.Tests.{le-leb, lt-leb, eq-eqb, ne_eqb, not-true, not-false}
 use lib.Dec.{leb, eqb}
-use Rattle.timetable.specs.Timetable.{Stop}
+use Rattle.timetable.specs.Timetable.{Stop, Trip}
 use Rattle.timetable.specs.Words.{station_count, trip_count, stop_count, stop_at, start_at, trip_at, is_timetable}
 use Rattle.timetable.specs.Check.{stops_at, between, between_more, between_none}
-use Rattle.timetable.specs.Access.{counts, start_most, trip_stops_lem}
+use Rattle.timetable.specs.Access.{counts, start_most, trip_long, trip_stops_lem}
 use Rattle.lines.specs.Lines.{stop_behind, behind, first_departure}
 
 -- ---- where a trip's stops stand
@@ -91,53 +92,60 @@ module _ (s u : Stop) where
 unfoldable pub rest_behind : List ℕ → (i m j n : ℕ) → Bool
 rest_behind w i m j n = behind (stops_at w i m) (stops_at w j n)
 
-pub whole_trips : (w : List ℕ) (a b i j m n : ℕ) → i ≡ start_at w a → m ≡ start_at w (a + 1) → j ≡ start_at w b
-    → n ≡ start_at w (b + 1) → behind (trip_at w a) (trip_at w b) ≡ rest_behind w i m j n
-unfolding rest_behind
-whole_trips w a b i j m n e f g h = rw (trip_from w a i m e f, trip_from w b j n g h)
+-- trips of unlike length never run one behind the other
+unlike_long : (u v : Trip) → (length u ≡ length v → ⊥) → behind u v ≡ false
+unlike_long [] [] h = absurd (h refl)
+unlike_long [] (s ∷ l) h = refl
+unlike_long (s ∷ k) [] h = refl
+unlike_long (s ∷ k) (u ∷ l) h =
+    elim (stop_behind s u) as (λ t. (t && behind k l) ≡ false) [
+      | true ↦ unlike_long k l (λ e. h (ap suc e))
+      | false ↦ refl
+    ]
 
-module _ (w : List ℕ) (whole : Bool) (i j m n : ℕ) (left : whole ≡ rest_behind w i m j n) where
-  pub front_ends : i ≡ m → j ≤ n → eqb j n ≡ whole
+module _ (w : List ℕ) (a b i j m n : ℕ) (e : i ≡ start_at w a) (f : m ≡ start_at w (a + 1)) (g : j ≡ start_at w b)
+    (h : n ≡ start_at w (b + 1)) where
+  pub other_length : (n - j ≡ m - i → ⊥) → false ≡ behind (trip_at w a) (trip_at w b)
+  other_length ne =
+      sym
+      (unlike_long (trip_at w a) (trip_at w b)
+      (λ same. ne (omega (arith, trip_long w a, trip_long w b, same, e, f, g, h))))
+
+  pub whole_trips : behind (trip_at w a) (trip_at w b) ≡ rest_behind w (i + 0) m (j + 0) n
   unfolding rest_behind
-  front_ends e h = elim (ℕ_discrete j n) [ yes f ↦ together f | no f ↦ alone f ]
-    where
-      together : j ≡ n → eqb j n ≡ whole
-      together f =
-          eq-eqb j n f
-          ∙ sym (left ∙ rw (between_none (stop_at w) i m (omega arith), between_none (stop_at w) j n (omega arith)))
+  whole_trips = rw (add-zero i, add-zero j, trip_from w a i m e f, trip_from w b j n g h)
 
-      alone : (j ≡ n → ⊥) → eqb j n ≡ whole
-      alone f =
-          ne_eqb j n f
-          ∙ sym (left ∙ rw (between_none (stop_at w) i m (omega arith), between_more (stop_at w) j n (omega arith)))
+module _ (w : List ℕ) (whole : Bool) (i j m n k count : ℕ) (left : whole ≡ rest_behind w (i + k) m (j + k) n)
+    (some : i < m) (is_count : count ≡ m - i) (other : j < n) (same : n - j ≡ count) where
+  pub both_end : count ≤ k → true ≡ whole
+  unfolding rest_behind
+  both_end h =
+      sym
+      (left
+      ∙ rw (between_none (stop_at w) (i + k) m (omega arith), between_none (stop_at w) (j + k) n (omega arith)))
 
-  module _ (h : i ≤ m) (g : i ≡ m → ⊥) where
-    pub back_ends : j ≡ n → false ≡ whole
+  -- the answer t of the stop test stands before the test: `search` then knows which test is meant
+  module _ (h : k < count) (s u : Stop) (t : Bool) where
+    next : t ≡ stop_behind s u → s ≡ stop_at w (i + k) → u ≡ stop_at w (j + k)
+        → whole ≡ (t && rest_behind w (i + k + 1) m (j + k + 1) n)
     unfolding rest_behind
-    back_ends e = sym (left ∙ rw (
-      between_more (stop_at w) i m (omega arith),
-      between_none (stop_at w) j n
-          (omega arith),
-    ))
+    next test is-s is-u =
+        left
+        ∙ rw (
+          between_more (stop_at w) (i + k) m (omega arith),
+          between_more (stop_at w) (j + k) n (omega arith),
+          test,
+          is-s,
+          is-u,
+        )
 
-    -- the answer t of the stop test stands before the test: `search` then knows which test is meant
-    module _ (k : j ≤ n) (f : j ≡ n → ⊥) (s u : Stop) (t : Bool) where
-      next : t ≡ stop_behind s u → s ≡ stop_at w i → u ≡ stop_at w j
-          → whole ≡ (t && rest_behind w (i + 1) m (j + 1) n)
-      unfolding rest_behind
-      next test is-s is-u =
-          left
-          ∙ rw (
-            between_more (stop_at w) i m (omega arith),
-            between_more (stop_at w) j n (omega arith),
-            test,
-            is-s,
-            is-u,
-          )
+    pub parts_here : not t ≡ true → t ≡ stop_behind s u → s ≡ stop_at w (i + k) → u ≡ stop_at w (j + k)
+        → false ≡ whole
+    parts_here e test is-s is-u = sym (next test is-s is-u ∙ rw (not-true t e))
 
-      pub parts_here : not t ≡ true → t ≡ stop_behind s u → s ≡ stop_at w i → u ≡ stop_at w j → false ≡ whole
-      parts_here e test is-s is-u = sym (next test is-s is-u ∙ rw (not-true t e))
-
-      pub agrees_here : not t ≡ false → t ≡ stop_behind s u → s ≡ stop_at w i → u ≡ stop_at w j
-          → whole ≡ rest_behind w (i + 1) m (j + 1) n
-      agrees_here e test is-s is-u = next test is-s is-u ∙ rw (not-false t e)
+    pub agrees_here : not t ≡ false → t ≡ stop_behind s u → s ≡ stop_at w (i + k) → u ≡ stop_at w (j + k)
+        → whole ≡ rest_behind w (i + (k + 1)) m (j + (k + 1)) n
+    agrees_here e test is-s is-u =
+        let front : i + k + 1 ≡ i + (k + 1) = omega arith in
+        let back : j + k + 1 ≡ j + (k + 1) = omega arith in
+        next test is-s is-u ∙ rw (not-false t e) (λ z. rest_behind w (front z) m (back z) n)

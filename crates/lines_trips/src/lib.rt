@@ -64,19 +64,17 @@ pub fn joins(words: &[u16], a: usize, b: usize) -> bool
 {
     let front = stops_of(words, a);
     let back = stops_of(words, b);
-    let mut i = front.first;
-    let mut j = back.first;
-    loop {
-        if i == front.end {
-            return j == back.end;
-        }
-        if j == back.end {
-            return false;
-        }
-        if !stop_joins(timetable::stop_at(words, i), timetable::stop_at(words, j)) {
-            return false;
-        }
-        i += 1;
-        j += 1;
+    let count = front.end - front.first;
+    if back.end - back.first != count {
+        return false;
     }
+    for k in 0..count {
+        if !stop_joins(
+            timetable::stop_at(words, front.first + k),
+            timetable::stop_at(words, back.first + k),
+        ) {
+            return false;
+        }
+    }
+    true
 }

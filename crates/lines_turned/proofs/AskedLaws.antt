@@ -10,8 +10,8 @@ use lib.Dec.{leb}
 use lib.ListN.{length, get_or}
 use Rattle.questions.specs.Question.{ask, first_no, yes_here, yes_later}
 use Rattle.lists.specs.Tests.{and_left, and_right}
-use Rattle.replies.specs.declared.Reply.{Reply}
-use Rattle.replies.specs.declared.Reply.TheVariants.{Done, Refused}
+use Rattle.replies.specs.Reply.{Reply}
+use Rattle.replies.specs.Reply.{Done, Refused}
 use Rattle.replies.specs.Replies.{reply_of, words_after, reply_done, reply_refused, words_done, words_kept}
 use Rattle.replies.specs.Later.{Asked, asked_none, asked_more, asked_on, asked_out}
 use Rattle.words.specs.Put.{put, length_put}

@@ -3,7 +3,7 @@
 use Rattle.std.specs.Prelude.{◌≡◌, Bool, ◌&&◌, List, [], ◌∷◌, ◌++◌, ℕ, leb, length, take}
 use Rattle.lists.specs.Lists.{same}
 use Rattle.questions.specs.Question.{Question, ask, first_no}
-use Rattle.replies.specs.declared.Reply.{Reply}
+use Rattle.replies.specs.Reply.{Reply}
 use Rattle.replies.specs.Replies.{reply_of, values_of, values_for, words_after, reply_values}
 use Rattle.timetable.specs.Words.{timetable_of, is_timetable}
 use Rattle.lines_tables.specs.Tables.{table_words}

@@ -6,6 +6,8 @@ ghost use Rattle.std.specs.Prelude.{◌≡◌, true, ◌+◌, ◌*◌, ◌≤◌
 ghost use Rattle.std.proofs.Math.Seq.{slice};
 ghost use Rattle.words.specs.Put.{put};
 ghost use Rattle.timetable.specs.Words.{timetable_of, is_timetable};
+ghost use Rattle.questions.specs.Refused.{number_seen};
+ghost use Rattle.replies.specs.Reply.{reply_seen};
 ghost use Rattle.replies.specs.Replies.{values_of};
 ghost use Rattle.lines_tables.specs.Tables.{table_words};
 ghost use Rattle.lines_check.specs.Question10.{are_tables};
@@ -18,7 +20,7 @@ ghost use Rattle.lines_turned.specs.Turning.{by_trip_reply, by_trip_values, by_t
 ghost use Rattle.lines_turned.specs.Turning.{by_stop_reply, by_stop_values, by_stop_words};
 
 use lines_lookup::Line;
-use replies::Reply;
+use questions::Refusal;
 
 // The words of all slices that a caller lends at least, and the words of a position on a line.
 const WORDS_LEAST: usize = lines_tables::WORDS_LEAST;
@@ -35,19 +37,18 @@ fn times_from(l: Line) -> usize
 
 // Writes the times of one trip at so many stops, from index at on. Its first arrival stands at index from of the
 // tables, on a line of so many trips.
+// Stays: one walk for this and same_trip wants a trait for 16 and 32 bits, and one to put or compare, with their laws.
 fn write_trip(lines: &[u16], from: usize, trips: usize, stops: usize, out: &mut [u16], at: usize)
     requires { (from ≤ 32768) × (trips ≤ 16384) × (stops ≤ 16384) × (at + 2 * stops ≤ length out.old) }
     ensures out_after { out.new ≡ put at (stepped lines.now from trips stops) out.old }
     ensures out_len_unchanged { length out.new ≡ length out.old }
 {
     let mut k = from;
-    let mut p = 0;
-    while p < stops {
+    for p in 0..stops {
         let arrive = lines_lookup::peek(lines, k);
         let depart = lines_lookup::peek(lines, k + trips);
-        words::put_two(out, at + 2 * p, arrive as u32, depart as u32);
+        words::narrow(out, at + 2 * p, &[arrive as u32, depart as u32]);
         k += 2 * trips;
-        p += 1;
     }
 }
 
@@ -61,11 +62,9 @@ fn write_trips(lines: &[u16], l: Line, out: &mut [u16])
 {
     let from = times_from(l);
     let mut at = from;
-    let mut j = 0;
-    while j < l.trips {
+    for j in 0..l.trips {
         write_trip(lines, from + j, l.trips, l.positions, out, at);
         at += 2 * l.positions;
-        j += 1;
     }
 }
 
@@ -86,10 +85,8 @@ fn copy_part(lines: &[u16], from: usize, end: usize, out: &mut [u16])
     ensures out_after { out.new ≡ put from (slice from end lines.now) out.old }
     ensures out_len_unchanged { length out.new ≡ length out.old }
 {
-    let mut k = from;
-    while k < end {
+    for k in from..end {
         out[k] = lines[k];
-        k += 1;
     }
 }
 
@@ -105,10 +102,8 @@ fn write_turned(words: &[u16], lines: &[u16], other: &mut [u16])
 {
     let count = lines_lookup::peek(lines, 1);
     copy_part(lines, 0, 4 + count, other);
-    let mut i = 0;
-    while i < count {
+    for i in 0..count {
         write_line(lines, lines_lookup::line_at(lines, i), other);
-        i += 1;
     }
     let stations = words::word(words, 0) as usize;
     let index = lines_lookup::peek(lines, 3);
@@ -121,13 +116,13 @@ fn write_turned(words: &[u16], lines: &[u16], other: &mut [u16])
 }
 
 // Question 10 to line tables, and their words with times by trip. Returns the number of lines.
-fn turn(words: &[u16], lines: &[u16], work: &mut [u32], other: &mut [u16]) -> Reply
+fn turn(words: &[u16], lines: &[u16], work: &mut [u32], other: &mut [u16]) -> Result<u32, Refusal>
     requires { (16384 ≤ length words.now)
         × (is_timetable words.now ≡ true)
         × (16384 ≤ length lines.now)
         × (length work.old ≡ 16384)
         × (16384 ≤ length other.old) }
-    ensures value { result ≡ own_reply words.now (are_tables words.now lines.now) }
+    ensures value { reply_seen result ≡ own_reply words.now (are_tables words.now lines.now) }
     ensures other_after { other.new
         ≡ own_words
         (are_tables words.now lines.now)
@@ -135,12 +130,10 @@ fn turn(words: &[u16], lines: &[u16], work: &mut [u32], other: &mut [u16]) -> Re
         other.old }
 {
     if !lines_check::are_tables(words, lines, work) {
-        return Reply::Refused { number: 10 };
+        return Err(Refusal::OtherTables);
     }
     write_turned(words, lines, other);
-    Reply::Done {
-        count: words::word(lines, 1),
-    }
+    Ok(words::word(lines, 1))
 }
 
 // The word of 32 bits at index i, or 0 past the end.
@@ -169,16 +162,15 @@ fn long_line(work: &[u32], i: usize) -> Line
 }
 
 // Whether the words from one index up to before another are the same in both.
+// Stays: words of 32 bits are held against words of 16, which no == of slices does.
 fn same_part(work: &[u32], from: usize, end: usize, other: &[u16]) -> bool
     requires { (from ≤ end) × (end ≤ length work.now) × (end ≤ length other.now) }
     ensures { result ≡ starts (slice from end work.now) (drop from other.now) }
 {
-    let mut k = from;
-    while k < end {
+    for k in from..end {
         if work[k] != words::word(other, k) {
             return false;
         }
-        k += 1;
     }
     true
 }
@@ -209,13 +201,11 @@ fn same_trip(
     ensures { result ≡ starts (stepped work.now from trips stops) (drop at other.now) }
 {
     let mut k = from;
-    let mut p = 0;
-    while p < stops {
+    for p in 0..stops {
         if !same_stop(work, k, trips, other, at + 2 * p) {
             return false;
         }
         k += 2 * trips;
-        p += 1;
     }
     true
 }
@@ -229,13 +219,11 @@ fn same_trips(work: &[u32], l: Line, other: &[u16]) -> bool
 {
     let from = times_from(l);
     let mut at = from;
-    let mut j = 0;
-    while j < l.trips {
+    for j in 0..l.trips {
         if !same_trip(work, from + j, l.trips, l.positions, other, at) {
             return false;
         }
         at += 2 * l.positions;
-        j += 1;
     }
     true
 }
@@ -264,12 +252,10 @@ fn is_turned(words: &[u16], work: &[u32], other: &[u16]) -> bool
     if !same_part(work, 0, 4 + count, other) {
         return false;
     }
-    let mut i = 0;
-    while i < count {
+    for i in 0..count {
         if !same_line(work, long_line(work, i), other) {
             return false;
         }
-        i += 1;
     }
     let stations = words::word(words, 0) as usize;
     let index = long_at(work, 3) as usize;
@@ -277,13 +263,18 @@ fn is_turned(words: &[u16], work: &[u32], other: &[u16]) -> bool
 }
 
 // Question 10 to tables with times by trip, and their words with times by stop. Returns the number of lines.
-fn turn_back(words: &[u16], other: &[u16], work: &mut [u32], lines: &mut [u16]) -> Reply
+fn turn_back(
+    words: &[u16],
+    other: &[u16],
+    work: &mut [u32],
+    lines: &mut [u16],
+) -> Result<u32, Refusal>
     requires { (16384 ≤ length words.now)
         × (is_timetable words.now ≡ true)
         × (16384 ≤ length other.now)
         × (length work.old ≡ 16384)
         × (16384 ≤ length lines.old) }
-    ensures value { result ≡ own_reply words.now (are_by_trip words.now other.now) }
+    ensures value { reply_seen result ≡ own_reply words.now (are_by_trip words.now other.now) }
     ensures lines_after { lines.new
         ≡ own_words
         (are_by_trip words.now other.now)
@@ -292,38 +283,42 @@ fn turn_back(words: &[u16], other: &[u16], work: &mut [u32], lines: &mut [u16]) 
 {
     let count = lines_tables::write_tables(words, work);
     if !is_turned(words, work, other) {
-        return Reply::Refused { number: 10 };
+        return Err(Refusal::OtherTables);
     }
-    words::narrow(lines, work, count);
-    Reply::Done { count: work[1] }
+    words::narrow(lines, 0, &work[..count]);
+    Ok(work[1])
 }
 
-// Questions 8 and 9 to a timetable, to tables, working space and a result slice of so many words: 0, or the number of
-// the first no.
-fn slices_number(words: &[u16], tables: usize, work: usize, res: usize) -> u32
-    ensures { result ≡ slices_number words.now tables work res }
+// Questions 8 and 9 to a timetable, to tables, working space and a result slice of so many words.
+fn slices_number(words: &[u16], tables: usize, work: usize, res: usize) -> Result<(), Refusal>
+    ensures { number_seen result ≡ slices_number words.now tables work res }
 {
     if words.len() < WORDS_LEAST {
-        return 8;
+        return Err(Refusal::Space);
     }
     if tables < WORDS_LEAST {
-        return 8;
+        return Err(Refusal::Space);
     }
     if work < WORDS_LEAST {
-        return 8;
+        return Err(Refusal::Space);
     }
     if res < WORDS_LEAST {
-        return 8;
+        return Err(Refusal::Space);
     }
     if timetable_check::is_timetable(words) {
-        return 0;
+        return Ok(());
     }
-    9
+    Err(Refusal::NoTimetable)
 }
 
 // Writes line tables with times by trip if no question is in the way.
-fn by_trip_asked(words: &[u16], lines: &[u16], work: &mut [u32], other: &mut [u16]) -> Reply
-    ensures value { result
+fn by_trip_asked(
+    words: &[u16],
+    lines: &[u16],
+    work: &mut [u32],
+    other: &mut [u16],
+) -> Result<u32, Refusal>
+    ensures value { reply_seen result
         ≡ by_trip_reply
         words.now
         lines.now
@@ -336,16 +331,18 @@ fn by_trip_asked(words: &[u16], lines: &[u16], work: &mut [u32], other: &mut [u1
         (length work.old)
         other.old }
 {
-    let number = slices_number(words, lines.len(), work.len(), other.len());
-    if number != 0 {
-        return Reply::Refused { number };
-    }
+    slices_number(words, lines.len(), work.len(), other.len())?;
     turn(words, lines, &mut work[0..WORDS_LEAST], other)
 }
 
 // Writes line tables with times by stop if no question is in the way.
-fn by_stop_asked(words: &[u16], other: &[u16], work: &mut [u32], lines: &mut [u16]) -> Reply
-    ensures value { result
+fn by_stop_asked(
+    words: &[u16],
+    other: &[u16],
+    work: &mut [u32],
+    lines: &mut [u16],
+) -> Result<u32, Refusal>
+    ensures value { reply_seen result
         ≡ by_stop_reply
         words.now
         other.now
@@ -358,22 +355,24 @@ fn by_stop_asked(words: &[u16], other: &[u16], work: &mut [u32], lines: &mut [u1
         (length work.old)
         lines.old }
 {
-    let number = slices_number(words, other.len(), work.len(), lines.len());
-    if number != 0 {
-        return Reply::Refused { number };
-    }
+    slices_number(words, other.len(), work.len(), lines.len())?;
     turn_back(words, other, &mut work[0..WORDS_LEAST], lines)
 }
 
 // Translates line tables to times by trip, then by stop. Working space may hold any words afterwards.
-pub fn by_trip(words: &[u16], lines: &[u16], work: &mut [u32], other: &mut [u16]) -> Reply
-    ensures reply { result
+pub fn by_trip(
+    words: &[u16],
+    lines: &[u16],
+    work: &mut [u32],
+    other: &mut [u16],
+) -> Result<u32, Refusal>
+    ensures reply { reply_seen result
         ≡ by_trip_reply
         words.now
         lines.now
         (length work.old)
         (length other.old) }
-    ensures values { values_of result
+    ensures values { values_of (reply_seen result)
         ≡ by_trip_values
         words.now
         lines.now
@@ -391,14 +390,19 @@ pub fn by_trip(words: &[u16], lines: &[u16], work: &mut [u32], other: &mut [u16]
 
 // Translates line tables with times by trip back to times by stop, then by trip. Working space may hold any words
 // afterwards.
-pub fn by_stop(words: &[u16], other: &[u16], work: &mut [u32], lines: &mut [u16]) -> Reply
-    ensures reply { result
+pub fn by_stop(
+    words: &[u16],
+    other: &[u16],
+    work: &mut [u32],
+    lines: &mut [u16],
+) -> Result<u32, Refusal>
+    ensures reply { reply_seen result
         ≡ by_stop_reply
         words.now
         other.now
         (length work.old)
         (length lines.old) }
-    ensures values { values_of result
+    ensures values { values_of (reply_seen result)
         ≡ by_stop_values
         words.now
         other.now

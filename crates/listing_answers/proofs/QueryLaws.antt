@@ -20,13 +20,18 @@ module _ (w v : List ℕ) (from to minute n : ℕ) (space : n ≡ 16384) where
       unfolding query_printed query_prints printed_number
       first_is = rw (own, ne_eqb number 0 some, ne_eqb number 0 some)
 
-      pub first_count : (r : ℕ) → r ≡ length (refused_line from to minute number)
-          → r ≡ length (query_printed w v from to minute)
-      first_count r e = e ∙ ap length first_is
+      -- the code has the number from the question
+      module _ (told : ℕ) (same : told ≡ number) where
+        told_is : refused_line from to minute told ≡ query_printed w v from to minute
+        told_is = ap (refused_line from to minute) same ∙ first_is
 
-      pub first_words_lem : (old last : List ℕ) → last ≡ put 0 (refused_line from to minute number) old
-          → last ≡ put 0 (query_printed w v from to minute) old
-      first_words_lem old last e = e ∙ ap (λ b. put 0 b old) first_is
+        pub first_count : (r : ℕ) → r ≡ length (refused_line from to minute told)
+            → r ≡ length (query_printed w v from to minute)
+        first_count r e = e ∙ ap length told_is
+
+        pub first_words_lem : (old last : List ℕ) → last ≡ put 0 (refused_line from to minute told) old
+            → last ≡ put 0 (query_printed w v from to minute) old
+        first_words_lem old last e = e ∙ ap (λ b. put 0 b old) told_is
 
     module _ (none : number ≡ 0) where
       pub own_none : query_number w v 16384 from to minute ≡ 0

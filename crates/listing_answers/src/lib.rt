@@ -3,18 +3,18 @@
 
 ghost use Rattle.std.specs.Prelude.{◌≡◌, ◌≤◌, length};
 ghost use Rattle.words.specs.Put.{put};
-ghost use Rattle.listing_queries.specs.declared.Input.TheVariants.{Misshapen};
 ghost use Rattle.listing_queries.specs.Query.{input_number};
 ghost use Rattle.listing_printing.specs.Lines.{misshapen_line};
 ghost use Rattle.lines_check.specs.Asked.{query_number};
 ghost use Rattle.listing_output.specs.Printed.{made_number, store_slice, query_printed, line_printed};
 
-use listing_queries::{Input, Query};
+use listing_queries::Query;
 use listing_stores::Made;
 
 const MISSHAPEN: u32 = 2;
 
 // How many bytes a line of the input prints, and which store was made last.
+// Stays: a slice of out in place of the count would borrow it, and the clauses say what out.new holds.
 #[derive(Clone, Copy)]
 pub struct Printed {
     pub count: usize,
@@ -84,26 +84,20 @@ fn answer_query(
         × (length store.new ≡ length store.old)
         × (result.count ≤ length out.new) }
 {
-    let number = lines_check::query_number(
-        timetable,
-        lines,
-        work,
-        query.from,
-        query.to,
-        query.minute,
-    );
-    if number != 0 {
-        let count = listing_stores::refuse(out, query, number);
-        return Printed { count, made: last };
+    match lines_check::query_number(timetable, lines, work, query.from, query.to, query.minute) {
+        Ok(()) => answer_stored(timetable, lines, store, work, query, last, out),
+        Err(refusal) => {
+            let count = listing_stores::refuse(out, query, refusal.number());
+            Printed { count, made: last }
+        }
     }
-    answer_stored(timetable, lines, store, work, query, last, out)
 }
 
 // Writes the line of a misshapen line of the input, such as the bytes after the last line end. Returns its length.
 pub fn misshapen(out: &mut [u8]) -> usize
     requires { length out.old ≡ 196654 }
-    ensures { (result ≡ length (misshapen_line (input_number Misshapen)))
-        × (out.new ≡ put 0 (misshapen_line (input_number Misshapen)) out.old)
+    ensures { (result ≡ length (misshapen_line (input_number None)))
+        × (out.new ≡ put 0 (misshapen_line (input_number None)) out.old)
         × (length out.new ≡ length out.old)
         × (result ≤ length out.new) }
 {
@@ -137,12 +131,10 @@ pub fn answer_line(
         × (result.count ≤ length out.new) }
 {
     match listing_queries::read_query(line) {
-        Input::Asked(query) => {
-            return answer_query(timetable, lines, store, work, query, last, out);
-        }
-        Input::Misshapen => {
+        Some(query) => answer_query(timetable, lines, store, work, query, last, out),
+        None => {
             let count = misshapen(out);
-            return Printed { count, made: last };
+            Printed { count, made: last }
         }
     }
 }

@@ -4,7 +4,7 @@ use mathlib.Core.List.{List, [], ◌∷◌}
 use Prim.Native.Nat.{ℕ}
 use native.Mathlib.Omega.{arith}
 use lib.ListN.{length}
-use Rattle.listing_queries.specs.declared.Input.TheVariants.{Misshapen}
+use Rattle.std.specs.Prelude.{None}
 use Rattle.listing_queries.specs.Query.{input_number}
 use Rattle.words.specs.Put.{put, put_none}
 use Rattle.listing_printing.specs.Lines.{misshapen_line}
@@ -14,7 +14,7 @@ end_none : (bytes : List ℕ) → length bytes ≡ 0 → end_printed bytes ≡ [
 end_none [] e = refl
 end_none (b ∷ bytes) e = absurd (omega arith)
 
-end_some : (bytes : List ℕ) → (length bytes ≡ 0 → ⊥) → end_printed bytes ≡ misshapen_line (input_number Misshapen)
+end_some : (bytes : List ℕ) → (length bytes ≡ 0 → ⊥) → end_printed bytes ≡ misshapen_line (input_number None)
 end_some [] e = absurd (e refl)
 end_some (b ∷ bytes) e = refl
 
@@ -26,9 +26,9 @@ module _ (bytes old : List ℕ) where
   none_kept e = sym (ap (λ p. put 0 p old) (end_none bytes e) ∙ put_none 0 old)
 
   module _ (some : length bytes ≡ 0 → ⊥) where
-    pub some_ends : (r : ℕ) → r ≡ length (misshapen_line (input_number Misshapen)) → r ≡ length (end_printed bytes)
+    pub some_ends : (r : ℕ) → r ≡ length (misshapen_line (input_number None)) → r ≡ length (end_printed bytes)
     some_ends r e = e ∙ sym (ap length (end_some bytes some))
 
-    pub some_written : (last : List ℕ) → last ≡ put 0 (misshapen_line (input_number Misshapen)) old
+    pub some_written : (last : List ℕ) → last ≡ put 0 (misshapen_line (input_number None)) old
         → last ≡ put 0 (end_printed bytes) old
     some_written last e = e ∙ sym (ap (λ p. put 0 p old) (end_some bytes some))

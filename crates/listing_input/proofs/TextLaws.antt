@@ -6,8 +6,8 @@ use native.Mathlib.Omega.{arith}
 use lib.ListN.{length}
 use Rattle.words.specs.Put.{put, put_none}
 use Rattle.listing_printing.specs.Lines.{refused_timetable}
-use Rattle.reading.specs.declared.Reply.{Reply as ReadReply}
-use Rattle.reading.specs.declared.Reply.TheVariants.{Done as ReadDone, Refused as ReadRefused}
+use Rattle.reading.specs.Reply.{Reply as ReadReply}
+use Rattle.reading.specs.Reply.{Done as ReadDone, Refused as ReadRefused}
 use Rattle.reading.specs.Reading.{read_reply}
 use Rattle.lines_tables.specs.Building.{build_words}
 use Rattle.listing_output.specs.Printed.{read_printed, text_printed, read_tables, text_tables}
@@ -45,9 +45,14 @@ module _ (text : List ℕ) (n : ℕ) (words : n ≡ 16384) (r : ReadReply) (is :
     told_is : refused_timetable number line ≡ text_printed text
     told_is = sym (ap read_printed refused) ∙ text_is
 
-    pub told_count : (k : ℕ) → k ≡ 0 + length (refused_timetable number line) → k ≡ length (text_printed text)
-    told_count k e = from_zero k (length (refused_timetable number line)) e ∙ ap length told_is
+    -- the code has the number from the question
+    module _ (told : ℕ) (same : told ≡ number) where
+      same_is : refused_timetable told line ≡ text_printed text
+      same_is = ap (λ k. refused_timetable k line) same ∙ told_is
 
-    pub told_words : (old last : List ℕ) → last ≡ put 0 (refused_timetable number line) old
-        → last ≡ put 0 (text_printed text) old
-    told_words old last e = e ∙ ap (λ b. put 0 b old) told_is
+      pub told_count : (k : ℕ) → k ≡ 0 + length (refused_timetable told line) → k ≡ length (text_printed text)
+      told_count k e = from_zero k (length (refused_timetable told line)) e ∙ ap length same_is
+
+      pub told_words : (old last : List ℕ) → last ≡ put 0 (refused_timetable told line) old
+          → last ≡ put 0 (text_printed text) old
+      told_words old last e = e ∙ ap (λ b. put 0 b old) same_is

@@ -119,12 +119,13 @@ pub fn load(
         ≡ text_tables text.now timetable.new lines.old (length work.old)) }
 {
     match reading::read(text, timetable) {
-        reading::Reply::Done { .. } => {
-            lines_call::build(timetable, lines, work);
+        Ok(_) => {
+            let _ = lines_call::build(timetable, lines, work);
             return 0;
         }
-        reading::Reply::Refused { number, line } => {
-            return listing_printing::put_line(out, 0, TIMETABLE, &[number, line]);
+        Err(refused) => {
+            let number = refused.refusal.number();
+            return listing_printing::put_line(out, 0, TIMETABLE, &[number, refused.line]);
         }
     }
 }

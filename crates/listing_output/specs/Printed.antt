@@ -1,18 +1,18 @@
 -- What the listing program prints, for a timetable's text and for a line of its input. Document 01, "A whole listing".
 use Rattle.std.specs.Prelude.{◌≡◌, refl, Bool, true, false, cond, List, [], ◌∷◌, ◌++◌, ℕ, eqb, replicate, take}
+use Rattle.std.specs.Prelude.{Option, Some, None}
 use Rattle.std.proofs.Common.{sym, ap, ◌∙◌, arith, ne_eqb}
 use Rattle.std.proofs.lemmas.Bool.{eqb-false}
-use Rattle.replies.specs.declared.Reply.{Reply}
-use Rattle.replies.specs.declared.Reply.TheVariants.{Done, Refused}
+use Rattle.replies.specs.Reply.{Reply}
+use Rattle.replies.specs.Reply.{Done, Refused}
 use Rattle.replies.specs.Replies.{number_of, count_of, reply_of}
 use Rattle.text.specs.Piece.{pieces}
-use Rattle.listing_queries.specs.declared.Input.{Input}
-use Rattle.listing_queries.specs.declared.Input.TheVariants.{Asked, Misshapen}
+use Rattle.listing_queries.specs.declared.Query.{Query}
 use Rattle.listing_queries.specs.Query.{input_number, query_of}
 use Rattle.listing_queries.specs.Cut.{cut}
 use Rattle.listing_printing.specs.Lines.{refused_line, misshapen_line, refused_timetable, answered}
-use Rattle.reading.specs.declared.Reply.{Reply as ReadReply}
-use Rattle.reading.specs.declared.Reply.TheVariants.{Done as ReadDone, Refused as ReadRefused}
+use Rattle.reading.specs.Reply.{Reply as ReadReply}
+use Rattle.reading.specs.Reply.{Done as ReadDone, Refused as ReadRefused}
 use Rattle.reading.specs.Reading.{read_reply}
 use Rattle.lines_tables.specs.Building.{build_words}
 use Rattle.lines_check.specs.Asked.{query_number}
@@ -61,7 +61,7 @@ answer_last answers = refl
 -- bytes after the last line end are a misshapen line, if there are any
 abbrev pub end_printed : (bytes : List ℕ) → List ℕ
 end_printed [] = []
-end_printed (b ∷ bytes) = misshapen_line (input_number Misshapen)
+end_printed (b ∷ bytes) = misshapen_line (input_number None)
 
 -- The program's slices: "32,768 words for the store and 16,384 for answers", all 0 before a call, and working space of
 -- 16,384 words. The timetable's words are w, its line tables v.
@@ -92,9 +92,9 @@ module _ (w v : List ℕ) where
       (refused_line from to minute (query_prints from to minute))
 
   -- "any other line of the input is misshapen and prints `N,2`"
-  abbrev pub input_printed : Input → List ℕ
-  input_printed (Asked query) = query_printed query.from query.to query.minute
-  input_printed Misshapen = misshapen_line (input_number Misshapen)
+  abbrev pub input_printed : Option Query → List ℕ
+  input_printed (Some query) = query_printed query.from query.to query.minute
+  input_printed None = misshapen_line (input_number None)
 
   -- what a line of the input prints, its line end left aside
   unfoldable pub line_printed : (line : List ℕ) → List ℕ

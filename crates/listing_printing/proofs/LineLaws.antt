@@ -4,7 +4,7 @@ use mathlib.Core.Path.{◌≡◌, refl, sym, ap, ◌∙◌}
 use mathlib.Core.List.{List, [], ◌∷◌, ◌++◌}
 use Prim.Native.Nat.{ℕ, suc, ◌+◌, ◌-◌, ◌*◌, ◌≤◌, ◌<◌}
 use native.Mathlib.Omega.{arith}
-use lib.ListN.{length, get_or, take, drop, length-append, length-take}
+use lib.ListN.{length, get_or, drop, length-append}
 use Rattle.words.specs.Put.{put, put_none, put_append}
 use Rattle.listing_printing.specs.Lines.{spelled, digits_few, fields, fields_more, fields_end, line_of}
 use Rattle.listing_printing.specs.Lines.{lines_from, lines_short, lines_end, lines_ride, lines_cost}
@@ -81,102 +81,92 @@ module _ (first out : List ℕ) (start at k : ℕ) (numbers : List ℕ)
           (put_append start (suc (length (fields numbers))) (letter ∷ fields numbers) (10 ∷ []) old refl
           (omega (arith, line_at)))
 
--- ---- the words of an answer
-three_long : (answer : List ℕ) (i : ℕ) → length (take (i + 3 - i) (drop i answer)) ≤ 3
-three_long answer i = simp length-take (omega arith)
+-- ---- the words of an answer: three more, and those behind them
+module _ (out left words rest : List ℕ) (at : ℕ) (room : at + 12 * length left ≤ length out)
+    (is : left ≡ words ++ rest) (size : ℕ) (exact : length words ≡ size) (chunks : size ≡ 3) where
+  long : length left ≡ 3 + length rest
+  long = omega (arith, ap length is, length-append words rest)
 
--- the room for a line of three words
-module _ (at i end : ℕ) (out answer : List ℕ) (room : at + 12 * (length answer - i) ≤ length out)
-    (inside : i ≤ length answer) (enough : 3 ≤ length answer - i) where
-  pub line_room : at + 11 * length (take (i + 3 - i) (drop i answer)) + 2 ≤ length out
-  line_room = omega (arith, three_long answer i)
+  pub line_room : at + 11 * length words + 2 ≤ length out
+  line_room = omega (arith, long)
 
-  pub room_left : (next : List ℕ) → length next ≡ length out
-      → end ≤ at + 11 * length (take (i + 3 - i) (drop i answer)) + 2
-      → end + 12 * (length answer - (i + 3)) ≤ length next
-  room_left next same most = omega (arith, three_long answer i)
+  pub room_left : (end : ℕ) (next : List ℕ) → length next ≡ length out → end ≤ at + 11 * length words + 2
+      → end + 12 * length rest ≤ length next
+  room_left end next same most = omega (arith, long)
 
-module _ (first out : List ℕ) (start at i left rides rows : ℕ) (answer : List ℕ)
-    (place : at + length (lines_from (drop i answer) left rides) ≡ start + length (lines_from answer rows 0))
-    (so_far : put at (lines_from (drop i answer) left rides) out ≡ put start (lines_from answer rows 0) first) where
+module _ (first out : List ℕ) (start at rows more rides : ℕ) (answer left : List ℕ)
+    (place : at + length (lines_from left more rides) ≡ start + length (lines_from answer rows 0))
+    (so_far : put at (lines_from left more rides) out ≡ put start (lines_from answer rows 0) first) where
   -- nothing is left
-  module _ (none : lines_from (drop i answer) left rides ≡ []) where
+  module _ (none : lines_from left more rides ≡ []) where
     ended_at : at ≡ start + length (lines_from answer rows 0)
     ended_at = omega (arith, ap length none)
 
     ended_out : out ≡ put start (lines_from answer rows 0) first
     ended_out = sym (put_none at out) ∙ ap (λ l. put at l out) (sym none) ∙ so_far
 
-  module _ (few : length answer - i < 3) where
-    pub short_at : at ≡ start + length (lines_from answer rows 0)
-    short_at = ended_at (lines_short answer i left rides few)
+  module _ (size : ℕ) (chunks : size ≡ 3) where
+    module _ (few : length left < size) where
+      pub short_at : at ≡ start + length (lines_from answer rows 0)
+      short_at = ended_at (lines_short left more rides (omega arith))
 
-    pub short_out : out ≡ put start (lines_from answer rows 0) first
-    short_out = ended_out (lines_short answer i left rides few)
+      pub short_out : out ≡ put start (lines_from answer rows 0) first
+      short_out = ended_out (lines_short left more rides (omega arith))
 
-  module _ (room : i ≤ length answer) (enough : 3 ≤ length answer - i) where
-    module _ (no-ride : rides ≡ 0) where
-      module _ (no_row : left ≡ 0) where
-        nothing : lines_from (drop i answer) left rides ≡ []
-        nothing = rw (no-ride, no_row) (lines_end answer i (omega arith))
+  module _ (words rest : List ℕ) (is : left ≡ words ++ rest) (size : ℕ) (exact : length words ≡ size)
+      (chunks : size ≡ 3) where
+    three : length words ≡ 3
+    three = exact ∙ chunks
 
-        pub all_at : at ≡ start + length (lines_from answer rows 0)
-        all_at = ended_at nothing
+    module _ (no-ride : rides ≡ 0) (no_row : more ≡ 0) where
+      nothing : lines_from left more rides ≡ []
+      nothing = rw (is, no-ride, no_row) (lines_end words rest three)
 
-        pub all_out : out ≡ put start (lines_from answer rows 0) first
-        all_out = ended_out nothing
+      pub all_at : at ≡ start + length (lines_from answer rows 0)
+      all_at = ended_at nothing
 
-  -- a line more
-  module _ (piece : List ℕ) (end left' rides' : ℕ) (to : end ≡ at + length piece)
-      (is : lines_from (drop i answer) left rides ≡ piece ++ lines_from (drop (i + 3) answer) left' rides') where
-    next_at : end + length (lines_from (drop (i + 3) answer) left' rides') ≡ start + length (lines_from answer rows 0)
-    next_at = omega (arith, ap length is ∙ length-append piece (lines_from (drop (i + 3) answer) left' rides'))
+      pub all_out : out ≡ put start (lines_from answer rows 0) first
+      all_out = ended_out nothing
 
-    next_out : (next : List ℕ) → next ≡ put at piece out → end ≤ length out
-        → put end (lines_from (drop (i + 3) answer) left' rides') next ≡ put start (lines_from answer rows 0) first
-    next_out next words fits =
-        went_on at (length piece) end out next _ _ piece _ is refl (omega arith) to words so_far
+    -- a line more
+    module _ (room : at + 12 * length left ≤ length out) (piece : List ℕ) (end more' rides' : ℕ)
+        (to : end ≡ at + length piece) (more-is : lines_from left more rides ≡ piece ++ lines_from rest more' rides')
+      where
+        next_at : end + length (lines_from rest more' rides') ≡ start + length (lines_from answer rows 0)
+        next_at = omega (arith, ap length more-is ∙ length-append piece (lines_from rest more' rides'))
 
-  module _ (room : at + 12 * (length answer - i) ≤ length out) (inside : i ≤ length answer)
-      (enough : 3 ≤ length answer - i) (end : ℕ)
-    where
-      module _ (some-ride : rides ≡ 0 → ⊥) (to : end ≡ at + length (line_of 82 (take (i + 3 - i) (drop i answer))))
-        where
-          ride_is : lines_from (drop i answer) left rides
-              ≡ line_of 82 (take (i + 3 - i) (drop i answer)) ++ lines_from (drop (i + 3) answer) left (rides - 1)
-          ride_is =
-              let one : rides ≡ suc (rides - 1) = omega arith in
-              ap (lines_from (drop i answer) left) one ∙ lines_ride answer i (omega arith) left (rides - 1)
+        next_out : (next : List ℕ) → next ≡ put at piece out → end ≤ at + 11 * length words + 2
+            → put end (lines_from rest more' rides') next ≡ put start (lines_from answer rows 0) first
+        next_out next written most =
+            went_on at (length piece) end out next _ _ piece _ more-is refl
+            (omega (arith, line_room out left words rest at room is size exact chunks)) to written so_far
 
-          pub ride_at_lem : end + length (lines_from (drop (i + 3) answer) left (rides - 1))
-              ≡ start + length (lines_from answer rows 0)
-          ride_at_lem = next_at (line_of 82 (take (i + 3 - i) (drop i answer))) end left (rides - 1) to ride_is
+    module _ (room : at + 12 * length left ≤ length out) (end : ℕ) where
+      module _ (some-ride : rides ≡ 0 → ⊥) (to : end ≡ at + length (line_of 82 words)) where
+        ride_is : lines_from left more rides ≡ line_of 82 words ++ lines_from rest more (rides - 1)
+        ride_is =
+            let one : rides ≡ suc (rides - 1) = omega arith in
+            (λ j. lines_from (is j) more (one j)) ∙ lines_ride words rest three more (rides - 1)
 
-          pub ride_out : (next : List ℕ) → next ≡ put at (line_of 82 (take (i + 3 - i) (drop i answer))) out
-              → end ≤ at + 11 * length (take (i + 3 - i) (drop i answer)) + 2
-              → put end (lines_from (drop (i + 3) answer) left (rides - 1)) next
-              ≡ put start (lines_from answer rows 0) first
-          ride_out next words most =
-              next_out _ end left (rides - 1) to ride_is next words (omega (arith, three_long answer i))
+        pub ride_at_lem : end + length (lines_from rest more (rides - 1)) ≡ start + length (lines_from answer rows 0)
+        ride_at_lem = next_at room (line_of 82 words) end more (rides - 1) to ride_is
 
-      module _ (no-ride : rides ≡ 0) (some_row : left ≡ 0 → ⊥)
-          (to : end ≡ at + length (line_of 67 (take (i + 3 - i) (drop i answer)))) where
-        cost_is : lines_from (drop i answer) left rides
-            ≡ line_of 67 (take (i + 3 - i) (drop i answer))
-            ++ lines_from (drop (i + 3) answer) (left - 1) (get_or answer (i + 2) 0)
+        pub ride_out : (next : List ℕ) → next ≡ put at (line_of 82 words) out → end ≤ at + 11 * length words + 2
+            → put end (lines_from rest more (rides - 1)) next ≡ put start (lines_from answer rows 0) first
+        ride_out = next_out room (line_of 82 words) end more (rides - 1) to ride_is
+
+      module _ (no-ride : rides ≡ 0) (some_row : more ≡ 0 → ⊥) (to : end ≡ at + length (line_of 67 words)) where
+        cost_is : lines_from left more rides
+            ≡ line_of 67 words ++ lines_from rest (more - 1) (get_or words 2 0)
         cost_is =
-            let one : left ≡ suc (left - 1) = omega arith in
-            (λ j. lines_from (drop i answer) (one j) (no-ride j)) ∙ lines_cost answer i (omega arith) (left - 1)
+            let one : more ≡ suc (more - 1) = omega arith in
+            (λ j. lines_from (is j) (one j) (no-ride j)) ∙ lines_cost words rest three (more - 1)
 
-        pub cost_at_lem : end + length (lines_from (drop (i + 3) answer) (left - 1) (get_or answer (i + 2) 0))
+        pub cost_at_lem : end + length (lines_from rest (more - 1) (get_or words 2 0))
             ≡ start + length (lines_from answer rows 0)
-        cost_at_lem =
-            next_at (line_of 67 (take (i + 3 - i) (drop i answer))) end (left - 1) (get_or answer (i + 2) 0) to cost_is
+        cost_at_lem = next_at room (line_of 67 words) end (more - 1) (get_or words 2 0) to cost_is
 
-        pub cost_out : (next : List ℕ) → next ≡ put at (line_of 67 (take (i + 3 - i) (drop i answer))) out
-            → end ≤ at + 11 * length (take (i + 3 - i) (drop i answer)) + 2
-            → put end (lines_from (drop (i + 3) answer) (left - 1) (get_or answer (i + 2) 0)) next
+        pub cost_out : (next : List ℕ) → next ≡ put at (line_of 67 words) out → end ≤ at + 11 * length words + 2
+            → put end (lines_from rest (more - 1) (get_or words 2 0)) next
             ≡ put start (lines_from answer rows 0) first
-        cost_out next words most =
-            next_out _ end (left - 1) (get_or answer (i + 2) 0) to cost_is next words
-            (omega (arith, three_long answer i))
+        cost_out = next_out room (line_of 67 words) end (more - 1) (get_or words 2 0) to cost_is

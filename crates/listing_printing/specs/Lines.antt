@@ -1,10 +1,9 @@
 -- The lines that the listing program prints, as bytes. Document 01: "Q: from, to, minute, rows. C: duration, penalty,
 -- rides. R: trip, boarding stop, alighting stop. N: the query and its number."
 use Rattle.std.specs.Prelude.{◌≡◌, refl, Bool, true, false, cond, List, [], ◌∷◌, ◌++◌, ℕ, zero, suc, ◌+◌, ◌-◌, ◌/◌, ◌%◌}
-use Rattle.std.specs.Prelude.{◌*◌, ◌≤◌, ◌<◌, ltb, length, get_or, take, drop}
-use Rattle.std.proofs.Common.{ap, ◌∙◌, add_assoc, add-one, arith, lt-ltb, le-ltb, ltb-true, ltb-false, length-append}
-use Rattle.std.proofs.Common.{length-drop, drop_of_length-le, drop-cons}
-use Rattle.std.proofs.Math.Nat.{add-sub_cancel_left}
+use Rattle.std.specs.Prelude.{◌*◌, ◌≤◌, ◌<◌, ltb, length, get_or, drop}
+use Rattle.std.proofs.Common.{ap, add-one, arith, lt-ltb, le-ltb, ltb-true, ltb-false, length-append}
+use Rattle.std.proofs.Common.{drop_of_length-le, drop-cons}
 
 -- the decimal digits of n, and none in front that is 0, "except 0 itself"; fuel n suffices for n
 spelled_in : (fuel n : ℕ) → List ℕ
@@ -126,46 +125,37 @@ pub fields_end : (l : List ℕ) (k : ℕ) → length l ≤ k → fields (drop k 
 unfolding fields
 fields_end l k h = rw (drop_of_length-le l {i = k} h)
 
--- ---- the lines of an answer, from index i on
-short : (v : List ℕ) (rows rides : ℕ) → length v < 3 → lines_from v rows rides ≡ []
+-- ---- the lines of an answer, by its next three words
+pub lines_short : (w : List ℕ) (rows rides : ℕ) → length w < 3 → lines_from w rows rides ≡ []
 unfolding lines_from
-short [] rows rides g = refl
-short (a ∷ []) rows rides g = refl
-short (a ∷ b ∷ []) rows rides g = refl
-short (a ∷ b ∷ c ∷ v) rows rides g = absurd (omega arith)
+lines_short [] rows rides g = refl
+lines_short (a ∷ []) rows rides g = refl
+lines_short (a ∷ b ∷ []) rows rides g = refl
+lines_short (a ∷ b ∷ c ∷ w) rows rides g = absurd (omega arith)
 
-module _ (w : List ℕ) (i : ℕ) where
-  pub lines_short : (rows rides : ℕ) → length w - i < 3 → lines_from (drop i w) rows rides ≡ []
-  lines_short rows rides h = short (drop i w) rows rides (omega (arith, length-drop i w))
+three_words : (v : List ℕ) → length v ≡ 3 → (a b c : ℕ) × (v ≡ a ∷ b ∷ c ∷ [])
+three_words [] e = absurd (omega arith)
+three_words (a ∷ []) e = absurd (omega arith)
+three_words (a ∷ b ∷ []) e = absurd (omega arith)
+three_words (a ∷ b ∷ c ∷ []) e = (a, b, c, refl)
+three_words (a ∷ b ∷ c ∷ d ∷ v) e = absurd (omega arith)
 
-  module _ (h : i + 3 ≤ length w) where
-    next : (k : ℕ) → i + k < length w → drop (i + k) w ≡ get_or w (i + k) 0 ∷ drop (i + k + 1) w
-    next k g = rw (add-one (i + k)) (drop-cons w (i + k) 0 g)
+module _ (v w : List ℕ) (three : length v ≡ 3) where
+  pub lines_end : lines_from (v ++ w) 0 0 ≡ []
+  unfolding lines_from
+  lines_end =
+      let is = three_words v three in
+      rw is.3
 
-    three : drop i w ≡ get_or w i 0 ∷ get_or w (i + 1) 0 ∷ get_or w (i + 2) 0 ∷ drop (i + 3) w
-    three =
-        let first : drop i w ≡ get_or w i 0 ∷ drop (i + 1) w = rw (add-one i) (drop-cons w i 0 (omega arith)) in
-        let second : drop (i + 1) w ≡ get_or w (i + 1) 0 ∷ drop (i + 2) w =
-        rw (add_assoc i 1 1) at (next 1 (omega arith)) in
-        let third : drop (i + 2) w ≡ get_or w (i + 2) 0 ∷ drop (i + 3) w =
-        rw (add_assoc i 2 1) at (next 2 (omega arith)) in
-        first ∙ ap (λ v. get_or w i 0 ∷ v) (second ∙ ap (λ v. get_or w (i + 1) 0 ∷ v) third)
+  pub lines_ride : (rows rides : ℕ) → lines_from (v ++ w) rows (suc rides) ≡ line_of 82 v ++ lines_from w rows rides
+  unfolding lines_from
+  lines_ride rows rides =
+      let is = three_words v three in
+      rw is.3
 
-    numbers : take (i + 3 - i) (drop i w) ≡ get_or w i 0 ∷ get_or w (i + 1) 0 ∷ get_or w (i + 2) 0 ∷ []
-    numbers = rw (add-sub_cancel_left, three)
-
-    pub lines_end : lines_from (drop i w) 0 0 ≡ []
-    unfolding lines_from
-    lines_end = rw three
-
-    pub lines_ride : (rows rides : ℕ)
-        → lines_from (drop i w) rows (suc rides)
-        ≡ line_of 82 (take (i + 3 - i) (drop i w)) ++ lines_from (drop (i + 3) w) rows rides
-    unfolding lines_from
-    lines_ride rows rides = rw (numbers, three)
-
-    pub lines_cost : (rows : ℕ)
-        → lines_from (drop i w) (suc rows) 0
-        ≡ line_of 67 (take (i + 3 - i) (drop i w)) ++ lines_from (drop (i + 3) w) rows (get_or w (i + 2) 0)
-    unfolding lines_from
-    lines_cost rows = rw (numbers, three)
+  pub lines_cost : (rows : ℕ)
+      → lines_from (v ++ w) (suc rows) 0 ≡ line_of 67 v ++ lines_from w rows (get_or v 2 0)
+  unfolding lines_from
+  lines_cost rows =
+      let is = three_words v three in
+      rw is.3

@@ -28,6 +28,7 @@ fn put_byte(out: &mut [u8], at: usize, byte: u8)
 }
 
 // Writes the decimal digits of a number, from index at on. Returns the index after them.
+// Stays: of a Cursor over a slice std's write! promises no bytes, and the clause value of put_line names them.
 fn put_number(out: &mut [u8], at: usize, n: u32) -> usize
     requires { at + length (spelled n) ≤ length out.old }
     ensures { (result ≡ at + length (spelled n))
@@ -65,10 +66,8 @@ pub fn put_line(out: &mut [u8], start: usize, letter: u8, numbers: &[u32]) -> us
 {
     put_byte(out, start, letter);
     let mut at = start + 1;
-    let mut k = 0;
-    while k < numbers.len() {
-        at = put_field(out, at, numbers[k]);
-        k += 1;
+    for n in numbers {
+        at = put_field(out, at, *n);
     }
     put_byte(out, at, LINE_END);
     at + 1
@@ -83,27 +82,21 @@ pub fn put_rows(out: &mut [u8], start: usize, answer: &[u32], rows: u32) -> usiz
         × (length out.new ≡ length out.old) }
     ensures upper_bound { result ≤ length out.new }
 {
-    let n = answer.len();
     let mut at = start;
-    let mut i = 0;
     let mut left = rows;
     let mut rides = 0;
-    loop {
-        if n - i < LINE_WORDS {
-            return at;
-        }
+    for words in answer.chunks_exact(LINE_WORDS) {
         if rides == 0 {
             if left == 0 {
                 return at;
             }
-            at = put_line(out, at, COST, &answer[i..i + LINE_WORDS]);
+            at = put_line(out, at, COST, words);
             left -= 1;
-            rides = answer[i + 2];
-            i += LINE_WORDS;
+            rides = words[2];
             continue;
         }
-        at = put_line(out, at, RIDE, &answer[i..i + LINE_WORDS]);
+        at = put_line(out, at, RIDE, words);
         rides -= 1;
-        i += LINE_WORDS;
     }
+    at
 }

@@ -2,7 +2,7 @@
 #![tactic(auto)]
 
 ghost use Rattle.std.specs.Prelude.{◌≡◌};
-ghost use Rattle.listing_queries.specs.Query.{asked_of, query_of};
+ghost use Rattle.listing_queries.specs.Query.{number_of, query_of};
 
 const QUERY: u8 = 81;
 
@@ -21,56 +21,39 @@ pub struct Query {
     pub minute: u32,
 }
 
-#[derive(Clone, Copy)]
-pub enum Input {
-    Asked(Query),
-    Misshapen,
-}
-
-// The query of three values.
-fn asked(from: u32, to: u32, minute: u32) -> Input
-    ensures { result ≡ asked_of from to minute }
+// The number that a field holds.
+fn number(field: &[u8]) -> Option<u32>
+    ensures { result ≡ number_of field.now }
 {
-    if NUMBER_MOST < from {
-        return Input::Misshapen;
+    let value = text::field_value(field);
+    if NUMBER_MOST < value {
+        return None;
     }
-    if NUMBER_MOST < to {
-        return Input::Misshapen;
-    }
-    if NUMBER_MOST < minute {
-        return Input::Misshapen;
-    }
-    Input::Asked(Query { from, to, minute })
+    Some(value)
 }
 
-// The query that a line holds, without its line end.
-pub fn read_query(line: &[u8]) -> Input
+// The query that a line holds, without its line end; none where the line is misshapen.
+pub fn read_query(line: &[u8]) -> Option<Query>
     ensures { result ≡ query_of line.now }
 {
     let n = line.len();
-    if n < 2 {
-        return Input::Misshapen;
-    }
-    if line[0] != QUERY {
-        return Input::Misshapen;
-    }
-    if line[1] != COMMA {
-        return Input::Misshapen;
+    if n < 2 || line[0] != QUERY || line[1] != COMMA {
+        return None;
     }
     let first = text::piece_end(line, COMMA, 2);
     if first == n {
-        return Input::Misshapen;
+        return None;
     }
     let second = text::piece_end(line, COMMA, first + 1);
     if second == n {
-        return Input::Misshapen;
+        return None;
     }
     let third = text::piece_end(line, COMMA, second + 1);
     if third != n {
-        return Input::Misshapen;
+        return None;
     }
-    let from = text::field_value(&line[2..first]);
-    let to = text::field_value(&line[first + 1..second]);
-    let minute = text::field_value(&line[second + 1..third]);
-    asked(from, to, minute)
+    let from = number(&line[2..first])?;
+    let to = number(&line[first + 1..second])?;
+    let minute = number(&line[second + 1..third])?;
+    Some(Query { from, to, minute })
 }

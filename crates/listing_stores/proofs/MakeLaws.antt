@@ -1,29 +1,15 @@
 -- A store is made in a slice of zeros, so that it depends on nothing but its source; and the one that was made last is
 -- this one where the source is the same.
 use mathlib.Core.Path.{◌≡◌, sym, ap, ◌∙◌}
-use mathlib.Core.List.{List, ◌++◌, append-nil}
-use Prim.Native.Nat.{ℕ, ◌+◌, ◌≤◌, ◌<◌}
-use native.Mathlib.Omega.{arith}
-use borrow.Author.Fill.{fill_more}
-use lib.ListN.{length, set, drop, replicate, drop_of_length-le}
-use Rattle.replies.specs.declared.Reply.{Reply}
-use Rattle.replies.specs.declared.Reply.TheVariants.{Done, Refused}
+use mathlib.Core.List.{List}
+use Prim.Native.Nat.{ℕ}
+use lib.ListN.{length, replicate}
+use Rattle.replies.specs.Reply.{Reply}
+use Rattle.replies.specs.Reply.{Done, Refused}
 use Rattle.replies.specs.Replies.{number_of}
 use Rattle.promises.specs.StoreCall.{store_reply, store_after}
 use Rattle.listing_output.specs.Printed.{made_number, store_slice}
 
--- ---- zeros
-pub one_zero_more : (a₀ a : List ℕ) (k : ℕ) → a ≡ replicate k 0 ++ drop k a₀ → k < length a₀
-    → set a k 0 ≡ replicate (k + 1) 0 ++ drop (k + 1) a₀
-one_zero_more a₀ a k so_far h = rw so_far (fill_more k 0 a₀ h)
-
-pub zeros_all : (a₀ a : List ℕ) (k : ℕ) → a ≡ replicate k 0 ++ drop k a₀ → k ≤ length a₀ → length a₀ ≤ k
-    → a ≡ replicate (length a₀) 0
-zeros_all a₀ a k so_far h g =
-    let all : k ≡ length a₀ = omega arith in
-    so_far ∙ rw (drop_of_length-le a₀ {i = k} g, append-nil, all)
-
--- ---- the store
 module _ (w v store cleared : List ℕ) (n source : ℕ) (space : n ≡ 16384) (long : length store ≡ 32768)
     (same : length cleared ≡ length store) where
   module _ (made : Reply) (is : made ≡ store_reply w v n source (length cleared)) where
@@ -35,8 +21,8 @@ module _ (w v store cleared : List ℕ) (n source : ℕ) (space : n ≡ 16384) (
     pub made_done : (count : ℕ) → made ≡ Done count → 0 ≡ made_number w v source
     made_done count e = sym (made_reply_lem ∙ ap number_of e)
 
-    pub made_refused : (number : ℕ) → made ≡ Refused number → number ≡ made_number w v source
-    made_refused number e = sym (made_reply_lem ∙ ap number_of e)
+    pub made_refused : (number k : ℕ) → made ≡ Refused number → k ≡ number → k ≡ made_number w v source
+    made_refused number k e f = f ∙ sym (made_reply_lem ∙ ap number_of e)
 
   pub made_store : (last : List ℕ) → cleared ≡ replicate (length store) 0 → last ≡ store_after w v n source cleared
       → last ≡ store_slice w v source

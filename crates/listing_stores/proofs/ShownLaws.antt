@@ -5,8 +5,8 @@ use Prim.Native.Nat.{ℕ}
 use borrow.Author.Tests.{ne_eqb}
 use lib.ListN.{length, replicate, length-replicate}
 use Rattle.words.specs.Put.{put}
-use Rattle.replies.specs.declared.Reply.{Reply}
-use Rattle.replies.specs.declared.Reply.TheVariants.{Done, Refused}
+use Rattle.replies.specs.Reply.{Reply}
+use Rattle.replies.specs.Reply.{Done, Refused}
 use Rattle.replies.specs.Replies.{number_of}
 use Rattle.lines_check.specs.Asked.{query_number}
 use Rattle.promises.specs.Query.{ask_reply, ask_words}
@@ -56,13 +56,18 @@ module _ (w v : List ℕ) (from to minute n : ℕ) (space : n ≡ 16384) where
             let some : number ≡ 0 → ⊥ = reply_refused w v from to minute number (sym refused ∙ sym reply_is) in
             rw (prints_is ∙ ap number_of refused, ne_eqb number 0 some)
 
-        pub refused_count : (k : ℕ) → k ≡ length (refused_line from to minute number)
-            → k ≡ length (query_printed w v from to minute)
-        refused_count k e = e ∙ ap length refused_is
+        -- the code has the number from the question
+        module _ (told : ℕ) (same : told ≡ number) where
+          told_is : refused_line from to minute told ≡ query_printed w v from to minute
+          told_is = ap (refused_line from to minute) same ∙ refused_is
 
-        pub refused_words : (old last : List ℕ) → last ≡ put 0 (refused_line from to minute number) old
-            → last ≡ put 0 (query_printed w v from to minute) old
-        refused_words old last e = e ∙ ap (λ b. put 0 b old) refused_is
+          pub refused_count : (k : ℕ) → k ≡ length (refused_line from to minute told)
+              → k ≡ length (query_printed w v from to minute)
+          refused_count k e = e ∙ ap length told_is
+
+          pub refused_words : (old last : List ℕ) → last ≡ put 0 (refused_line from to minute told) old
+              → last ≡ put 0 (query_printed w v from to minute) old
+          refused_words old last e = e ∙ ap (λ b. put 0 b old) told_is
 
 -- the number of the store call
 module _ (w v : List ℕ) (from to minute : ℕ) (own-zero : query_number w v 16384 from to minute ≡ 0)

@@ -8,7 +8,6 @@ ghost use Rattle.lines_check.specs.Asked.{query_number};
 ghost use Rattle.listing_output.specs.Printed.{made_number, store_slice, query_printed};
 
 use listing_queries::Query;
-use replies::Reply;
 
 pub const STORE_WORDS: usize = 32768;
 
@@ -28,19 +27,6 @@ pub struct Made {
     pub number: u32,
 }
 
-// Fills the store with zeros.
-fn clear(store: &mut [u16])
-    ensures store_after { store.new ≡ replicate (length store.old) 0 }
-    ensures store_len_unchanged { length store.new ≡ length store.old }
-{
-    let n = store.len();
-    let mut i = 0;
-    while i < n {
-        store[i] = 0;
-        i += 1;
-    }
-}
-
 // Makes the store of a source.
 pub fn make(
     timetable: &[u16],
@@ -55,14 +41,13 @@ pub fn make(
         × (store.new ≡ store_slice timetable.now lines.now source)
         × (length store.new ≡ length store.old) }
 {
-    clear(store);
+    store.fill(0);
     match store_call::make_store(timetable, lines, work, source, store) {
-        Reply::Done { .. } => {
-            return Made { source, number: 0 };
-        }
-        Reply::Refused { number } => {
-            return Made { source, number };
-        }
+        Ok(_) => Made { source, number: 0 },
+        Err(refusal) => Made {
+            source,
+            number: refusal.number(),
+        },
     }
 }
 
@@ -163,12 +148,8 @@ fn show(
         query.minute,
         answer,
     ) {
-        Reply::Done { count } => {
-            return answer_lines(out, query, count, answer);
-        }
-        Reply::Refused { number } => {
-            return refuse(out, query, number);
-        }
+        Ok(count) => answer_lines(out, query, count, answer),
+        Err(refusal) => refuse(out, query, refusal.number()),
     }
 }
 

@@ -3,15 +3,15 @@
 -- run, taken in rising number."
 use Rattle.std.specs.Prelude.{cond, not, List, [], ◌∷◌, ◌++◌, ℕ, eqb, get_or}
 use Rattle.questions.specs.Question.{ask, first_no}
-use Rattle.replies.specs.declared.Reply.{Reply}
+use Rattle.replies.specs.Reply.{Reply}
 use Rattle.replies.specs.Replies.{reply_of, words_after}
 use Rattle.words.specs.Put.{put}
 use Rattle.timetable.specs.Timetable.{Timetable}
 use Rattle.timetable.specs.Words.{words, timetable_of}
 use Rattle.timetable.specs.Changes.{runs_as, cancelled, added}
 use Rattle.reading.specs.Reading.{Outcome, Accepted, Refused, read_extra}
-use Rattle.reading.specs.declared.Reply.{Reply as LineReply}
-use Rattle.reading.specs.declared.Reply.TheVariants.{Done as LinesDone, Refused as LineRefused}
+use Rattle.reading.specs.Reply.{Reply as LineReply}
+use Rattle.reading.specs.Reply.{Done as LinesDone, Refused as LineRefused}
 use Rattle.lines_tables.specs.Tables.{table_words}
 use Rattle.lines_tables.specs.Building.{line_count}
 use Rattle.lines_check.specs.Question10.{tables_questions}

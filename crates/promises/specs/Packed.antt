@@ -2,11 +2,11 @@
 -- half the count, or on a refusal the line.
 use Rattle.std.specs.Prelude.{◌≡◌, refl, ℕ, ◌+◌, ◌*◌, ◌<◌}
 use Rattle.std.proofs.Common.{ap, ◌∙◌, add-zero, zero-add, arith}
-use Rattle.reading.specs.declared.Reply.{Reply}
-use Rattle.reading.specs.declared.Reply.TheVariants.{Done, Refused}
+use Rattle.reading.specs.Reply.{Reply}
+use Rattle.reading.specs.Reply.{Done, Refused}
 use Rattle.reading.specs.Reading.{number_of, line_of, count_of}
-use Rattle.replies.specs.declared.Reply.{Reply as Counted}
-use Rattle.replies.specs.declared.Reply.TheVariants.{Done as CountDone, Refused as CountRefused}
+use Rattle.replies.specs.Reply.{Reply as Counted}
+use Rattle.replies.specs.Reply.{Done as CountDone, Refused as CountRefused}
 use Rattle.replies.specs.Replies.{number_of as counted_number, count_of as counted_count}
 
 abbrev pub packed : (number low : ℕ) → ℕ

@@ -4,7 +4,7 @@
 use Rattle.std.specs.Prelude.{◌≡◌, List, [], ◌∷◌, ◌++◌, ℕ, leb, length}
 use Rattle.lists.specs.Lists.{concat_map}
 use Rattle.questions.specs.Question.{Question, ask, first_no}
-use Rattle.replies.specs.declared.Reply.{Reply}
+use Rattle.replies.specs.Reply.{Reply}
 use Rattle.replies.specs.Replies.{reply_of, values_of, values_for, words_after, reply_values}
 use Rattle.timetable.specs.Words.{timetable_of}
 use Rattle.connections.specs.Connections.{net, Connection}

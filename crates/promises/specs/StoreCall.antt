@@ -3,7 +3,7 @@
 -- One: "a store has 2 + 3n + 2m words".
 use Rattle.std.specs.Prelude.{◌≡◌, Bool, ◌&&◌, List, [], ◌∷◌, ◌++◌, ℕ, leb, length}
 use Rattle.questions.specs.Question.{ask, first_no}
-use Rattle.replies.specs.declared.Reply.{Reply}
+use Rattle.replies.specs.Reply.{Reply}
 use Rattle.replies.specs.Replies.{reply_of, values_of, values_for, reply_values, words_after}
 use Rattle.timetable.specs.Words.{timetable_of}
 use Rattle.connections.specs.Connections.{net}

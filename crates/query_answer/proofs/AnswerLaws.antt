@@ -9,7 +9,7 @@ use lib.Dec.{leb}
 use lib.ListN.{length}
 use Rattle.words.specs.Put.{put}
 use Rattle.questions.specs.Question.{ask, first_no}
-use Rattle.replies.specs.declared.Reply.TheVariants.{Done, Refused}
+use Rattle.replies.specs.Reply.{Done, Refused}
 use Rattle.replies.specs.Replies.{reply_done, reply_refused, words_done, words_kept}
 use Rattle.query_minutes.specs.Minutes.{no_points, leads}
 use Rattle.promises.specs.Query.{kept, rows, row_words}

@@ -1,7 +1,7 @@
 -- What is answered from a store that is well made: questions 14 and 15, and the rows.
 use Rattle.std.specs.Prelude.{List, [], ◌∷◌, ℕ, leb, length}
 use Rattle.questions.specs.Question.{Question, ask, first_no}
-use Rattle.replies.specs.declared.Reply.{Reply}
+use Rattle.replies.specs.Reply.{Reply}
 use Rattle.replies.specs.Replies.{reply_of, words_after}
 use Rattle.promises.specs.Query.{kept, rows, row_words}
 

@@ -8,11 +8,12 @@ ghost use Rattle.query_minutes.specs.Ending.{LeadsEnd};
 ghost use Rattle.query_arcs.specs.Kept.{LeastKept};
 ghost use Rattle.query_arcs.specs.Granted.{Granted};
 ghost use Rattle.query_rows.specs.Named.{AllNamed};
+ghost use Rattle.replies.specs.Reply.{reply_seen};
 ghost use Rattle.query_answer.specs.Answer.{shown_reply, shown_words};
 
 use query_arcs::Query;
 use query_minutes::{MINUTES, NO_POINTS, Rows};
-use replies::Reply;
+use questions::Refusal;
 
 // Writes the rows, of which there are some, if the answer has room for them: it is measured before a word is written.
 fn show_rows(
@@ -25,7 +26,7 @@ fn show_rows(
     rows: Rows,
     answer: &mut [u32],
     work: &mut [u32],
-) -> Reply
+) -> Result<u32, Refusal>
     requires { Granted words.now lines.now store.now asked.from asked.to asked.minute
         × LeastKept asked.minute (kept words.now store.now asked.from asked.to asked.minute) best.now
         × AllNamed words.now store.now asked.from asked.to asked.minute best.now who.old
@@ -36,7 +37,7 @@ fn show_rows(
         × (rows.count ≤ 2880)
         × LeadsEnd best.now rows.end
         × (2880 ≤ length work.old) }
-    ensures value { result
+    ensures value { reply_seen result
         ≡ shown_reply
         words.now
         store.now
@@ -56,12 +57,10 @@ fn show_rows(
     let end = rows.end;
     let long = query_rows::measure(words, lines, store, asked, end, best, who, work);
     if answer.len() < long {
-        return Reply::Refused { number: 15 };
+        return Err(Refusal::Room);
     }
     query_rows::write_rows(words, lines, store, asked, end, best, who, answer, work);
-    Reply::Done {
-        count: rows.count as u32,
-    }
+    Ok(rows.count as u32)
 }
 
 // Answers a query from a store that is well made. Working space may hold any words afterwards.
@@ -74,9 +73,9 @@ pub fn show(
     to: usize,
     minute: usize,
     answer: &mut [u32],
-) -> Reply
+) -> Result<u32, Refusal>
     requires { Granted words.now lines.now store.now from to minute × (2880 ≤ length work.old) }
-    ensures value { result
+    ensures value { reply_seen result
         ≡ shown_reply
         words.now
         store.now
@@ -93,7 +92,7 @@ pub fn show(
     query_arcs::note_arcs(words, lines, store, asked, &mut best, &mut who);
     let rows = query_minutes::find_rows(&best);
     if rows.count < 1 {
-        return Reply::Refused { number: 14 };
+        return Err(Refusal::NoConnection);
     }
     show_rows(
         words, lines, store, asked, &best, &mut who, rows, answer, work,

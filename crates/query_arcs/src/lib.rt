@@ -89,14 +89,11 @@ fn merge(k: usize, from: usize, to: usize, mine: &mut [u32], best: &mut [u32], w
         × (length best.new ≡ length best.old)
         × (length who.new ≡ length who.old) }
 {
-    let mut m = from;
-    while m < to {
-        let here = m;
-        m += 1;
-        if query_minutes::same(query_minutes::points_at(mine, here), Points(NO_POINTS)) {
+    for m in from..to {
+        if query_minutes::same(query_minutes::points_at(mine, m), Points(NO_POINTS)) {
             continue;
         }
-        merge_minute(k, here, mine, best, who);
+        merge_minute(k, m, mine, best, who);
     }
 }
 
@@ -212,15 +209,12 @@ pub fn note_arcs(
     let mut q = [NO_POINTS; MINUTES];
     let mut mine = [NO_POINTS; MINUTES];
     let arcs = query_store::arc_count(store);
-    let mut k = 0;
-    while k < arcs {
-        let arc = k;
-        k += 1;
-        if !query_store::counts(store, arc, asked.to) {
+    for k in 0..arcs {
+        if !query_store::counts(store, k, asked.to) {
             continue;
         }
         note_arc(
-            words, lines, store, asked, arc, &mut p, &mut q, &mut mine, best, who,
+            words, lines, store, asked, k, &mut p, &mut q, &mut mine, best, who,
         );
     }
 }

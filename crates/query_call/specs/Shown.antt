@@ -5,8 +5,8 @@ use Rattle.std.proofs.Math.Path.{sym, ap}
 use Rattle.std.proofs.Common.{◌∙◌, arith}
 use Rattle.std.proofs.lemmas.Bool.{not-true, not-false}
 use Rattle.questions.specs.Question.{ask, first_no}
-use Rattle.replies.specs.declared.Reply.{Reply}
-use Rattle.replies.specs.declared.Reply.TheVariants.{Refused}
+use Rattle.replies.specs.Reply.{Reply}
+use Rattle.replies.specs.Reply.{Refused}
 use Rattle.replies.specs.Replies.{reply_of, words_after, reply_refused, words_kept}
 use Rattle.replies.specs.Later.{asked_on, asked_out}
 use Rattle.timetable.specs.Words.{timetable_of, station_count}

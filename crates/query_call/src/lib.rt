@@ -5,10 +5,11 @@ ghost use Rattle.std.specs.Prelude.{◌≡◌, ◌≤◌, length};
 ghost use Rattle.timetable.specs.Words.{timetable_of};
 ghost use Rattle.stores.specs.Words.{well_made};
 ghost use Rattle.lines_check.specs.Asked.{query_number};
+ghost use Rattle.replies.specs.Reply.{reply_seen};
 ghost use Rattle.replies.specs.Replies.{values_of};
 ghost use Rattle.promises.specs.Query.{ask_reply, ask_values, ask_words};
 
-use replies::Reply;
+use questions::Refusal;
 
 // Whether the store is well made for the stations of the timetable.
 fn is_made(words: &[u16], store: &[u16], work: &mut [u32]) -> bool
@@ -29,9 +30,9 @@ fn query_stored(
     to: u32,
     minute: u32,
     answer: &mut [u32],
-) -> Reply
+) -> Result<u32, Refusal>
     requires { query_number words.now lines.now (length work.old) from to minute ≡ 0 }
-    ensures value { result
+    ensures value { reply_seen result
         ≡ ask_reply
         words.now
         lines.now
@@ -53,7 +54,7 @@ fn query_stored(
         answer.old }
 {
     if !is_made(words, store, work) {
-        return Reply::Refused { number: 13 };
+        return Err(Refusal::NoStore);
     }
     query_answer::show(
         words,
@@ -77,8 +78,8 @@ fn query_asked(
     to: u32,
     minute: u32,
     answer: &mut [u32],
-) -> Reply
-    ensures value { result
+) -> Result<u32, Refusal>
+    ensures value { reply_seen result
         ≡ ask_reply
         words.now
         lines.now
@@ -99,10 +100,7 @@ fn query_asked(
         minute
         answer.old }
 {
-    let number = lines_check::query_number(words, lines, work, from, to, minute);
-    if number != 0 {
-        return Reply::Refused { number };
-    }
+    lines_check::query_number(words, lines, work, from, to, minute)?;
     query_stored(words, lines, store, work, from, to, minute, answer)
 }
 
@@ -116,8 +114,8 @@ pub fn query(
     to: u32,
     minute: u32,
     answer: &mut [u32],
-) -> Reply
-    ensures reply { result
+) -> Result<u32, Refusal>
+    ensures reply { reply_seen result
         ≡ ask_reply
         words.now
         lines.now
@@ -127,7 +125,7 @@ pub fn query(
         to
         minute
         (length answer.old) }
-    ensures values { values_of result
+    ensures values { values_of (reply_seen result)
         ≡ ask_values
         words.now
         lines.now

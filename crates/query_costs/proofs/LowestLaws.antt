@@ -84,8 +84,10 @@ module _
     (m : ℕ)
     (so_far : first_value p ≡ first_from (λ k. ltb (get_or p k 0) no_points) m (2880 - m))
   where
-    pub none_left : 2880 ≤ m → m ≡ first_value p
-    none_left h = sym (so_far ∙ first_none (λ k. ltb (get_or p k 0) no_points) m 2880 h)
+    pub none_left : 2880 ≤ m → m ≤ 2880 → 2880 ≡ first_value p
+    none_left h g =
+        let end : 2880 ≡ m = omega arith in
+        end ∙ sym (so_far ∙ first_none (λ k. ltb (get_or p k 0) no_points) m 2880 h)
 
     module _ (more : m < 2880) (x : ℕ) (is_x : x ≡ get_or p m 0) (r : Bool) (is-r : r ≡ ltb x no_points) where
       test : ltb (get_or p m 0) no_points ≡ r

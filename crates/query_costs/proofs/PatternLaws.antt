@@ -25,9 +25,9 @@ pub alighted_here : (w path : List ℕ) (r j y : ℕ) → Stations w path (2 * r
     → Listed w y
 alighted_here w path r j y s h e = subst (Listed w) (sym e) (s.listed (2 * j) (omega arith))
 
-pub boarded_here : (w path : List ℕ) (r j x : ℕ) → Stations w path (2 * r - 1) → j < r → ¬ (j + 1 ≡ r)
+pub boarded_here : (w path : List ℕ) (r j x : ℕ) → Stations w path (2 * r - 1) → j + 1 < r
     → x ≡ get_or path (2 * j + 1) 0 → Listed w x
-boarded_here w path r j x s h more e = subst (Listed w) (sym e) (s.listed (2 * j + 1) (omega (arith, more)))
+boarded_here w path r j x s more e = subst (Listed w) (sym e) (s.listed (2 * j + 1) (omega arith))
 
 module _ (w : List ℕ) (accepted : is_timetable w ≡ true) where
   abbrev n : Net
@@ -59,15 +59,13 @@ module _ (w : List ℕ) (accepted : is_timetable w ≡ true) where
       (k : List ℕ)
       (is : Ready n a t (changes_to path j) x e k)
       (y : ℕ)
-      (here : y ≡ get_or path (2 * j) 0)
     where
       -- the last ride
-      pub ended : j + 1 ≡ r → (old best after : List ℕ) → length old ≡ 2880 → best ≡ old
+      pub ended : j + 1 ≡ r → y ≡ get_or path (2 * r - 2) 0 → (old best after : List ℕ) → length old ≡ 2880 → best ≡ old
           → after ≡ taken_all k 0 0 best (near_read v x e y)
           → Lowered n a t (changes_to path (r - 1)) (get_or path (2 * r - 2) 0) old after
-      ended at old best after size same h =
+      ended at here old best after size same h =
           let last : j ≡ r - 1 = omega (arith, at) in
-          let end : 2 * j ≡ 2 * r - 2 = omega (arith, at) in
           let all = h ∙ ap (λ b. taken_all k 0 0 b (near_read v x e y)) same in
           let lowered = end_on w accepted v own x i a t (changes_to path j) e k is y old size in
           subst
@@ -75,11 +73,11 @@ module _ (w : List ℕ) (accepted : is_timetable w ≡ true) where
           last
           (subst
           (λ z. Lowered n a t (changes_to path j) z old after)
-          (here ∙ ap (λ m. get_or path m 0) end)
+          here
           (subst (Lowered n a t (changes_to path j) y old) (sym all) lowered))
 
       -- a change more, to the station boarded at
-      module _ (z : ℕ) (there : z ≡ get_or path (2 * j + 1) 0) where
+      module _ (here : y ≡ get_or path (2 * j) 0) (z : ℕ) (there : z ≡ get_or path (2 * j + 1) 0) where
         named : record { alighted = y; boarded = z } ∷ changes_to path j ≡ changes_to path (j + 1)
         named = (λ i. record { alighted = here i; boarded = there i } ∷ changes_to path j) ∙ sym (changes_more path j)
 
@@ -99,15 +97,15 @@ module _ (w : List ℕ) (accepted : is_timetable w ≡ true) where
             (alighted_here w path r j y stations more here) z)))
 
         -- no one is ready any more
-        pub stopped : ¬ (j + 1 ≡ r) → (after : List ℕ) → after ≡ change_words w k y z (near_read v x e y)
+        pub stopped : j + 1 < r → (after : List ℕ) → after ≡ change_words w k y z (near_read v x e y)
             → (first : ℕ) → first ≡ first_value after → first ≤ 2880 → 2880 ≤ first
             → (old best : List ℕ) → best ≡ old
             → Lowered n a t (changes_to path (r - 1)) (get_or path (2 * r - 2) 0) old best
-        stopped at after h first f most least old best same =
+        stopped further after h first f most least old best same =
             let end : first ≡ 2880 = omega arith in
             let last = subst (λ m. Ready n a t (changes_to path (j + 1)) z m after) end (ready_next after h first f) in
             let none = nowhere (timetable_of w) (is_valid w accepted) a t (changes_to path (j + 1)) z after last in
-            let later : j + 1 ≤ r - 1 = omega (arith, at) in
+            let later : j + 1 ≤ r - 1 = omega arith in
             let b = get_or path (2 * r - 2) 0 in
             subst
             (Lowered n a t (changes_to path (r - 1)) (get_or path (2 * r - 2) 0) old)

@@ -1,6 +1,5 @@
 -- The loop over the rides: those noted so far, and then those that are left, make the same words as all of them.
 use mathlib.Core.Path.{◌≡◌, refl, sym, ap, subst, ◌∙◌}
-use mathlib.Core.Bool.{true, false}
 use mathlib.Core.List.Memᴰ.{tail as there}
 use mathlib.Core.List.{List, [], ◌∷◌}
 use Prim.Native.Nat.{ℕ, ◌+◌, ◌≤◌, ◌<◌, min}
@@ -12,7 +11,8 @@ use Rattle.query_places.specs.Candidates.{near_read}
 use Rattle.query_minutes.specs.Minutes.{no_points, note_all, lowered}
 use Rattle.query_rides.specs.declared.Ride.{Ride as RideStruct}
 use Rattle.query_rides.specs.declared.Cursor.{Cursor}
-use Rattle.query_rides.specs.Riding.{Good, Tells, near_left, ride_of, near_none}
+use Rattle.query_rides.specs.Riding.{Good, Tells, near_left, ride_of, near_none, near_goes}
+use Rattle.std.specs.Prelude.{Option, None, Some}
 use Rattle.query_rides.specs.Ridden.{ride_left}
 use Rattle.query_costs.specs.declared.Span.{Span}
 use Rattle.query_costs.specs.Spans.{Within, widened, widened_low, within_none, within_more}
@@ -57,23 +57,25 @@ pub ride_widened : (s wider : Span) (a b ready : ℕ) → ready ≡ a + b → wi
     → wider ≡ widened s (a + b)
 ride_widened s wider a b ready is e = e ∙ ap (widened s) is
 
-module _ (v : List ℕ) (a b u : ℕ) (p : List ℕ) (c : Cursor) where
+module _ (v : List ℕ) (a b u : ℕ) (p : List ℕ) (o : Option Cursor) where
   -- the rides left fit
-  pub fitting_first : Fitting p (near_read v a u b) → near_left v u c ≡ near_read v a u b → Fitting p (near_left v u c)
+  pub fitting_first : Fitting p (near_read v a u b) → near_left v u o ≡ near_read v a u b → Fitting p (near_left v u o)
   fitting_first f e = subst (Fitting p) (sym e) f
 
-  module _ (fit : Fitting p (near_left v u c)) where
-    pub fitting_next : (d : Cursor) → near_left v u c ≡ ride_of v c ∷ near_left v u d → Fitting p (near_left v u d)
-    fitting_next d e =
+  module _ (fit : Fitting p (near_left v u o)) (c : Cursor) (at : o ≡ Some c) where
+    pub fitting_next : (d : Option Cursor) → near_left v u (Some c) ≡ ride_of v c ∷ near_left v u d
+        → Fitting p (near_left v u d)
+    fitting_next d is =
+        let e = near_goes v o c at u d is in
         record {
           depart = λ r m. fit.depart r (subst (λ l. r ∈ l) (sym e) (there m));
           low = λ r m. fit.low r (subst (λ l. r ∈ l) (sym e) (there m));
           few = λ r m. fit.few r (subst (λ l. r ∈ l) (sym e) (there m));
         }
 
-    pub fits_here : Good v c → c.more ≡ true → (s : RideStruct) → Tells s (ride_of v c) → Fits p s
-    fits_here good more s t =
-        let m = ride_left v u c good more in
+    pub fits_here : Good v c → (s : RideStruct) → Tells s (ride_of v c) → Fits p s
+    fits_here good s t =
+        let m = subst (λ o. ride_of v c ∈ near_left v u o) (sym at) (ride_left v u c good) in
         record {
           depart = omega (arith, t.depart, fit.depart (ride_of v c) m);
           arrive = t.arrive_few;
@@ -81,19 +83,19 @@ module _ (v : List ℕ) (a b u : ℕ) (p : List ℕ) (c : Cursor) where
           few = omega (arith, t.points, fit.few (ride_of v c) m);
         }
 
-  pub noting_first : (minutes points : ℕ) (best : List ℕ) → near_left v u c ≡ near_read v a u b
-      → taken_all p minutes points best (near_read v a u b) ≡ taken_all p minutes points best (near_left v u c)
+  pub noting_first : (minutes points : ℕ) (best : List ℕ) → near_left v u o ≡ near_read v a u b
+      → taken_all p minutes points best (near_read v a u b) ≡ taken_all p minutes points best (near_left v u o)
   noting_first minutes points best e = ap (taken_all p minutes points best) (sym e)
 
   module _ (minutes points : ℕ) (whole best : List ℕ) where
-    pub noting_more : whole ≡ taken_all p minutes points best (near_left v u c)
-        → (s : RideStruct) → Tells s (ride_of v c)
-        → (d : Cursor) → near_left v u c ≡ ride_of v c ∷ near_left v u d
+    pub noting_more : whole ≡ taken_all p minutes points best (near_left v u o)
+        → (c : Cursor) → o ≡ Some c → (s : RideStruct) → Tells s (ride_of v c)
+        → (d : Option Cursor) → near_left v u (Some c) ≡ ride_of v c ∷ near_left v u d
         → (after : List ℕ) → after ≡ lowered best (s.arrive + minutes) (get_or p s.depart 0 + s.points.0 + points)
         → whole ≡ taken_all p minutes points after (near_left v u d)
-    noting_more h s t d e after is =
+    noting_more h c at s t d e after is =
         h
-        ∙ ap (taken_all p minutes points best) e
+        ∙ ap (taken_all p minutes points best) (near_goes v o c at u d e)
         ∙ taken_more p minutes points best (ride_of v c) (near_left v u d)
         ∙ sym (ap (λ l. taken_all p minutes points l (near_left v u d)) (is ∙ same))
       where
@@ -103,11 +105,11 @@ module _ (v : List ℕ) (a b u : ℕ) (p : List ℕ) (c : Cursor) where
         same =
             (λ i. lowered best (t.arrive i + minutes) (get_or p (t.depart i) 0 + t.points i + points))
 
-    pub noting_done : whole ≡ taken_all p minutes points best (near_left v u c) → c.more ≡ false → best ≡ whole
+    pub noting_done : whole ≡ taken_all p minutes points best (near_left v u o) → o ≡ None → best ≡ whole
     noting_done h e =
         sym
         (h
-        ∙ ap (taken_all p minutes points best) (near_none v u c e)
+        ∙ ap (taken_all p minutes points best) (near_none v u o e)
         ∙ taken_none p minutes points best)
 
 -- ---- the span of the minutes noted

@@ -5,7 +5,7 @@
 //! blank again.
 #![tactic(auto)]
 
-ghost use Rattle.std.specs.Prelude.{◌≡◌, true, not, ◌+◌, ◌-◌, ◌*◌, ◌≤◌, ◌<◌, min, max, length, get_or};
+ghost use Rattle.std.specs.Prelude.{◌≡◌, true, not, ◌+◌, ◌-◌, ◌*◌, ◌≤◌, ◌<◌, length, get_or};
 ghost use Rattle.timetable.specs.Words.{timetable_of, is_timetable};
 ghost use Rattle.connections.specs.Connections.{net};
 ghost use Rattle.lines_check.specs.Question10.{are_tables};
@@ -42,26 +42,6 @@ fn nothing() -> Span
     }
 }
 
-// The earlier of two minutes.
-fn earlier(a: usize, b: usize) -> usize
-    ensures { result ≡ min a b }
-{
-    if b < a {
-        return b;
-    }
-    a
-}
-
-// The later of two minutes.
-fn later(a: usize, b: usize) -> usize
-    ensures { result ≡ max a b }
-{
-    if a < b {
-        return b;
-    }
-    a
-}
-
 // The span with a minute more. A minute after the two days is left out: nothing is noted for it.
 fn widen(s: Span, m: usize) -> Span
     ensures { result ≡ widened s m }
@@ -70,8 +50,8 @@ fn widen(s: Span, m: usize) -> Span
         return s;
     }
     Span {
-        from: earlier(s.from, m),
-        to: later(s.to, m + 1),
+        from: s.from.min(m),
+        to: s.to.max(m + 1),
     }
 }
 
@@ -81,10 +61,8 @@ fn clear(p: &mut [u32], s: Span)
     ensures p_after { p.new ≡ blank }
     ensures p_len_unchanged { length p.new ≡ length p.old }
 {
-    let mut m = s.from;
-    while m < s.to {
+    for m in s.from..s.to {
         query_minutes::set_points(p, m, Points(NO_POINTS));
-        m += 1;
     }
 }
 
@@ -98,11 +76,9 @@ fn lowest_so_far(p: &mut [u32], s: Span)
 {
     let mut least = Points(NO_POINTS);
     // A span of no minutes may end before it begins.
-    let mut m = earlier(s.from, s.to);
-    while m < s.to {
+    for m in s.from.min(s.to)..s.to {
         least = query_minutes::lesser(least, query_minutes::points_at(p, m));
         query_minutes::set_points(p, m, least);
-        m += 1;
     }
 }
 
@@ -111,7 +87,7 @@ fn paid_by(p: &[u32], s: Span, m: usize) -> Points
     requires { Falls s p.now × (m < 2880) × (get_or (lowest no_points p.now) m 0 < no_points) }
     ensures { result.0 ≡ get_or (lowest no_points p.now) m 0 }
 {
-    query_minutes::points_at(p, earlier(m, s.to - 1))
+    query_minutes::points_at(p, m.min(s.to - 1))
 }
 
 // The first minute by which one is ready, where no one is before minute from; 2,880 if no one ever is.
@@ -119,17 +95,12 @@ fn first_value(p: &[u32], from: usize) -> usize
     requires { (length p.now ≡ 2880) × (from ≤ 2880) × NoneBefore from p.now }
     ensures { (result ≡ first_value p.now) × (from ≤ result) × (result ≤ 2880) }
 {
-    let mut m = from;
-    let first = loop {
-        if MINUTES <= m {
-            break m;
-        }
+    for m in from..MINUTES {
         if query_minutes::less(query_minutes::points_at(p, m), Points(NO_POINTS)) {
-            break m;
+            return m;
         }
-        m += 1;
-    };
-    first
+    }
+    MINUTES
 }
 
 // Before the first ride one is ready from the minute of the query on, and has paid nothing.
@@ -198,10 +169,10 @@ fn note_rides(
     ensures within { Within result best.old best.new × (result.from ≤ 2880) }
 {
     let mut noted = nothing();
-    let mut c = query_rides::begin(lines, from, to, s.from);
-    while c.more {
+    let mut next = query_rides::begin(lines, from, to, s.from);
+    while let Some(c) = next {
         noted = note_ride(p, s, query_rides::tell(lines, c), change, best, noted);
-        c = query_rides::next_nearest(lines, s.from, c);
+        next = query_rides::next_nearest(lines, s.from, c);
     }
     noted
 }
@@ -425,20 +396,16 @@ pub fn note_pattern(
     let mut s = start(minute, p);
     let mut turned = false;
     let mut from = source;
-    let mut j = 0;
-    let noted = loop {
+    for j in 0..r - 1 {
         let alighted = words::word(path, 2 * j) as usize;
-        if j + 1 == r {
-            break finish_turned(lines, from, alighted, s, turned, p, q, best);
-        }
         let boarded = words::word(path, 2 * j + 1) as usize;
         s = step_turned(words, lines, from, alighted, boarded, s, turned, p, q);
         if MINUTES <= s.from {
-            break nothing();
+            return nothing();
         }
         turned = !turned;
         from = boarded;
-        j += 1;
-    };
-    noted
+    }
+    let to = words::word(path, 2 * r - 2) as usize;
+    finish_turned(lines, from, to, s, turned, p, q, best)
 }

@@ -1,7 +1,6 @@
 -- At each call of a station the rides on the first trip are noted.
 use mathlib.Core.Path.{◌≡◌, sym, ap, ◌∙◌}
 use mathlib.Core.List.{List, map}
-use mathlib.Core.Bool.{true, false, not}
 use Prim.Native.Nat.{ℕ, ◌+◌, ◌-◌, ◌≤◌, ◌<◌}
 use native.Mathlib.Nat.{sub-zero}
 use native.Mathlib.Omega.{arith}
@@ -20,6 +19,7 @@ use Rattle.query_places.specs.Turns.{first_calls, from, legs_none, legs_more}
 use Rattle.query_minutes.proofs.NoteLaws.{note_all_append}
 use Rattle.query_places.specs.Places.{found_at, nearest_none, nearest_found}
 use Rattle.query_places.specs.declared.Place.{Place}
+use Rattle.std.specs.Prelude.{Option, None, Some}
 
 -- ---- the first trip: none before place j leaves in time
 pub record Sought (v : List ℕ) (l : Line) (x u j : ℕ) : Type 0 where
@@ -31,7 +31,9 @@ sought_first v l x u = record { few = omega arith; so_far = rw sub-zero }
 
 module _ (v : List ℕ) (l : Line) (x u j : ℕ) (k : Sought v l x u j) where
   pub sought_none : l.trips ≤ j → j ≡ first_trip v l x u
-  sought_none = none_left v l x u j k.so_far
+  sought_none h =
+      let all : j ≡ l.trips = omega (arith, k.few) in
+      all ∙ none_left v l x u j k.so_far k.few h
 
   module _ (more : j < l.trips) (r : ℕ) (is : r ≡ depart_at v l x j) where
     pub sought_here : u ≤ r → j ≡ first_trip v l x u
@@ -89,16 +91,16 @@ module _ (v : List ℕ) (a u b : ℕ) (old : List ℕ) where
         some_trip h end' e = rw (e, is-first) (rw (lt-ltb f g.line.trips (omega (arith, is-first))) at next)
 
 -- ---- the ride to the nearest place
-module _ (v : List ℕ) (g : Boarding) (j : ℕ) (best : List ℕ) (s : Place)
-    (is : nearest (reach_by v g) ≡ found_at s) where
-  pub noted_none : not s.found ≡ true
+module _ (v : List ℕ) (g : Boarding) (j : ℕ) (best : List ℕ) (o : Option Place)
+    (is : nearest (reach_by v g) ≡ found_at o) where
+  pub noted_none : o ≡ None
       → best ≡ note_all best (map (ride_on v g.line g.call.place j) (nearest (reach_by v g)))
   unfolding note_all
-  noted_none e = rw (nearest_none v g s is e)
+  noted_none e = rw (nearest_none v g o is e)
 
-  pub noted_nearest : not s.found ≡ false → (m : ℕ) → m ≡ arrive_at v g.line s.place j
+  pub noted_nearest : (s : Place) → o ≡ Some s → (m : ℕ) → m ≡ arrive_at v g.line s.place j
       → (next : List ℕ) → next ≡ lowered best m s.points.0
       → next ≡ note_all best (map (ride_on v g.line g.call.place j) (nearest (reach_by v g)))
   unfolding note_all
-  noted_nearest e m is_m next f =
-      rw (nearest_found v g s is e) (f ∙ ap (λ m. lowered best m s.points.0) is_m)
+  noted_nearest s e m is_m next f =
+      rw (nearest_found v g o is s e) (f ∙ ap (λ m. lowered best m s.points.0) is_m)

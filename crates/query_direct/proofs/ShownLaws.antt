@@ -8,7 +8,7 @@ use lib.ListN.{length, take}
 use lib.Seq.{length-take-le}
 use Rattle.words.specs.Put.{put}
 use Rattle.lists.specs.Lists.{concat_map}
-use Rattle.replies.specs.declared.Reply.TheVariants.{Done, Refused}
+use Rattle.replies.specs.Reply.{Done, Refused}
 use Rattle.replies.specs.Replies.{reply_done, reply_refused, words_done, words_kept}
 use Rattle.lines_check.specs.Asked.{query_number}
 use Rattle.lines_check.specs.Yes.{yes_all}

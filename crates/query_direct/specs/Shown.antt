@@ -9,8 +9,8 @@ use Rattle.std.proofs.Math.ListN.{length}
 use Rattle.questions.specs.Question.{ask, first_no}
 use Rattle.lists.specs.Places.{no_length}
 use Rattle.lists.specs.Tests.{same_tests}
-use Rattle.replies.specs.declared.Reply.{Reply}
-use Rattle.replies.specs.declared.Reply.TheVariants.{Refused}
+use Rattle.replies.specs.Reply.{Reply}
+use Rattle.replies.specs.Reply.{Refused}
 use Rattle.replies.specs.Replies.{reply_of, words_after, reply_refused, words_kept}
 use Rattle.replies.specs.Later.{asked_on, asked_out}
 use Rattle.timetable.specs.Timetable.{Timetable, valid}

@@ -16,15 +16,13 @@ fn note_nearest(v: &[u16], g: Boarding, j: usize, best: &mut [u32])
         (map (ride_on v.now g.line g.call.place j) (nearest (reach_by v.now g))) }
     ensures best_len_unchanged { length best.new ≡ length best.old }
 {
-    let to = query_places::seek_place(v, g);
-    if !to.found {
-        return;
+    if let Some(to) = query_places::seek_place(v, g) {
+        query_minutes::note(
+            best,
+            lines_lookup::arrive_at(v, g.line, to.place, j),
+            to.points,
+        );
     }
-    query_minutes::note(
-        best,
-        lines_lookup::arrive_at(v, g.line, to.place, j),
-        to.points,
-    );
 }
 
 // Notes, at each call of station from, the ride to station to on the first trip that leaves at the minute or later. A
@@ -38,6 +36,8 @@ fn note_first(v: &[u16], from: usize, to: usize, minute: usize, best: &mut [u32]
     let list = lines_lookup::list_of(v, from);
     let end = list.end;
     let mut k = list.from;
+    // Stays: document 01 asks here for "a loop over the line's trips that yields the trip's index by break", under an
+    // outer label.
     'calls: while k + 1 < end {
         let g = lines_lookup::boarding_at(v, k, rest);
         rest = g.rest;

@@ -4,13 +4,14 @@
 mod costs;
 
 ghost use Rattle.std.specs.Prelude.{◌≡◌, length};
+ghost use Rattle.replies.specs.Reply.{reply_seen};
 ghost use Rattle.replies.specs.Replies.{values_of};
 ghost use Rattle.promises.specs.DirectQuery.{direct_reply, direct_values, direct_words};
 ghost use Rattle.query_direct.specs.Shown.{found_reply, found_answer};
 
 use query_kept::{KEPT_WORDS, ROW_WORDS};
 use query_minutes::{MINUTES, NO_POINTS};
-use replies::Reply;
+use questions::Refusal;
 
 // Answers a query from line tables that belong to the timetable. The answer is measured before a word is written.
 fn show(
@@ -20,24 +21,22 @@ fn show(
     to: usize,
     minute: usize,
     answer: &mut [u32],
-) -> Reply
+) -> Result<u32, Refusal>
     requires { length kept.old ≡ 11520 }
-    ensures value { result ≡ found_reply v.now from to minute (length answer.old) }
+    ensures value { reply_seen result ≡ found_reply v.now from to minute (length answer.old) }
     ensures answer_after { answer.new ≡ found_answer v.now from to minute answer.old }
 {
     let mut best = [NO_POINTS; MINUTES];
     let count = costs::find_costs(v, from, to, minute, &mut best);
     if count < 1 {
-        return Reply::Refused { number: 14 };
+        return Err(Refusal::NoConnection);
     }
     if answer.len() < ROW_WORDS * count {
-        return Reply::Refused { number: 15 };
+        return Err(Refusal::Room);
     }
     query_kept::find_rides(v, from, to, minute, &best, kept);
     query_kept::write_rows(&best, kept, minute, answer);
-    Reply::Done {
-        count: count as u32,
-    }
+    Ok(count as u32)
 }
 
 // Answers the query if no question is in the way.
@@ -49,8 +48,8 @@ fn direct_asked(
     to: u32,
     minute: u32,
     answer: &mut [u32],
-) -> Reply
-    ensures value { result
+) -> Result<u32, Refusal>
+    ensures value { reply_seen result
         ≡ direct_reply
         words.now
         lines.now
@@ -69,10 +68,7 @@ fn direct_asked(
         minute
         answer.old }
 {
-    let number = lines_check::query_number(words, lines, work, from, to, minute);
-    if number != 0 {
-        return Reply::Refused { number };
-    }
+    lines_check::query_number(words, lines, work, from, to, minute)?;
     let kept = &mut work[0..KEPT_WORDS];
     show(
         lines,
@@ -93,8 +89,8 @@ pub fn direct(
     to: u32,
     minute: u32,
     answer: &mut [u32],
-) -> Reply
-    ensures reply { result
+) -> Result<u32, Refusal>
+    ensures reply { reply_seen result
         ≡ direct_reply
         words.now
         lines.now
@@ -103,7 +99,7 @@ pub fn direct(
         to
         minute
         (length answer.old) }
-    ensures values { values_of result
+    ensures values { values_of (reply_seen result)
         ≡ direct_values
         words.now
         lines.now

@@ -1,7 +1,7 @@
 -- One ride after the other is kept, or passed over: from trip to trip, from place to place of a line, and from call to
 -- call.
 use mathlib.Core.Path.{◌≡◌, refl, sym, ap, ◌∙◌}
-use mathlib.Core.Bool.{Bool, true, false, not}
+use mathlib.Core.Bool.{Bool, true, false}
 use mathlib.Core.List.{List, [], ◌∷◌, ◌++◌, map, append-nil}
 use Prim.Native.Nat.{ℕ, ◌+◌, ◌*◌, ◌≤◌, ◌<◌}
 use native.Mathlib.Omega.{arith}
@@ -9,7 +9,7 @@ use native.Mathlib.Decide.{ℕ_discrete}
 use borrow.Author.Tests.{lt-ltb, le-ltb}
 use lib.Dec.{eqb}
 use lib.ListN.{length, get_or}
-use Rattle.words.specs.Put.{put, put_append}
+use Rattle.words.specs.Put.{put}
 use Rattle.lists.specs.Lists.{concat_map}
 use Rattle.lists.specs.Ranges.{range_more, range_none}
 use Rattle.connections.specs.Rides.{Ride}
@@ -19,20 +19,11 @@ use Rattle.lines_lookup.specs.First.{first_trip}
 use Rattle.query_places.specs.Candidates.{Reach, reach_by, nearest, legs, ride_on, near_leg, near_read}
 use Rattle.query_places.specs.Places.{found_at, nearest_none, nearest_found}
 use Rattle.query_places.specs.declared.Place.{Place}
+use Rattle.std.specs.Prelude.{Option, None, Some}
 use Rattle.query_kept.specs.Choosing.{Found, no_found, goes_before}
 use Rattle.query_kept.specs.Keeping.{kept_at, ride_words, kept_with, kept_on, keep_all, Unkept, put_here}
 use Rattle.query_kept.specs.Keeping.{put_elsewhere}
 use Rattle.query_places.specs.Turns.{trips_from, near_calls, from, legs_none, legs_more}
-
--- ---- four words, two at a time
-pub ride_put : (m : ℕ) (f : Found) (old one two : List ℕ) → m < 2880 → length old ≡ 11520
-    → one ≡ put (4 * m) (f.depart ∷ f.trip ∷ []) old
-    → two ≡ put (4 * m + 2) (f.board ∷ f.alight ∷ []) one
-    → two ≡ put (4 * m) (ride_words f) old
-ride_put m f old one two h long e₁ e₂ =
-    e₂
-    ∙ ap (put (4 * m + 2) (f.board ∷ f.alight ∷ [])) e₁
-    ∙ put_append (4 * m) 2 (f.depart ∷ f.trip ∷ []) (f.board ∷ f.alight ∷ []) old refl (omega (arith, long))
 
 -- ---- none kept yet
 pub unkept_first : (kept : List ℕ) → Unkept kept 0
@@ -130,23 +121,23 @@ module _ (v : List ℕ) (l : Line) (x p j points : ℕ) (best kept old : List �
       sym (so_far ∙ ap (λ js. keep_all best kept (map (λ i. ride_on v l x i to_place) js)) (range_none j l.trips h))
 
 -- ---- to the nearest place
-module _ (v : List ℕ) (g : Boarding) (first : ℕ) (best kept : List ℕ) (s : Place)
-    (is : nearest (reach_by v g) ≡ found_at s) where
-  pub kept_none : not s.found ≡ true
+module _ (v : List ℕ) (g : Boarding) (first : ℕ) (best kept : List ℕ) (o : Option Place)
+    (is : nearest (reach_by v g) ≡ found_at o) where
+  pub kept_none : o ≡ None
       → kept
       ≡ keep_all best kept
       (concat_map (trips_from v g.line g.call.place first) (nearest (reach_by v g)))
   unfolding keep_all
-  kept_none e = rw (nearest_none v g s is e)
+  kept_none e = rw (nearest_none v g o is e)
 
-  pub kept_nearest : not s.found ≡ false → (next : List ℕ)
+  pub kept_nearest : (s : Place) → o ≡ Some s → (next : List ℕ)
       → next
       ≡ keep_all best kept
       (trips_from v g.line g.call.place first (record { place = s.place; points = s.points.0 }))
       → next
       ≡ keep_all best kept
       (concat_map (trips_from v g.line g.call.place first) (nearest (reach_by v g)))
-  kept_nearest e next f = rw (nearest_found v g s is e, append-nil) f
+  kept_nearest s e next f = rw (nearest_found v g o is s e, append-nil) f
 
 -- ---- from call to call
 module _ (v : List ℕ) (a u b : ℕ) (best old : List ℕ) where

@@ -18,22 +18,17 @@ use Rattle.query_kept.specs.Choosing.{Found, row_for}
 use Rattle.query_kept.specs.Keeping.{kept_at, rows_kept, lead_words}
 use Rattle.query_minutes.proofs.LeadLaws.{leads_here, leads_not}
 
--- ---- one row, two words at a time
-pub row_written : (at : ℕ) (cost : CostStruct) (f : Found) (old one two three : List ℕ)
+-- ---- one row, its cost and then its ride
+pub row_written : (at : ℕ) (cost : CostStruct) (f : Found) (old one two : List ℕ)
     → at + 6 ≤ length old
     → one ≡ put at (cost.minutes.0 ∷ cost.points.0 ∷ []) old
-    → two ≡ put (at + 2) (1 ∷ f.trip ∷ []) one
-    → three ≡ put (at + 4) (f.board ∷ f.alight ∷ []) two
-    → three ≡ put at (cost.minutes.0 ∷ cost.points.0 ∷ 1 ∷ f.trip ∷ f.board ∷ f.alight ∷ []) old
-row_written at cost f old one two three room e₁ e₂ e₃ =
-    let half : two ≡ put at (cost.minutes.0 ∷ cost.points.0 ∷ 1 ∷ f.trip ∷ []) old =
+    → two ≡ put (at + 2) (1 ∷ f.trip ∷ f.board ∷ f.alight ∷ []) one
+    → two ≡ put at (cost.minutes.0 ∷ cost.points.0 ∷ 1 ∷ f.trip ∷ f.board ∷ f.alight ∷ []) old
+row_written at cost f old one two room e₁ e₂ =
+    let ride = 1 ∷ f.trip ∷ f.board ∷ f.alight ∷ [] in
     e₂
-    ∙ ap (put (at + 2) (1 ∷ f.trip ∷ [])) e₁
-    ∙ put_append at 2 (cost.minutes.0 ∷ cost.points.0 ∷ []) (1 ∷ f.trip ∷ []) old refl (omega arith) in
-    e₃
-    ∙ ap (put (at + 4) (f.board ∷ f.alight ∷ [])) half
-    ∙ put_append at 4 (cost.minutes.0 ∷ cost.points.0 ∷ 1 ∷ f.trip ∷ []) (f.board ∷ f.alight ∷ []) old refl
-    (omega arith)
+    ∙ ap (put (at + 2) ride) e₁
+    ∙ put_append at 2 (cost.minutes.0 ∷ cost.points.0 ∷ []) ride old refl (omega arith)
 
 -- ---- one minute
 module _ (u at least arrive points : ℕ) (kept old : List ℕ) (r : Bool) (is-r : r ≡ ltb points least) where

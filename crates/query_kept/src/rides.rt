@@ -13,6 +13,7 @@ use query_minutes::MINUTES;
 use results::Points;
 
 // The trip of no ride: every trip has a lower number.
+// Stays: what is kept for a minute stands in four words of the working space that C lends, which hold no Option.
 const NO_TRIP: u32 = 65536;
 
 // The words of a ride that is kept for a minute, and of those of all minutes.
@@ -61,8 +62,7 @@ fn put_ride(kept: &mut [u32], minute: usize, ride: Found)
     ensures kept_len_unchanged { length kept.new ≡ length kept.old }
 {
     let at = RIDE_WORDS * minute;
-    words::put_pair(kept, at, ride.depart, ride.trip);
-    words::put_pair(kept, at + 2, ride.board, ride.alight);
+    words::copy(kept, at, &[ride.depart, ride.trip, ride.board, ride.alight]);
 }
 
 // The ride that is kept for a minute.
@@ -85,8 +85,7 @@ fn fill_none(kept: &mut [u32])
     ensures unkept { Unkept kept.new 2880 }
     ensures kept_len_unchanged { length kept.new ≡ length kept.old }
 {
-    let mut a = 0;
-    while a < MINUTES {
+    for a in 0..MINUTES {
         put_ride(
             kept,
             a,
@@ -97,7 +96,6 @@ fn fill_none(kept: &mut [u32])
                 alight: 0,
             },
         );
-        a += 1;
     }
 }
 
@@ -178,10 +176,8 @@ fn keep_trips(
         (trips_from v.now l x first (record { place = p; points = points.0 })) }
     ensures kept_len_unchanged { length kept.new ≡ length kept.old }
 {
-    let mut j = first;
-    while j < l.trips {
+    for j in first..l.trips {
         keep_trip(v, l, x, p, j, points, best, kept);
-        j += 1;
     }
 }
 
@@ -198,20 +194,18 @@ fn keep_nearest(v: &[u16], g: Boarding, first: usize, best: &[u32], kept: &mut [
         (nearest (reach_by v.now g))) }
     ensures kept_len_unchanged { length kept.new ≡ length kept.old }
 {
-    let to = query_places::seek_place(v, g);
-    if !to.found {
-        return;
+    if let Some(to) = query_places::seek_place(v, g) {
+        keep_trips(
+            v,
+            g.line,
+            g.call.place,
+            to.place,
+            first,
+            to.points,
+            best,
+            kept,
+        );
     }
-    keep_trips(
-        v,
-        g.line,
-        g.call.place,
-        to.place,
-        first,
-        to.points,
-        best,
-        kept,
-    );
 }
 
 // Goes once through the rides from the calls of one station to the nearest of another that leave at the minute or
@@ -226,6 +220,7 @@ fn keep_all(v: &[u16], from: usize, to: usize, minute: usize, best: &[u32], kept
     let list = lines_lookup::list_of(v, from);
     let end = list.end;
     let mut k = list.from;
+    // Stays: a call takes two words, and an odd word at the end is none, which a range with a step would read.
     while k + 1 < end {
         let g = lines_lookup::boarding_at(v, k, rest);
         rest = g.rest;

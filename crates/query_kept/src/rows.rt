@@ -23,8 +23,7 @@ fn write_row(answer: &mut [u32], at: usize, cost: Cost, ride: Found)
     ensures answer_len_unchanged { length answer.new ≡ length answer.old }
 {
     query_minutes::write_cost(answer, at, cost);
-    words::put_pair(answer, at + 2, 1, ride.trip);
-    words::put_pair(answer, at + 4, ride.board, ride.alight);
+    words::copy(answer, at + 2, &[1, ride.trip, ride.board, ride.alight]);
 }
 
 // The row of who arrives at a minute for some points, if these are below the least of all earlier minutes. Returns the
@@ -77,11 +76,9 @@ pub fn write_rows(best: &[u32], kept: &[u32], minute: usize, answer: &mut [u32])
 {
     let mut here = 0;
     let mut least = Points(NO_POINTS);
-    let mut arrive = 0;
-    while arrive < MINUTES {
+    for arrive in 0..MINUTES {
         let points = query_minutes::points_at(best, arrive);
         here = write_lead(kept, minute, arrive, points, least, answer, here);
         least = query_minutes::lesser(least, points);
-        arrive += 1;
     }
 }

@@ -4,13 +4,12 @@ use mathlib.Core.List.{List}
 use Prim.Native.Nat.{ℕ, ◌+◌, ◌-◌, ◌*◌, ◌≤◌, ◌<◌}
 use native.Mathlib.Omega.{arith}
 use native.Mathlib.Decide.{ℕ_discrete}
-use lib.ListN.{length, get_or, set}
+use lib.ListN.{length, get_or}
 use Rattle.query_minutes.specs.Minutes.{no_points}
-use Rattle.query_minutes.specs.Noted.{get_d_any}
 use Rattle.query_layers.specs.declared.Kept.{Kept}
 use Rattle.query_rests.specs.Given.{Given}
 use Rattle.query_rests.specs.Rests.{RestsAt}
-use Rattle.query_rests.specs.Spans.{Spans, Arrived, Stored, stored_more, stored_all, stored_spans, stored_is}
+use Rattle.query_rests.specs.Spans.{Spans, Arrived, Stored, stored_spans, stored_is}
 use Rattle.query_layers.specs.Layers.{width_of, place_of, KeptRide, KeptRest, Layers, Keeps}
 use Rattle.query_layers.specs.Layers.{place_next, place_rise}
 use Rattle.query_rests.proofs.PatternLaws.{Back, rest_begins, rest_done}
@@ -28,35 +27,6 @@ room_one t v low room h g k =
     let one : low + 1 - low ≡ 1 = omega arith in
     let e : width_of t v * (low + 1 - low) ≡ width_of t v * 1 = ap (λ k. width_of t v * k) one in
     omega (arith, e)
-
--- ---- kept and looked up, word by word
-module _ (z first : List ℕ) (t v at : ℕ) (timely : v ≤ 2879) (long : length z ≡ 2880) where
-  abbrev told : ℕ → ℕ
-  told i = get_or z (i - at + t) no_points
-
-  pub keep_more : (work : List ℕ) (i e : ℕ) → Stored told at i first work → at ≤ i → i < e → e ≡ at + width_of t v
-      → at + width_of t v ≤ length first → length work ≡ length first
-      → Stored told at (i + 1) first (set work i (get_or z (i - at + t) 0))
-  keep_more work i e so_far h g is room same =
-      let inside : i - at + t < length z = omega (arith, long) in
-      stored_more told at first i work so_far (get_or z (i - at + t) 0) h (omega arith)
-      (get_d_any z (i - at + t) 0 no_points inside)
-
-module _ (work first : List ℕ) (t v at : ℕ) (timely : v ≤ 2879) (room : at + width_of t v ≤ length work) where
-  abbrev found : ℕ → ℕ
-  found m = get_or work (at + (m - t)) no_points
-
-  pub look_more : (z : List ℕ) (m : ℕ) → Stored found t m first z → t ≤ m → m ≤ v → length first ≡ 2880
-      → length z ≡ length first
-      → Stored found t (m + 1) first (set z m (get_or work (at + (m - t)) 0))
-  look_more z m so_far h g long same =
-      let inside : at + (m - t) < length work = omega arith in
-      stored_more found t first m z so_far (get_or work (at + (m - t)) 0) h (omega arith)
-      (get_d_any work (at + (m - t)) 0 no_points inside)
-
-pub stored_until : (f : ℕ → ℕ) (t v : ℕ) (first z : List ℕ) (m : ℕ) → Stored f t m first z → m ≤ v + 1 → v < m
-    → Stored f t (v + 1) first z
-stored_until f t v first z m so_far h g = stored_all f t first m z so_far (v + 1) (omega arith) (omega arith)
 
 -- ---- one ride kept
 
@@ -126,29 +96,33 @@ module _ (w path : List ℕ) (r v t low high : ℕ) where
               }
 
   -- from the last ride back: none yet, one more, all
-  pub layers_begin : (work : List ℕ) → low < high → high ≤ r → Layers w path r v t low (r - 1 + 1) high work
-  layers_begin work some few = layers_none (r - 1 + 1) work (omega arith)
+  pub layers_begin : (work : List ℕ) → high ≤ r → Layers w path r v t low r high work
+  layers_begin work few = layers_none r work few
 
   module _
-      (j : ℕ)
+      (m : ℕ)
+      (begun : low < m)
       (z old new : List ℕ)
-      (back : Back w path r v t low j z)
-      (so_far : Layers w path r v t low (j + 1) high old)
-      (kept : KeptRide t v low high j z old new)
+      (back : Back w path r v t low (m - 1) z)
+      (so_far : Layers w path r v t low m high old)
       (spans : Spans t v z)
     where
-      here : Layers w path r v t low j high new
-      here = layers_more j z old new back.past so_far kept back.rests spans
+      here : KeptRide t v low high (m - 1) z old new → Layers w path r v t low (m - 1) high new
+      here kept =
+          let same : m ≡ m - 1 + 1 = omega arith in
+          let was = subst (λ k. Layers w path r v t low k high old) same so_far in
+          layers_more (m - 1) z old new back.past was kept back.rests spans
 
-      pub layers_again : low < j → Layers w path r v t low (j - 1 + 1) high new
-      layers_again h =
-          let same : j ≡ j - 1 + 1 = omega arith in
-          subst (λ k. Layers w path r v t low k high new) same here
+      pub layers_again : KeptRide t v low high (m - 1) z old new → Layers w path r v t low (m - 1) high new
+      layers_again kept = here kept
 
-      pub layers_done : j ≤ low → Layers w path r v t low low high new
-      layers_done h =
-          let same : j ≡ low = omega (arith, back.past) in
-          subst (λ k. Layers w path r v t low k high new) same here
+      pub layers_done : m ≤ low + 1 → KeptRide t v low high low z old new → Layers w path r v t low low high new
+      layers_done h kept =
+          let same : m - 1 ≡ low = omega arith in
+          subst
+          (λ k. Layers w path r v t low k high new)
+          same
+          (here (subst (λ k. KeptRide t v low high k z old new) (sym same) kept))
 
 -- the first is one of the path
 pub kept_begins : (w lines path : List ℕ) (r v : ℕ) → Given w lines path r v → (minute low high : ℕ) (z : List ℕ)

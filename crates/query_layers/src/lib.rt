@@ -42,14 +42,12 @@ fn reach(room: usize, minute: usize, v: usize, low: usize, r: usize) -> usize
     requires { (minute ≤ v) × (v ≤ 2879) × (low < r) × (r ≤ 64) × (2880 ≤ room) }
     ensures { (low < result) × (result ≤ r) × (place_of minute v low result ≤ room) }
 {
-    let mut high = low + 1;
-    while high < r {
+    for high in low + 1..r {
         if room < place(minute, v, low, high + 1) {
             return high;
         }
-        high += 1;
     }
-    high
+    r
 }
 
 // Keeps what is left from word `at` on.
@@ -64,11 +62,7 @@ fn keep(work: &mut [u32], at: usize, z: &[u32], minute: usize, v: usize)
     ensures work_len_unchanged { length work.new ≡ length work.old }
 {
     let end = at + (v + 1 - minute);
-    let mut i = at;
-    while i < end {
-        work[i] = z[i - at + minute];
-        i += 1;
-    }
+    work[at..end].copy_from_slice(&z[minute..v + 1]);
 }
 
 // What is left, as it is kept from word `at` on.
@@ -82,11 +76,8 @@ fn look_up(work: &[u32], at: usize, z: &mut [u32], minute: usize, v: usize)
         z.old z.new }
     ensures z_len_unchanged { length z.new ≡ length z.old }
 {
-    let mut m = minute;
-    while m <= v {
-        z[m] = work[at + (m - minute)];
-        m += 1;
-    }
+    let end = at + (v + 1 - minute);
+    z[minute..v + 1].copy_from_slice(&work[at..end]);
 }
 
 // Keeps what is left after ride j, if that is one of the rides to keep it for.
@@ -137,13 +128,11 @@ fn keep_rests(
     ensures work_len_unchanged { length work.new ≡ length work.old }
 {
     query_rests::fill_last(z, sought.minute, sought.arrive);
-    let mut j = r - 1;
-    while kept.low < j {
+    for j in (kept.low + 1..r).rev() {
         keep_ride(work, kept, j, z, sought.minute, sought.arrive);
         query_rests::step(words, lines, sought.minute, path, j, sought.arrive, z, old);
-        j -= 1;
     }
-    keep_ride(work, kept, j, z, sought.minute, sought.arrive);
+    keep_ride(work, kept, kept.low, z, sought.minute, sought.arrive);
 }
 
 // What is left after ride i along a path of r rides, counted from 0, for one who is to arrive in time:

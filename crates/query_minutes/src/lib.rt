@@ -17,47 +17,44 @@ use results::{Cost, Minutes, Points};
 pub const MINUTES: usize = 2880;
 
 // The word of a minute in which no one arrives; every connection has less points.
+// Stays: the arrays that callers lend hold it as a word, and specs/Minutes.antt (`no_points`, `blank`) says its number.
 pub const NO_POINTS: u32 = u32::MAX;
 
 // Whether a is below b.
+// Stays: laws speak of numbers, and this clause and the next four say of them, once for all who compare, what the
+// derived comparisons say of points.
 pub fn less(a: Points, b: Points) -> bool
     ensures { result ≡ ltb a.0 b.0 }
 {
-    a.0 < b.0
+    a < b
 }
 
 // Whether a is b or more.
 pub fn at_least(a: Points, b: Points) -> bool
     ensures { result ≡ leb b.0 a.0 }
 {
-    b.0 <= a.0
+    b <= a
 }
 
 // Whether the two are the same.
 pub fn same(a: Points, b: Points) -> bool
     ensures { result ≡ eqb a.0 b.0 }
 {
-    a.0 == b.0
+    a == b
 }
 
 // The lesser of two.
 pub fn lesser(a: Points, b: Points) -> Points
     ensures { result.0 ≡ min a.0 b.0 }
 {
-    if b.0 < a.0 {
-        return b;
-    }
-    a
+    a.min(b)
 }
 
 // The larger of two.
 pub fn larger(a: Points, b: Points) -> Points
     ensures { result.0 ≡ max a.0 b.0 }
 {
-    if b.0 <= a.0 {
-        return a;
-    }
-    b
+    a.max(b)
 }
 
 // The sum of two that fits.
@@ -72,20 +69,14 @@ pub fn sum(a: Points, b: Points) -> Points
 pub fn sum_held(a: Points, b: Points) -> Points
     ensures { result.0 ≡ min (a.0 + b.0) no_points }
 {
-    if NO_POINTS - a.0 < b.0 {
-        return Points(NO_POINTS);
-    }
-    Points(a.0 + b.0)
+    Points(a.0.saturating_add(b.0))
 }
 
 // What is left of a once b is paid; none if b is more.
 pub fn left_of(a: Points, b: Points) -> Points
     ensures { result.0 ≡ a.0 - b.0 }
 {
-    if a.0 <= b.0 {
-        return Points(0);
-    }
-    Points(a.0 - b.0)
+    Points(a.0.saturating_sub(b.0))
 }
 
 // The minutes from one minute of the day to a later one; none if it is not later.
@@ -93,17 +84,14 @@ pub fn minutes_between(minute: usize, arrive: usize) -> Minutes
     requires { arrive < 2880 }
     ensures { result.0 ≡ arrive - minute }
 {
-    if arrive <= minute {
-        return Minutes(0);
-    }
-    Minutes((arrive - minute) as u32)
+    Minutes(arrive.saturating_sub(minute) as u32)
 }
 
 // Whether a is shorter than b.
 pub fn shorter(a: Minutes, b: Minutes) -> bool
     ensures { result ≡ ltb a.0 b.0 }
 {
-    a.0 < b.0
+    a < b
 }
 
 // The minute of the day so many minutes after another.
@@ -163,7 +151,7 @@ pub fn write_cost(answer: &mut [u32], at: usize, cost: Cost)
     ensures answer_after { answer.new ≡ put at (cost.minutes.0 ∷ cost.points.0 ∷ []) answer.old }
     ensures answer_len_unchanged { length answer.new ≡ length answer.old }
 {
-    words::put_pair(answer, at, cost.minutes.0, cost.points.0);
+    words::copy(answer, at, &[cost.minutes.0, cost.points.0]);
 }
 
 // The least penalty of all minutes.
@@ -172,10 +160,8 @@ fn least_of(best: &[u32]) -> Points
     ensures { Floor result.0 2880 best.now }
 {
     let mut low = Points(NO_POINTS);
-    let mut m = 0;
-    while m < MINUTES {
+    for m in 0..MINUTES {
         low = lesser(low, points_at(best, m));
-        m += 1;
     }
     low
 }
@@ -199,18 +185,19 @@ pub fn find_rows(best: &[u32]) -> Rows
     let low = least_of(best);
     let mut count = 0;
     let mut least = Points(NO_POINTS);
-    let mut m = 0;
-    while m < MINUTES {
+    for m in 0..MINUTES {
         let points = points_at(best, m);
-        m += 1;
         if !less(points, least) {
             continue;
         }
         least = points;
         count += 1;
         if at_least(low, points) {
-            return Rows { count, end: m };
+            return Rows { count, end: m + 1 };
         }
     }
-    Rows { count, end: m }
+    Rows {
+        count,
+        end: MINUTES,
+    }
 }

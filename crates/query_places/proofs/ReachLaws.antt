@@ -12,7 +12,7 @@ use Rattle.lines_lookup.proofs.LookupLaws.{pairs_more, pairs_none}
 use Rattle.query_places.specs.Candidates.{opens, reach_to, reach_of, reach_by, nearest}
 use Rattle.query_places.specs.Turns.{from}
 use Rattle.query_places.specs.Places.{rest, found_at}
-use Rattle.query_places.specs.declared.Place.{Place}
+use Rattle.std.specs.Prelude.{None, Some}
 
 -- ---- the penalty, by two totals
 module _ (v : List ℕ) (l : Line) (x y here there : ℕ) (is_here : here ≡ total_at v l x) (is : there ≡ total_at v l y)
@@ -57,19 +57,18 @@ module _ (v : List ℕ) (l : Line) (x y : ℕ) (b : Bool) (is_b : b ≡ boards_a
 
 -- ---- a loop over the calls that are left to alight at, which stands at index k
 module _ (v : List ℕ) (g : Boarding) (k : ℕ) (so_far : rest v g g.rest.from ≡ rest v g k) where
-  none_found : rest v g k ≡ [] → (s : Place) → s.found ≡ false → nearest (reach_by v g) ≡ found_at s
+  none_found : rest v g k ≡ [] → nearest (reach_by v g) ≡ found_at None
   unfolding rest nearest found_at
-  none_found e s f = ap nearest (so_far ∙ e) ∙ rw f
+  none_found e = ap nearest (so_far ∙ e)
 
-  pub place_none : g.rest.end ≤ k + 1 → (s : Place) → s.found ≡ false → nearest (reach_by v g) ≡ found_at s
+  pub place_none : g.rest.end ≤ k + 1 → nearest (reach_by v g) ≡ found_at None
   unfolding rest
-  place_none h s f = none_found (reach_none v g.line g.call k g.rest.end h) s f
+  place_none h = none_found (reach_none v g.line g.call k g.rest.end h)
 
   module _ (more : k + 1 < g.rest.end) (inside : g.rest.end ≤ length v) (d : Call) (is-d : d ≡ call_at v k) where
-    pub place_other : (d.line ≡ g.call.line → ⊥) → (s : Place) → s.found ≡ false
-        → nearest (reach_by v g) ≡ found_at s
+    pub place_other : (d.line ≡ g.call.line → ⊥) → nearest (reach_by v g) ≡ found_at None
     unfolding rest
-    place_other h s f = none_found (reach_other v g.line g.call k g.rest.end more inside d is-d h) s f
+    place_other h = none_found (reach_other v g.line g.call k g.rest.end more inside d is-d h)
 
     module _
         (same : d.line ≡ g.call.line)
@@ -83,7 +82,7 @@ module _ (v : List ℕ) (g : Boarding) (k : ℕ) (so_far : rest v g g.rest.from 
 
         pub place_found : r ≡ true → (points : Points)
             → points.0 ≡ points_between v g.line g.call.place d.place
-            → nearest (reach_by v g) ≡ found_at (record { found = true; place = d.place; points = points })
+            → nearest (reach_by v g) ≡ found_at (Some (record { place = d.place; points = points }))
         unfolding rest nearest found_at
         place_found e points is-points =
             ap nearest

@@ -1,8 +1,7 @@
 -- The places of a line that are left to ride to, one after the other, as the code goes through them, and the nearest,
 -- which it finds first.
-use Rattle.std.specs.Prelude.{cond, true, false, not, List, [], ◌∷◌, ◌≡◌, ℕ}
-use Rattle.std.proofs.Common.{◌∙◌}
-use Rattle.std.proofs.lemmas.Bool.{not-true, not-false}
+use Rattle.std.specs.Prelude.{List, [], ◌∷◌, ◌≡◌, ℕ, Option, None, Some}
+use Rattle.std.proofs.Common.{ap, ◌∙◌}
 use Rattle.lines_lookup.specs.Calls.{Boarding, calls_in}
 use Rattle.query_places.specs.Candidates.{Reach, reach_of, reach_by, nearest}
 use Rattle.query_places.specs.declared.Place.{Place}
@@ -16,14 +15,15 @@ abbrev pub reach_at : Place → Reach
 reach_at s = record { place = s.place; points = s.points.0 }
 
 -- the place that is found, if one is
-unfoldable pub found_at : Place → List Reach
-found_at s = cond s.found (reach_at s ∷ []) []
+unfoldable pub found_at : Option Place → List Reach
+found_at None = []
+found_at (Some s) = reach_at s ∷ []
 
-module _ (v : List ℕ) (g : Boarding) (s : Place) (is : nearest (reach_by v g) ≡ found_at s) where
-  pub nearest_none : not s.found ≡ true → nearest (reach_by v g) ≡ []
+module _ (v : List ℕ) (g : Boarding) (o : Option Place) (is : nearest (reach_by v g) ≡ found_at o) where
+  pub nearest_none : o ≡ None → nearest (reach_by v g) ≡ []
   unfolding found_at
-  nearest_none e = is ∙ rw (not-true s.found e)
+  nearest_none e = is ∙ ap found_at e
 
-  pub nearest_found : not s.found ≡ false → nearest (reach_by v g) ≡ reach_at s ∷ []
+  pub nearest_found : (s : Place) → o ≡ Some s → nearest (reach_by v g) ≡ reach_at s ∷ []
   unfolding found_at
-  nearest_found e = is ∙ rw (not-false s.found e)
+  nearest_found s e = is ∙ ap found_at e

@@ -2,7 +2,7 @@
 //! alight.
 #![tactic(auto)]
 
-ghost use Rattle.std.specs.Prelude.{◌≡◌, false, ◌<◌};
+ghost use Rattle.std.specs.Prelude.{◌≡◌, ◌<◌, IfSome};
 ghost use Rattle.lines_lookup.specs.Lookup.{points_between};
 ghost use Rattle.lines_lookup.specs.Calls.{Within};
 ghost use Rattle.query_places.specs.Candidates.{opens, nearest, reach_by};
@@ -11,10 +11,9 @@ ghost use Rattle.query_places.specs.Places.{found_at};
 use lines_lookup::Boarding;
 use results::Points;
 
-// A place to alight at and the penalty of the ride to it, if one was found.
+// A place to alight at and the penalty of the ride to it.
 #[derive(Clone, Copy)]
 pub struct Place {
-    pub found: bool,
     pub place: usize,
     pub points: Points,
 }
@@ -29,17 +28,6 @@ fn ride_points(v: &[u16], g: Boarding, y: usize) -> Points
     query_minutes::left_of(there, here)
 }
 
-// No place.
-pub fn nowhere() -> Place
-    ensures { (result.found ≡ false) × (result.place < 65536) }
-{
-    Place {
-        found: false,
-        place: 0,
-        points: Points(0),
-    }
-}
-
 // Whether one may ride from where the line is boarded to its place y: both are open.
 fn may_ride(v: &[u16], g: Boarding, y: usize) -> bool
     requires { Within v.now g × (y < 65536) }
@@ -51,26 +39,26 @@ fn may_ride(v: &[u16], g: Boarding, y: usize) -> bool
     false
 }
 
-// The nearest place of the line that is boarded to which one may ride.
-pub fn seek_place(v: &[u16], g: Boarding) -> Place
+// The nearest place of the line that is boarded to which one may ride, if there is one.
+pub fn seek_place(v: &[u16], g: Boarding) -> Option<Place>
     requires { Within v.now g }
-    ensures { (nearest (reach_by v.now g) ≡ found_at result) × (result.place < 65536) }
+    ensures { (nearest (reach_by v.now g) ≡ found_at result) × IfSome result (λ s. s.place < 65536) }
 {
     let end = g.rest.end;
     let mut k = g.rest.from;
+    // Stays: a call takes two words, and an odd word at the end is none, which a range with a step would read.
     while k + 1 < end {
         let d = lines_lookup::call_at(v, k);
         if d.line != g.call.line {
-            return nowhere();
+            return None;
         }
         if may_ride(v, g, d.place) {
-            return Place {
-                found: true,
+            return Some(Place {
                 place: d.place,
                 points: ride_points(v, g, d.place),
-            };
+            });
         }
         k += 2;
     }
-    nowhere()
+    None
 }

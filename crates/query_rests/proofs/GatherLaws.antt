@@ -12,7 +12,8 @@ use Rattle.query_minutes.specs.Minutes.{no_points, note_all, blank}
 use Rattle.query_rides.specs.declared.Ride.{Ride as RideStruct}
 use Rattle.query_rides.specs.declared.Cursor.{Cursor}
 use Rattle.query_rides.specs.declared.Way.{Way}
-use Rattle.query_rides.specs.Riding.{Tells, near_left, ride_of, near_none}
+use Rattle.query_rides.specs.Riding.{Tells, near_left, ride_of, near_none, near_goes}
+use Rattle.std.specs.Prelude.{Option, None, Some}
 use Rattle.query_rides.specs.Ways.{cost_in, way_between}
 use Rattle.query_rests.specs.Settling.{settled_from}
 use Rattle.query_rests.specs.Stepping.{catches, rides_to, caught_way}
@@ -21,32 +22,34 @@ use Rattle.query_rests.specs.Turns.{catches_more}
 
 module _ (lines : List ℕ) (from to minute cm cp : ℕ) (old first : List ℕ) where
   -- what is noted once the rides left are noted too
-  abbrev with : List ℕ → Cursor → List ℕ
-  with z c = note_all z (catches cm cp old (near_left lines minute c))
+  abbrev with : List ℕ → Option Cursor → List ℕ
+  with z o = note_all z (catches cm cp old (near_left lines minute o))
 
   abbrev whole : List ℕ
   whole = note_all first (catches cm cp old (near_read lines from minute to))
 
-  pub gather_begins : (c : Cursor) → near_left lines minute c ≡ near_read lines from minute to → whole ≡ with first c
-  gather_begins c e = ap (λ l. note_all first (catches cm cp old l)) (sym e)
+  pub gather_begins : (o : Option Cursor) → near_left lines minute o ≡ near_read lines from minute to
+      → whole ≡ with first o
+  gather_begins o e = ap (λ l. note_all first (catches cm cp old l)) (sym e)
 
-  module _ (z : List ℕ) (c : Cursor) (so_far : whole ≡ with z c) where
-    pub gather_more : (d : Cursor) (s : RideStruct) (new : List ℕ) → Tells s (ride_of lines c)
-        → new ≡ caught_one cm cp old z s → near_left lines minute c ≡ ride_of lines c ∷ near_left lines minute d
+  module _ (z : List ℕ) (o : Option Cursor) (so_far : whole ≡ with z o) where
+    pub gather_more : (c : Cursor) → o ≡ Some c → (d : Option Cursor) (s : RideStruct) (new : List ℕ)
+        → Tells s (ride_of lines c)
+        → new ≡ caught_one cm cp old z s → near_left lines minute (Some c) ≡ ride_of lines c ∷ near_left lines minute d
         → whole ≡ with new d
-    gather_more d s new t n e =
+    gather_more c at d s new t n e =
         let rest = catches cm cp old (near_left lines minute d) in
         so_far
-        ∙ ap (λ l. note_all z (catches cm cp old l)) e
+        ∙ ap (λ l. note_all z (catches cm cp old l)) (near_goes lines o c at minute d e)
         ∙ catches_more cm cp old z (ride_of lines c) (near_left lines minute d)
         ∙ ap (λ s. note_all (caught_one cm cp old z s) rest) (sym (tells_is s (ride_of lines c) t))
         ∙ ap (λ z. note_all z rest) (sym n)
 
-    pub gather_done : c.more ≡ false → z ≡ whole
+    pub gather_done : o ≡ None → z ≡ whole
     gather_done e =
         sym
         (so_far
-        ∙ ap (λ l. note_all z (catches cm cp old l)) (near_none lines minute c e)
+        ∙ ap (λ l. note_all z (catches cm cp old l)) (near_none lines minute o e)
         ∙ catches_none cm cp old z)
 
 -- ---- by the way of changing, if there is one

@@ -13,30 +13,15 @@ use Rattle.query_minutes.specs.Noted.{get_d_any, get_d_blank}
 use Rattle.query_rides.specs.declared.Ride.{Ride as RideStruct}
 use Rattle.query_rests.specs.Settling.{least, settled, settled_from, least_none, settled_none}
 use Rattle.query_rests.specs.Spans.{Spans, Arrived, Stored, spans_blank}
-use Rattle.query_rests.specs.Spans.{stored_more, stored_all, stored_spans, stored_is}
+use Rattle.query_rests.specs.Spans.{stored_spans, stored_is}
 use Rattle.query_rests.specs.Stepping.{settled_spans}
 use Rattle.query_rests.specs.Turns.{caught_by}
 
 -- ---- filled and copied
-module _ (f : ℕ → ℕ) (old z next : List ℕ) (x i : ℕ) (is : next ≡ set z i x) where
-  pub filled_more : (a n : ℕ) → x ≡ f i → Stored f a i old z → a ≤ i → i < n → n ≤ length old
-      → length z ≡ length old → Stored f a (i + 1) old next
-  filled_more a n same so_far h g l e =
-      subst (Stored f a (i + 1) old) (sym is) (stored_more f a old i z so_far x h (omega arith) same)
-
-module _ (z first : List ℕ) (t v : ℕ) (timely : v ≤ 2879) (spans : Spans t v z) (firsts : Spans t v first) where
-  module _ (old : List ℕ) (m : ℕ) (so_far : Stored (λ k. get_or z k no_points) t m first old) where
-    pub kept_more : t ≤ m → m ≤ v → length old ≡ length first
-        → Stored (λ k. get_or z k no_points) t (m + 1) first (set old m (get_or z m 0))
-    kept_more h g e =
-        let same = get_d_any z m 0 no_points (omega (arith, spans.long)) in
-        let inside : m < length old = omega (arith, firsts.long) in
-        stored_more (λ k. get_or z k no_points) t first m old so_far (get_or z m 0) h inside same
-
-    pub kept : m ≤ v + 1 → v < m → length old ≡ length first → old ≡ z
-    kept h g e =
-        let all = stored_all (λ k. get_or z k no_points) t first m old so_far (v + 1) h (omega arith) in
-        stored_is (λ k. get_or z k no_points) t v first old all firsts z e spans (λ m k l. refl)
+module _ (z first : List ℕ) (t v : ℕ) (spans : Spans t v z) (firsts : Spans t v first) where
+  pub kept : (new : List ℕ) → Stored (λ k. get_or z k no_points) t (v + 1) first new → length new ≡ length first
+      → new ≡ z
+  kept new all e = stored_is (λ k. get_or z k no_points) t v first new all firsts z e spans (λ m k l. refl)
 
 module _ (z new : List ℕ) (t v : ℕ) (spans : Spans t v z) (long : length new ≡ length z) where
   pub cleared : Stored (λ k. 4294967295) t (v + 1) z new → new ≡ blank

@@ -1,11 +1,14 @@
 -- The words of what is left behind a station, one for each minute. Only the minutes from the query's minute to the
 -- row's can matter: nobody arrives before the query, and who arrives behind the row's minute is late. All other words
 -- say that nothing is left.
-use Rattle.std.specs.Prelude.{◌≡◌, refl, not, List, ℕ, ◌+◌, ◌≤◌, ◌<◌, T, leb, ltb, length, get_or, set}
-use Rattle.std.proofs.Common.{sym, ◌∙◌, arith, leb→le, ltb→lt, nltb→le, ext_get_or, get_or-set_same, get_or-set_other}
+use Rattle.std.specs.Prelude.{◌≡◌, refl, not, List, ◌++◌, ℕ, ◌+◌, ◌-◌, ◌≤◌, ◌<◌, T, leb, ltb, length, get_or, set}
+use Rattle.std.specs.Prelude.{take, drop}
+use Rattle.std.proofs.Common.{sym, ap, ◌∙◌, arith, leb→le, ltb→lt, nltb→le, ext_get_or}
+use Rattle.std.proofs.Common.{get_or-set_same, get_or-set_other}
 use Rattle.std.proofs.Math.Decide.{ℕ_discrete}
 use Rattle.std.proofs.Math.Dec.{nleb→lt}
-use Rattle.std.proofs.lemmas.List.{length-replicate}
+use Rattle.std.proofs.lemmas.List.{length-replicate, length-drop, length-take-le, get_or-take, get_or-drop}
+use Rattle.std.proofs.lemmas.List.{get_or_append_left, get_or-append_right}
 use Rattle.lists.specs.Tests.{either}
 use Rattle.query_minutes.specs.Minutes.{no_points, blank}
 use Rattle.query_minutes.specs.Noted.{get_d_blank}
@@ -69,6 +72,52 @@ module _ (f : ℕ → ℕ) (a : ℕ) (old : List ℕ) where
           inside = λ m k l. so_far.inside m k (omega arith);
           before = so_far.before;
           behind = λ m k. so_far.behind m (omega arith);
+        }
+
+-- ---- words copied from word b of another list on
+module _
+    (f : ℕ → ℕ)
+    (src : List ℕ)
+    (b a j k e : ℕ)
+    (old mid : List ℕ)
+    (is : mid ≡ take j (drop b src))
+    (same : k ≡ j)
+    (end : e ≡ a + k)
+    (room : b + k ≤ length src)
+    (here : a + k ≤ length old)
+    (tells : (m : ℕ) → a ≤ m → m < e → get_or src (b + (m - a)) no_points ≡ f m)
+  where
+    abbrev rest : List ℕ
+    rest = drop k (drop a old)
+
+    first : length (take a old) ≡ a
+    first = length-take-le a old (omega arith)
+
+    long : length mid ≡ k
+    long = ap length is ∙ length-take-le j (drop b src) (omega (arith, length-drop b src)) ∙ sym same
+
+    pub stored_copy : Stored f a e old (take a old ++ (mid ++ rest))
+    stored_copy =
+        record {
+          inside =
+              λ m h g.
+              get_or-append_right (take a old) (mid ++ rest) a m no_points first h
+              ∙ get_or_append_left mid rest no_points (m - a) (omega (arith, long))
+              ∙ ap (λ l. get_or l (m - a) no_points) is
+              ∙ get_or-take j (drop b src) (m - a) no_points (omega arith)
+              ∙ get_or-drop b src (m - a) no_points
+              ∙ tells m h g;
+          before =
+              λ m h.
+              get_or_append_left (take a old) (mid ++ rest) no_points m (omega (arith, first))
+              ∙ get_or-take a old m no_points h;
+          behind =
+              λ m h.
+              get_or-append_right (take a old) (mid ++ rest) a m no_points first (omega arith)
+              ∙ get_or-append_right mid rest k (m - a) no_points long (omega arith)
+              ∙ get_or-drop k (drop a old) (m - a - k) no_points
+              ∙ get_or-drop a old (k + (m - a - k)) no_points
+              ∙ ap (λ i. get_or old i no_points) (omega arith);
         }
 
 -- ---- all words of the window stored

@@ -25,11 +25,7 @@ fn fill(z: &mut [u32], from: usize, to: usize, points: Points)
     ensures stored { Stored (λ _. points.0) from to z.old z.new }
     ensures z_len_unchanged { length z.new ≡ length z.old }
 {
-    let mut i = from;
-    while i < to {
-        query_minutes::set_points(z, i, points);
-        i += 1;
-    }
+    z[from..to].fill(points.0);
 }
 
 // What is left for one who arrives at minute m; no minute past the end is in time.
@@ -89,11 +85,11 @@ fn gather(
         (near_read lines.now from minute to)) }
     ensures z_len_unchanged { length z.new ≡ length z.old }
 {
-    let mut c = query_rides::begin(lines, from, to, minute);
-    while c.more {
+    let mut next = query_rides::begin(lines, from, to, minute);
+    while let Some(c) = next {
         let ride = query_rides::tell(lines, c);
         catch_ride(z, old, ride, change);
-        c = query_rides::next_nearest(lines, minute, c);
+        next = query_rides::next_nearest(lines, minute, c);
     }
 }
 
@@ -105,9 +101,7 @@ fn settle(z: &mut [u32], minute: usize, v: usize)
     ensures z_len_unchanged { length z.new ≡ length z.old }
 {
     let mut low = Points(NO_POINTS);
-    let mut m = v + 1;
-    while minute < m {
-        m -= 1;
+    for m in (minute..v + 1).rev() {
         low = query_minutes::lesser(query_minutes::points_at(z, m), low);
         query_minutes::set_points(z, m, low);
     }
@@ -127,11 +121,7 @@ fn keep(old: &mut [u32], z: &[u32], minute: usize, v: usize)
     ensures after { old.new ≡ z.now }
     ensures len_unchanged { length old.new ≡ length old.old }
 {
-    let mut m = minute;
-    while m <= v {
-        old[m] = z[m];
-        m += 1;
-    }
+    old[minute..v + 1].copy_from_slice(&z[minute..v + 1]);
 }
 
 // Nothing is noted yet.

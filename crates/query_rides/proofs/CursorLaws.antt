@@ -1,10 +1,8 @@
 -- What is left of the rides from call to call, and after the ride at which a cursor stands.
 use mathlib.Core.Path.{◌≡◌, refl, sym, ap, subst, ◌∙◌}
-use mathlib.Core.Bool.{true, false, not}
 use mathlib.Core.List.{List, [], ◌∷◌, ◌++◌, append-nil, map}
 use Prim.Native.Nat.{ℕ, ◌+◌, ◌≤◌, ◌<◌}
 use native.Mathlib.Omega.{arith}
-use borrow.Author.Tests.{not-true, not-false}
 use lib.ListN.{length}
 use Rattle.lists.specs.Lists.{concat_map}
 use Rattle.lists.specs.Ranges.{range_more, range_none}
@@ -20,6 +18,7 @@ use Rattle.query_places.specs.Places.{reach_at, found_at}
 use Rattle.query_places.specs.declared.Place.{Place}
 use Rattle.query_rides.specs.declared.Ride.{Ride as RideStruct}
 use Rattle.query_rides.specs.declared.Cursor.{Cursor}
+use Rattle.std.specs.Prelude.{Option, None, Some}
 use Rattle.query_rides.specs.Riding.{trips_of, ride_of, near_from, near_left, Good, Tells, near_none}
 
 -- no trip of the line leaves in time
@@ -40,18 +39,18 @@ module _
     (whole : List Ride)
     (so_far : whole ≡ near_from v u (record { from = k; end = end }) others)
   where
-    pub near_calls_none : end ≤ k + 1 → (c : Cursor) → c.more ≡ false → near_left v u c ≡ whole
+    pub near_calls_none : end ≤ k + 1 → near_left v u None ≡ whole
     unfolding near_from near_calls
-    near_calls_none h c e =
-        near_none v u c e ∙ sym (so_far ∙ ap (concat_map (near_leg v u)) (legs_none v u k end others h))
+    near_calls_none h =
+        near_none v u None refl ∙ sym (so_far ∙ ap (concat_map (near_leg v u)) (legs_none v u k end others h))
 
     module _
         (more : k + 1 < end)
         (inside : end ≤ length v)
         (g : Boarding)
         (is : BoardsAt v k others g)
-        (s : Place)
-        (is-s : nearest (reach_by v g) ≡ found_at s)
+        (o : Option Place)
+        (is-o : nearest (reach_by v g) ≡ found_at o)
       where
         abbrev beyond : List Ride
         beyond = near_from v u (record { from = k + 2; end = end }) g.rest
@@ -65,32 +64,38 @@ module _
             ∙ rw (is-first, is.line)
 
         near_placed : (first : ℕ) → first ≡ first_trip v g.line g.call.place u
-            → whole ≡ concat_map (trips_of v g first) (found_at s) ++ beyond
+            → whole ≡ concat_map (trips_of v g first) (found_at o) ++ beyond
         near_placed first is-first =
-            near_step first is-first ∙ ap (λ m. concat_map (trips_of v g first) m ++ beyond) is-s
+            near_step first is-first ∙ ap (λ m. concat_map (trips_of v g first) m ++ beyond) is-o
 
-        pub near_past : not s.found ≡ true → whole ≡ beyond
+        pub near_past : o ≡ None → whole ≡ beyond
         unfolding found_at
         near_past e =
-            near_placed (first_trip v g.line g.call.place u) refl ∙ rw (not-true s.found e)
+            let first = first_trip v g.line g.call.place u in
+            near_placed first refl ∙ ap (λ o. concat_map (trips_of v g first) (found_at o) ++ beyond) e
 
         module _ (first : ℕ) (is-first : first ≡ first_trip v g.line g.call.place u) where
           pub near_late : g.line.trips ≤ first → whole ≡ beyond
           near_late h =
-              near_placed first is-first ∙ ap (λ m. m ++ beyond) (no_trips_lem v g first (found_at s) h)
+              near_placed first is-first ∙ ap (λ m. m ++ beyond) (no_trips_lem v g first (found_at o) h)
 
-          pub near_found : not s.found ≡ false
+          pub near_found : (s : Place) → o ≡ Some s
               → near_left v u
-              (record {
-                more = true;
+              (Some (record {
                 calls = record { from = k + 2; end = end };
                 boarding = g;
                 to = s;
                 j = first;
-              })
+              }))
               ≡ whole
           unfolding near_left found_at
-          near_found e = sym (near_placed first is-first ∙ rw (not-false s.found e, append-nil))
+          near_found s e =
+              sym
+              (near_placed first is-first
+              ∙ ap
+              (λ m. m ++ beyond)
+              (ap (λ o. concat_map (trips_of v g first) (found_at o)) e
+              ∙ append-nil (trips_of v g first (reach_at s))))
 
 pub near_first : (v : List ℕ) (a b u : ℕ) (calls others : Piece) (whole : List Ride)
     → whole ≡ near_from v u calls others → calls_in v calls ≡ calls_of v a → calls_in v others ≡ calls_of v b
@@ -101,44 +106,31 @@ near_first v a b u calls others whole so_far e f =
 
 -- ---- after a ride
 module _ (v : List ℕ) (u : ℕ) (c : Cursor) where
-  near_some : c.more ≡ true
-      → near_left v u c
+  near_some : near_left v u (Some c)
       ≡ trips_of v c.boarding c.j (reach_at c.to) ++ near_from v u c.calls c.boarding.rest
   unfolding near_left
-  near_some e = rw e
+  near_some = refl
 
-module _
-    (v : List ℕ)
-    (u : ℕ)
-    (c : Cursor)
-    (good : Good v c)
-    (more : c.more ≡ true)
-    (g : Boarding)
-    (is-g : g ≡ c.boarding)
-    (calls : Piece)
-    (is-calls : calls ≡ c.calls)
-  where
-    near_on : near_left v u c
-        ≡ ride_of v c
-        ∷ (trips_of v c.boarding (c.j + 1) (reach_at c.to) ++ near_from v u c.calls c.boarding.rest)
-    unfolding ride_of
-    near_on =
-        near_some v u c more
-        ∙ ap
-        (λ js.
-        map (λ i. ride_on v c.boarding.line c.boarding.call.place i (reach_at c.to)) js
-        ++ near_from v u c.calls c.boarding.rest)
-        (range_more c.j c.boarding.line.trips (good.at_trip more))
+module _ (v : List ℕ) (u : ℕ) (c : Cursor) (good : Good v c) where
+  near_on : near_left v u (Some c)
+      ≡ ride_of v c
+      ∷ (trips_of v c.boarding (c.j + 1) (reach_at c.to) ++ near_from v u c.calls c.boarding.rest)
+  unfolding ride_of
+  near_on =
+      near_some v u c
+      ∙ ap
+      (λ js.
+      map (λ i. ride_on v c.boarding.line c.boarding.call.place i (reach_at c.to)) js
+      ++ near_from v u c.calls c.boarding.rest)
+      (range_more c.j c.boarding.line.trips good.at_trip)
 
-    pub near_trip : (here : Place) → here ≡ c.to
-        → near_left v u c
-        ≡ ride_of v c ∷ near_left v u
-        (record { more = true; calls = calls; boarding = g; to = here; j = c.j + 1 })
-    unfolding near_left
-    near_trip here is_here = rw (is-g, is-calls, is_here) near_on
+  pub near_trip : near_left v u (Some c) ≡ ride_of v c ∷ near_left v u (Some (record c { j = c.j + 1 }))
+  unfolding near_left
+  near_trip = near_on
 
-    pub near_call : g.line.trips ≤ c.j + 1 → (r : Cursor) → near_left v u r ≡ near_from v u calls g.rest
-        → near_left v u c ≡ ride_of v c ∷ near_left v u r
+  module _ (g : Boarding) (is-g : g ≡ c.boarding) where
+    pub near_call : g.line.trips ≤ c.j + 1 → (r : Option Cursor) → near_left v u r ≡ near_from v u c.calls g.rest
+        → near_left v u (Some c) ≡ ride_of v c ∷ near_left v u r
     near_call last r e =
         near_on
         ∙ ap
@@ -147,20 +139,18 @@ module _
         ∷ (map (λ i. ride_on v c.boarding.line c.boarding.call.place i (reach_at c.to)) js
         ++ near_from v u c.calls c.boarding.rest))
         (range_none (c.j + 1) c.boarding.line.trips (subst (λ g. g.line.trips ≤ c.j + 1) is-g last))
-        ∙ rw (← is-g, ← is-calls, e)
+        ∙ ap (λ l. ride_of v c ∷ l) (ap (λ g. near_from v u c.calls g.rest) (sym is-g) ∙ sym e)
 
-    pub trip_good : (here : Place) → here ≡ c.to → c.j + 1 < g.line.trips
-        → Good v
-        (record { more = true; calls = calls; boarding = g; to = here; j = c.j + 1 })
-    trip_good here is_here runs =
-        let few = good.within.trips_few in
-        record {
-          calls_inside = rw is-calls good.calls_inside;
-          within = rw is-g good.within;
-          place_few = rw is_here good.place_few;
-          j_few = omega (arith, ap (λ g. g.line.trips) is-g, few);
-          at_trip = λ e. runs;
-        }
+module _ (v : List ℕ) (c : Cursor) (good : Good v c) where
+  pub trip_good : c.j + 1 < c.boarding.line.trips → Good v (record c { j = c.j + 1 })
+  trip_good runs =
+      record {
+        calls_inside = good.calls_inside;
+        within = good.within;
+        place_few = good.place_few;
+        j_few = omega (arith, good.within.trips_few);
+        at_trip = runs;
+      }
 
 -- ---- what the code tells of a ride
 pub told : (v : List ℕ) (g : Boarding) → Within v g → (to : Place) → to.place < 65536 → (l : Line) → l ≡ g.line
@@ -193,20 +183,11 @@ told v g within to to-few l is-l j z d m is-z z-few is-d d-few is_m m-few =
       arrive_few = m-few;
     }
 
-module _ (v : List ℕ) (c : Cursor) (good : Good v c) (g : Boarding) (is-g : g ≡ c.boarding) (to : Place)
-    (is-to : to ≡ c.to) where
-  pub cursor_within : Within v g
-  cursor_within = rw is-g good.within
-
-  pub cursor_place : to.place < 65536
-  cursor_place = rw is-to good.place_few
-
-  pub cursor_told : (s : RideStruct) → Tells s (ride_on v g.line g.call.place c.j (reach_at to))
-      → Tells s (ride_of v c)
-  unfolding ride_of
-  cursor_told s t =
-      subst (λ to. Tells s (ride_on v c.boarding.line c.boarding.call.place c.j (reach_at to))) is-to
-      (subst (λ g. Tells s (ride_on v g.line g.call.place c.j (reach_at to))) is-g t)
+pub cursor_told : (v : List ℕ) (c : Cursor) (s : RideStruct)
+    → Tells s (ride_on v c.boarding.line c.boarding.call.place c.j (reach_at c.to))
+    → Tells s (ride_of v c)
+unfolding ride_of
+cursor_told v c s t = t
 
 -- ---- what a change takes and costs
 module _ (w : List ℕ) (i : ℕ) (s : Station) (is : s ≡ station_at w i) where

@@ -1,6 +1,6 @@
 -- The rides through which a cursor goes are some of the timetable that board at the one station at the minute or later
 -- and alight at the other, if the line tables belong to the timetable, and no other of these is better.
-use Rattle.std.specs.Prelude.{◌≡◌, refl, true, ◌↔◌, List, ℕ, ◌-◌, ◌≤◌, length}
+use Rattle.std.specs.Prelude.{◌≡◌, refl, true, ◌↔◌, List, ℕ, ◌-◌, ◌≤◌, length, Some}
 use Rattle.std.proofs.Common.{sym, ap, arith}
 use mathlib.Core.List.Memᴰ
 use Rattle.lists.specs.Lists.{◌∈◌}
@@ -83,12 +83,11 @@ module _
     read_bounds = near_bounds v (timetable_of w) told a u b some inside (spelled_valid w accepted)
 
 -- the ride at which a cursor stands is left
-pub ride_left : (v : List ℕ) (u : ℕ) (c : Cursor) → Good v c → c.more ≡ true → ride_of v c ∈ near_left v u c
+pub ride_left : (v : List ℕ) (u : ℕ) (c : Cursor) → Good v c → ride_of v c ∈ near_left v u (Some c)
 unfolding near_left ride_of
-ride_left v u c good more =
-    let runs = good.at_trip more in
+ride_left v u c good =
+    let runs = good.at_trip in
     let g = c.boarding in
     let n = g.line.trips - c.j in
     let this = range_in c.j n c.j (omega arith) (omega arith) in
-    rw more
-    (Memᴰ.append_left _ (Memᴰ.map (λ i. ride_on v g.line g.call.place i (reach_at c.to)) this))
+    Memᴰ.append_left _ (Memᴰ.map (λ i. ride_on v g.line g.call.place i (reach_at c.to)) this)

@@ -1,7 +1,7 @@
 -- The rides from one station to another, one after the other, as line tables tell them: a cursor stands at one of them,
 -- and what is left is that ride and those after it.
-use Rattle.std.specs.Prelude.{◌≡◌, true, false, cond, List, [], ◌∷◌, ◌++◌, ℕ, ◌≤◌, ◌<◌, length}
-use Rattle.std.proofs.Common.{ap, arith}
+use Rattle.std.specs.Prelude.{◌≡◌, List, [], ◌∷◌, ◌++◌, ℕ, ◌≤◌, ◌<◌, length, Option, None, Some, IfSome}
+use Rattle.std.proofs.Common.{ap, subst, ◌∙◌, arith}
 use Rattle.connections.specs.Rides.{Ride}
 use Rattle.lines_lookup.specs.Calls.{Piece, Boarding, calls_in, Inside, Within}
 use Rattle.query_places.specs.Candidates.{Reach, ride_on}
@@ -22,12 +22,11 @@ trips_of v g j r = trips_from v g.line g.call.place j r
 unfoldable pub ride_of : List ℕ → Cursor → Ride
 ride_of v c = ride_on v c.boarding.line c.boarding.call.place c.j (reach_at c.to)
 
--- the rides from the one at which a cursor stands on: on the trips left to its place, and from the calls left
-unfoldable pub near_left : List ℕ → (u : ℕ) → Cursor → List Ride
-near_left v u c =
-    cond c.more
-    (trips_of v c.boarding c.j (reach_at c.to) ++ near_from v u c.calls c.boarding.rest)
-    []
+-- the rides from the one at which a cursor stands on: on the trips left to its place, and from the calls left; with no
+-- cursor none is left
+unfoldable pub near_left : List ℕ → (u : ℕ) → Option Cursor → List Ride
+near_left v u None = []
+near_left v u (Some c) = trips_of v c.boarding c.j (reach_at c.to) ++ near_from v u c.calls c.boarding.rest
 
 -- what is known of a cursor: how large its numbers get, and that it stands at a trip
 pub record Good (v : List ℕ) (c : Cursor) : Type 0 where
@@ -35,7 +34,7 @@ pub record Good (v : List ℕ) (c : Cursor) : Type 0 where
   pub within : Within v c.boarding
   pub place_few : c.to.place < 65536
   pub j_few : c.j < 65536
-  pub at_trip : c.more ≡ true → c.j < c.boarding.line.trips
+  pub at_trip : c.j < c.boarding.line.trips
 
 -- a ride as the code tells it, and how large its numbers get
 pub record Tells (s : RideStruct) (r : Ride) : Type 0 where
@@ -52,11 +51,19 @@ pub record Tells (s : RideStruct) (r : Ride) : Type 0 where
   pub arrive_few : s.arrive < 65536
 
 -- where no ride is left
-pub near_none : (v : List ℕ) (u : ℕ) (c : Cursor) → c.more ≡ false → near_left v u c ≡ []
+pub near_none : (v : List ℕ) (u : ℕ) (o : Option Cursor) → o ≡ None → near_left v u o ≡ []
 unfolding near_left
-near_none v u c e = rw e
+near_none v u o e = ap (near_left v u) e
 
--- after a ride, one less is left
-pub near_falls : (v : List ℕ) (u : ℕ) (c d : Cursor) → near_left v u c ≡ ride_of v c ∷ near_left v u d
-    → length (near_left v u d) < length (near_left v u c)
-near_falls v u c d e = omega (arith, ap length e)
+-- where a cursor stands at one
+module _ (v : List ℕ) (o : Option Cursor) (c : Cursor) (at : o ≡ Some c) where
+  pub good_some : IfSome o (Good v) → Good v c
+  good_some = subst (λ o. IfSome o (Good v)) at
+
+  module _ (u : ℕ) (d : Option Cursor) (is : near_left v u (Some c) ≡ ride_of v c ∷ near_left v u d) where
+    pub near_goes : near_left v u o ≡ ride_of v c ∷ near_left v u d
+    near_goes = ap (near_left v u) at ∙ is
+
+    -- after a ride, one less is left
+    pub near_falls : length (near_left v u d) < length (near_left v u o)
+    near_falls = omega (arith, ap length near_goes)

@@ -2,7 +2,7 @@
 //! to the nearest place; and the way of changing between two rides, with what it takes and costs.
 #![tactic(auto)]
 
-ghost use Rattle.std.specs.Prelude.{◌≡◌, true, ◌∷◌, ◌-◌, ◌≤◌, ◌<◌, length};
+ghost use Rattle.std.specs.Prelude.{◌≡◌, true, ◌∷◌, ◌-◌, ◌≤◌, ◌<◌, length, Some, IfSome};
 ghost use Rattle.timetable.specs.Words.{station_count, station_at, is_timetable};
 ghost use Rattle.lines_lookup.specs.Calls.{Inside, Within};
 ghost use Rattle.query_places.specs.Candidates.{ride_on, near_read};
@@ -10,7 +10,7 @@ ghost use Rattle.query_places.specs.Places.{reach_at};
 ghost use Rattle.query_rides.specs.Riding.{Good, Tells, near_left, ride_of, near_from};
 ghost use Rattle.query_rides.specs.Ways.{cost_of, way_between};
 
-use lines_lookup::{Boarding, Call, Line, Piece};
+use lines_lookup::{Boarding, Piece};
 use query_places::Place;
 use results::{Cost, Minutes, Points};
 use timetable::Walk;
@@ -30,65 +30,47 @@ pub struct Ride {
 // alight at; the place alighted at, and the trip.
 #[derive(Clone, Copy)]
 pub struct Cursor {
-    pub more: bool,
     pub calls: Piece,
     pub boarding: Boarding,
     pub to: Place,
     pub j: usize,
 }
 
-// The first ride from some calls to some others. Few calls lead to the station sought, so a trip is looked for only
-// where there is a place to alight at.
-fn seek_call(v: &[u16], minute: usize, calls: Piece, others: Piece) -> Cursor
+// The first ride from some calls to some others, if there is one. Few calls lead to the station sought, so a trip is
+// looked for only where there is a place to alight at.
+fn seek_call(v: &[u16], minute: usize, calls: Piece, others: Piece) -> Option<Cursor>
     requires { Inside v.now calls × Inside v.now others }
     ensures { (near_left v.now minute result ≡ near_from v.now minute calls others)
-        × Good v.now result }
+        × IfSome result (Good v.now) }
 {
     let end = calls.end;
     let mut k = calls.from;
     let mut rest = others;
+    // Stays: a call takes two words, and an odd word at the end is none, which a range with a step would read.
     while k + 1 < end {
         let g = lines_lookup::boarding_at(v, k, rest);
         rest = g.rest;
         k += 2;
-        let to = query_places::seek_place(v, g);
-        if !to.found {
+        let Some(to) = query_places::seek_place(v, g) else {
             continue;
-        }
+        };
         let first = lines_lookup::first_trip(v, g.line, g.call.place, minute);
         if first < g.line.trips {
-            return Cursor {
-                more: true,
+            return Some(Cursor {
                 calls: Piece { from: k, end },
                 boarding: g,
                 to,
                 j: first,
-            };
+            });
         }
     }
-    let line = Line {
-        at: 0,
-        positions: 0,
-        trips: 0,
-    };
-    Cursor {
-        more: false,
-        calls: Piece { from: k, end },
-        boarding: Boarding {
-            call: Call { line: 0, place: 0 },
-            line,
-            total: lines_lookup::total_at(v, line, 0),
-            rest,
-        },
-        to: query_places::nowhere(),
-        j: 0,
-    }
+    None
 }
 
-// The first ride from one station to another.
-pub fn begin(v: &[u16], from: usize, to: usize, minute: usize) -> Cursor
+// The first ride from one station to another, if there is one.
+pub fn begin(v: &[u16], from: usize, to: usize, minute: usize) -> Option<Cursor>
     ensures { (near_left v.now minute result ≡ near_read v.now from minute to)
-        × Good v.now result }
+        × IfSome result (Good v.now) }
 {
     seek_call(
         v,
@@ -100,25 +82,17 @@ pub fn begin(v: &[u16], from: usize, to: usize, minute: usize) -> Cursor
 
 // The ride after the one at which c stands, where only the nearest place is ridden to: on the next trip of the line;
 // else from the next call.
-pub fn next_nearest(v: &[u16], minute: usize, c: Cursor) -> Cursor
-    requires { Good v.now c × (c.more ≡ true) }
-    ensures { (near_left v.now minute c
+pub fn next_nearest(v: &[u16], minute: usize, c: Cursor) -> Option<Cursor>
+    requires { Good v.now c }
+    ensures { (near_left v.now minute (Some c)
         ≡ ride_of v.now c ∷ near_left v.now minute result)
-        × Good v.now result }
+        × IfSome result (Good v.now) }
 {
     let g = c.boarding;
-    let calls = c.calls;
-    let here = c.to;
     if g.line.trips <= c.j + 1 {
-        return seek_call(v, minute, calls, g.rest);
+        return seek_call(v, minute, c.calls, g.rest);
     }
-    Cursor {
-        more: true,
-        calls,
-        boarding: g,
-        to: here,
-        j: c.j + 1,
-    }
+    Some(Cursor { j: c.j + 1, ..c })
 }
 
 // The ride on the trip at place j of the line that is boarded, to a place further on.
@@ -148,12 +122,11 @@ pub fn tell(v: &[u16], c: Cursor) -> Ride
     requires { Good v.now c }
     ensures { Tells result (ride_of v.now c) }
 {
-    let g = c.boarding;
-    let to = c.to;
-    ride_at(v, g, to, c.j)
+    ride_at(v, c.boarding, c.to, c.j)
 }
 
 // A way of changing: at the station itself, or by a walk.
+// Stays: a change at the station itself is a way of its own, and `Here` names it, which `None` would not.
 #[derive(Clone, Copy)]
 pub enum Change {
     Here,

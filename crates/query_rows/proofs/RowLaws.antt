@@ -3,7 +3,7 @@ use mathlib.Core.Path.{◌≡◌, refl, sym, ap, ◌∙◌}
 use mathlib.Core.List.{List, [], ◌∷◌}
 use Prim.Native.Nat.{ℕ, ◌+◌, ◌-◌, ◌*◌, ◌≤◌}
 use native.Mathlib.Omega.{arith}
-use lib.ListN.{length, take, set, length-set}
+use lib.ListN.{length, take, set, length-set, length-take}
 use lib.Seq.{length-take-le}
 use Rattle.words.specs.Put.{put, put_more, put_append}
 use Rattle.results.specs.Results.{row}
@@ -16,8 +16,9 @@ use Rattle.query_winner.specs.declared.Winner.{Winner}
 
 -- ---- two words, one, and the rest
 module _ (old one : List ℕ) (at r : ℕ) (room : at + (3 + 3 * r) ≤ length old) where
-  pub copy_room : length one ≡ length old → at + 3 + 3 * r ≤ length (set one (at + 2) r)
-  copy_room e = omega (arith, length-set one (at + 2) r)
+  pub copy_room : (shown : List ℕ) → length one ≡ length old
+      → at + 3 + length (take (3 * r) shown) ≤ length (set one (at + 2) r)
+  copy_room shown e = simp (length-take, length-set) (omega arith)
 
   pub row_put : (shown new : List ℕ) (d p : ℕ) → one ≡ put at (d ∷ p ∷ []) old
       → new ≡ put (at + 3) (take (3 * r) shown) (set one (at + 2) r)

@@ -113,11 +113,8 @@ pub fn measure(
     let mut count = 0;
     let mut least = Points(NO_POINTS);
     // No connection arrives before the minute of the query.
-    let mut m = asked.minute;
-    while m < end {
-        let arrive = m;
-        let points = query_minutes::points_at(best, m);
-        m += 1;
+    for arrive in asked.minute..end {
+        let points = query_minutes::points_at(best, arrive);
         if !query_minutes::less(points, least) {
             continue;
         }
@@ -139,7 +136,7 @@ fn put_row(answer: &mut [u32], at: usize, cost: Cost, rides: usize, shown: &[u32
 {
     query_minutes::write_cost(answer, at, cost);
     answer[at + 2] = rides as u32;
-    words::copy_long(answer, at + ROW_WORDS, shown, 3 * rides);
+    words::copy(answer, at + ROW_WORDS, &shown[..3 * rides]);
     at + (ROW_WORDS + 3 * rides)
 }
 
@@ -223,11 +220,8 @@ pub fn write_rows(
     let mut here = 0;
     let mut least = Points(NO_POINTS);
     // No connection arrives before the minute of the query.
-    let mut m = asked.minute;
-    while m < end {
-        let arrive = m;
-        let points = query_minutes::points_at(best, m);
-        m += 1;
+    for arrive in asked.minute..end {
+        let points = query_minutes::points_at(best, arrive);
         if !query_minutes::less(points, least) {
             continue;
         }

@@ -16,6 +16,7 @@ use Rattle.query_places.specs.Candidates.{nearest, reach_by, legs, ride_on, near
 use Rattle.query_places.specs.Places.{reach_at, found_at, nearest_none, nearest_found}
 use Rattle.query_places.specs.Turns.{trips_from, near_calls, from, legs_none, legs_more}
 use Rattle.query_places.specs.declared.Place.{Place}
+use Rattle.std.specs.Prelude.{Option, None, Some}
 use Rattle.query_minutes.specs.Minutes.{no_points}
 use Rattle.query_rides.specs.declared.Ride.{Ride as RideStruct}
 use Rattle.query_rides.specs.declared.Way.{Way}
@@ -203,23 +204,23 @@ module _ (first : Bool) (way : Way) (u : ℕ) (z : List ℕ) (p : ℕ) where
       (sym (too_dear (front_price first way u r.depart) best (tells_of r) h))
 
   -- from a call to the nearest place
-  module _ (v : List ℕ) (g : Boarding) (best : RideStruct) (to : Place) (is : nearest (reach_by v g) ≡ found_at to)
+  module _ (v : List ℕ) (g : Boarding) (best : RideStruct) (o : Option Place) (is : nearest (reach_by v g) ≡ found_at o)
     where
-      pub call_none : not to.found ≡ true
+      pub call_none : o ≡ None
           → best ≡ tried_all first (front_price first way u) z p best (call_rides v g u)
       unfolding tried_all call_rides
-      call_none e = rw (nearest_none v g to is e)
+      call_none e = rw (nearest_none v g o is e)
 
-      pub call_dear : not to.found ≡ false → (poor : Bool) → poor ≡ ltb p to.points.0 → poor ≡ true
+      pub call_dear : (to : Place) → o ≡ Some to → (poor : Bool) → poor ≡ ltb p to.points.0 → poor ≡ true
           → best ≡ tried_all first (front_price first way u) z p best (call_rides v g u)
       unfolding call_rides
-      call_dear e poor is-poor h =
+      call_dear to e poor is-poor h =
           let start = first_trip v g.line g.call.place u in
           let dear = ltb-true p to.points.0 (sym is-poor ∙ h) in
           trips_dear v g to dear (range start (g.line.trips - start)) best
-          ∙ rw (nearest_found v g to is e, append-nil)
+          ∙ rw (nearest_found v g o is to e, append-nil)
 
-      pub call_tried : not to.found ≡ false → (start : ℕ)
+      pub call_tried : (to : Place) → o ≡ Some to → (start : ℕ)
           → start ≡ first_trip v g.line g.call.place u
           → (next : RideStruct)
           → next
@@ -227,10 +228,10 @@ module _ (first : Bool) (way : Way) (u : ℕ) (z : List ℕ) (p : ℕ) where
           (trips_from v g.line g.call.place start (reach_at to))
           → next ≡ tried_all first (front_price first way u) z p best (call_rides v g u)
       unfolding call_rides
-      call_tried e start is-start next f =
+      call_tried to e start is-start next f =
           f
           ∙ ap (λ i. with best (trips_from v g.line g.call.place i (reach_at to))) is-start
-          ∙ rw (nearest_found v g to is e, append-nil)
+          ∙ rw (nearest_found v g o is to e, append-nil)
 
   -- from call to call
   module _ (v : List ℕ) (a b : ℕ) where

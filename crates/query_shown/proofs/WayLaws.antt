@@ -7,7 +7,7 @@ use Prim.Native.Nat.{ℕ, suc, ◌+◌, ◌-◌, ◌*◌, ◌≤◌, ◌<◌}
 use native.Mathlib.Omega.{arith}
 use lib.ListN.{length, get_or, set, take, drop, length-append, length-take}
 use lib.Seq.{slice, slice_empty, slice-cons, take_at}
-use Rattle.words.specs.Put.{put, put_more}
+use Rattle.words.specs.Put.{put}
 use Rattle.timetable.specs.Timetable.{Timetable}
 use Rattle.timetable.specs.Words.{station_count, timetable_of, is_timetable}
 use Rattle.lists.specs.Lists.{◌∈◌}
@@ -37,11 +37,6 @@ use Rattle.query_shown.specs.OnTheWay.{Moved, Stopped, Gone, Rode}
 use Rattle.query_rests.proofs.PatternLaws.{is_valid, station_inside}
 
 -- ---- one ride
-pub three_put : (i a b c : ℕ) (old mid : List ℕ) → 3 * i + 3 ≤ length old → mid ≡ put (3 * i) (a ∷ b ∷ []) old
-    → set mid (3 * i + 2) c ≡ put (3 * i) (a ∷ b ∷ c ∷ []) old
-three_put i a b c old mid h e =
-    ap (λ l. set l (3 * i + 2) c) e ∙ put_more (3 * i) 2 (a ∷ b ∷ []) old c refl (omega arith)
-
 take_three : (i : ℕ) (ws old : List ℕ) → length ws ≡ 3 → 3 * i + 3 ≤ length old
     → take (3 * (i + 1)) (put (3 * i) ws old) ≡ take (3 * i) old ++ ws
 unfolding put

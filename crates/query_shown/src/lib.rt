@@ -32,6 +32,7 @@ pub struct At {
 }
 
 // Whether a ride was taken, when it departs, and where one is after it.
+// Stays: only the first ride of a path can be missing, and each later one would be asked for what is always there.
 #[derive(Clone, Copy)]
 pub struct Next {
     pub found: bool,
@@ -90,12 +91,10 @@ fn first_in_time(
     }
     let depart = head.depart;
     let mut at = head.at;
-    let mut i = 1;
-    while i < r {
+    for i in 1..r {
         kept = query_layers::rest(words, lines, sought, path, i, r, kept, work, z, old);
         let next = rides::ride_on(words, lines, sought, path, i, r, at, false, rides, z);
         at = next.at;
-        i += 1;
     }
     First {
         found: true,

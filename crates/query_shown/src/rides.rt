@@ -28,6 +28,7 @@ use results::{Cost, Minutes, Points};
 const LAST_MINUTE: usize = 2879;
 
 // The trip of no ride: every trip has a lower number.
+// Stays: every ride comes before one of this number, so that each is compared alike; an Option would need a case more.
 const NO_TRIP: usize = 65536;
 
 // By how much a ride leaves before the last minute, where that counts.
@@ -167,12 +168,10 @@ fn choose_trips(
 {
     let left = at.left;
     let mut best = old;
-    let mut j = start;
-    while j < g.line.trips {
+    for j in start..g.line.trips {
         let ride = query_rides::ride_at(lines, g, to, j);
         let price = front_price(first, way, at.arrive, ride);
         best = try_onto(first, z, left, price, best, ride);
-        j += 1;
     }
     best
 }
@@ -194,10 +193,9 @@ fn choose_call(
         (call_rides lines.now g at.arrive))
         × Sized result }
 {
-    let to = query_places::seek_place(lines, g);
-    if !to.found {
+    let Some(to) = query_places::seek_place(lines, g) else {
         return best;
-    }
+    };
     // Who has too little left for the rides to that place takes none of them, whatever the trip.
     let left = at.left;
     let points = to.points;
@@ -229,6 +227,7 @@ fn choose(lines: &[u16], from: usize, to: usize, at: At, first: bool, way: Way, 
     let list = lines_lookup::list_of(lines, from);
     let end = list.end;
     let mut k = list.from;
+    // Stays: a call takes two words, and an odd word at the end is none, which a range with a step would read.
     while k + 1 < end {
         let g = lines_lookup::boarding_at(lines, k, rest);
         rest = g.rest;
@@ -257,8 +256,11 @@ fn put_ride(rides: &mut [u32], i: usize, ride: Ride)
     ensures rides_len_unchanged { length rides.new ≡ length rides.old }
 {
     let at = 3 * i;
-    words::put_pair(rides, at, ride.trip as u32, ride.board as u32);
-    rides[at + 2] = ride.alight as u32;
+    words::copy(
+        rides,
+        at,
+        &[ride.trip as u32, ride.board as u32, ride.alight as u32],
+    );
 }
 
 // Writes ride i, for which and for the change in front of it one pays.

@@ -18,8 +18,7 @@ ghost use Rattle.query_store.specs.Depths.{Depths};
 ghost use Rattle.query_store.specs.Tests.{present_test, nodes_test, arc_test, rises_test, arcs_test};
 ghost use Rattle.query_store.specs.Made.{Made};
 
-// The most nodes, and the most arcs.
-const ENTRIES_MOST: usize = stores::ENTRIES_MOST;
+use stores::ENTRIES_MOST;
 
 // A pattern has at most 64 rides, and so these changes.
 const CHANGES_MOST: u32 = 63;
@@ -124,8 +123,7 @@ fn nodes_made(store: &[u16], stations: usize, work: &mut [u32]) -> bool
 {
     let nodes = node_count(store);
     work[0] = 0;
-    let mut v = 0;
-    while v < nodes {
+    for v in 0..nodes {
         let node = v + 1;
         if !is_listed(stations, node_alighted(store, node)) {
             return false;
@@ -138,7 +136,6 @@ fn nodes_made(store: &[u16], stations: usize, work: &mut [u32]) -> bool
             return false;
         }
         work[node] = work[parent] + 1;
-        v = node;
     }
     true
 }
@@ -192,15 +189,13 @@ fn arcs_made(store: &[u16], stations: usize, work: &[u32]) -> bool
     ensures { result ≡ arcs_test stations store.now 0 }
 {
     let arcs = arc_count(store);
-    let mut k = 0;
-    while k < arcs {
+    for k in 0..arcs {
         if !arc_made(store, stations, work, k) {
             return false;
         }
         if !arc_rises(store, k) {
             return false;
         }
-        k += 1;
     }
     true
 }
@@ -260,6 +255,7 @@ fn same_stations(store: &[u16], first: usize, second: usize) -> bool
 {
     let mut u = first;
     let mut v = second;
+    // Stays: both nodes go up to their parents, by links that no range counts.
     while u != v {
         if u == 0 {
             return false;

@@ -41,15 +41,13 @@ fn words_before(a: &[u32], b: &[u32], n: usize) -> bool
     requires { (n ≤ length a.now) × (n ≤ length b.now) }
     ensures { result ≡ before (take n a.now) (take n b.now) }
 {
-    let mut i = 0;
-    while i < n {
+    for i in 0..n {
         if a[i] < b[i] {
             return true;
         }
         if b[i] < a[i] {
             return false;
         }
-        i += 1;
     }
     false
 }
@@ -192,7 +190,7 @@ fn try_arc(
     if !wins(f, tried, x, shown) {
         return x;
     }
-    words::copy_long(shown, 0, tried, 3 * f.rides);
+    words::copy(shown, 0, &tried[..3 * f.rides]);
     f
 }
 
@@ -222,15 +220,12 @@ fn choose(
         rides: 0,
     };
     let arcs = query_store::arc_count(store);
-    let mut k = 0;
-    while k < arcs {
-        let arc = k;
-        k += 1;
-        if !query_store::counts(store, arc, asked.to) {
+    for k in 0..arcs {
+        if !query_store::counts(store, k, asked.to) {
             continue;
         }
         x = try_arc(
-            words, lines, store, asked, arc, row, x, &mut tried, &mut shown, work,
+            words, lines, store, asked, k, row, x, &mut tried, &mut shown, work,
         );
     }
     x.arc

@@ -42,10 +42,10 @@ use Rattle.reading.specs.Model.{
   LinesRead,
 }
 use Rattle.reading_lines.specs.declared.Progress.{Progress}
-use Rattle.reading.specs.declared.Next.{Next}
-use Rattle.reading.specs.declared.Next.TheVariants.{On, Refused as NextRefused}
-use Rattle.reading.specs.declared.Lines.{Lines}
-use Rattle.reading.specs.declared.Lines.TheVariants.{Accepted as LinesAccepted, Refused as LinesRefused}
+use Rattle.reading.specs.Next.{Next}
+use Rattle.reading.specs.Next.{On, Refused as NextRefused}
+use Rattle.reading.specs.Lines.{Lines}
+use Rattle.reading.specs.Lines.{Accepted as LinesAccepted, Refused as LinesRefused}
 use Rattle.reading.proofs.DraftLaws.{
   body_of,
   length_body_of,

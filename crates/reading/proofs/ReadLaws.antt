@@ -9,6 +9,8 @@ use lib.Dec.{leb}
 use lib.ListN.{length}
 use Rattle.lists.specs.Lists.{range}
 use Rattle.lists.specs.Ranges.{length_range}
+use Rattle.std.specs.Prelude.{Result, Err}
+use Rattle.questions.specs.Refused.{question_number}
 use Rattle.words.specs.Put.{put}
 use Rattle.timetable.specs.Timetable.{Timetable, stops_of}
 use Rattle.timetable.specs.Words.{start_words, walk_words, words, joined}
@@ -22,6 +24,7 @@ use Rattle.reading.specs.Reading.{
   read_reply,
   read_words,
   reply_to,
+  written,
   values_of,
   outcome_values,
   read_values,
@@ -31,10 +34,11 @@ use Rattle.reading_lines.specs.Progress.{Within}
 use Rattle.reading.specs.Model.{stations_in, read_after, body_words, progress_of, LinesRead}
 use Rattle.reading.proofs.CountLaws.{range_front}
 use Rattle.reading_lines.specs.declared.Progress.{Progress}
-use Rattle.reading.specs.declared.Lines.{Lines}
-use Rattle.reading.specs.declared.Lines.TheVariants.{Accepted as LinesAccepted, Refused as LinesRefused}
-use Rattle.reading.specs.declared.Reply.{Reply}
-use Rattle.reading.specs.declared.Reply.TheVariants.{Done as ReplyDone, Refused as ReplyRefused}
+use Rattle.reading.specs.Lines.{Lines}
+use Rattle.reading.specs.Lines.{Accepted as LinesAccepted, Refused as LinesRefused}
+use Rattle.reading.specs.declared.RefusedLine.{RefusedLine}
+use Rattle.reading.specs.Reply.{Reply, read_seen}
+use Rattle.reading.specs.Reply.{Done as ReplyDone, Refused as ReplyRefused}
 
 -- the timetable's words, with the numbers that were counted
 pub numbers_written : (table numbers : List ℕ) (stations trips stops walks : ℕ) (body starts walking old : List ℕ)
@@ -57,6 +61,20 @@ told text n = by_test (leb 16384 n)
         ≡ cond t (outcome_values (reading text)) (record { number = 8; line = 0; count = 0 })
     by_test true = outcome_values_lem (reading text)
     by_test false = refl
+
+-- a refusal keeps the words
+pub refusal_keeps : (text old : List ℕ) (a : Result ℕ RefusedLine) (e : RefusedLine) → a ≡ Err e
+    → read_seen a ≡ read_reply text (length old) → old ≡ read_words text old
+unfolding read_reply read_words
+refusal_keeps text old a e is told_so =
+    go (leb 16384 (length old)) (reading text) (sym (ap read_seen is) ∙ told_so)
+  where
+    go : (t : Bool) (o : Outcome)
+        → ReplyRefused (question_number e.refusal) e.line ≡ cond t (reply_to o) (ReplyRefused 8 0)
+        → old ≡ cond t (written o old) old
+    go false o f = refl
+    go true (Refused k l) f = refl
+    go true (Accepted t n) f = cc
 
 module _ (text old : List ℕ) where
   values_told : (r : Reply) → r ≡ read_reply text (length old) → values_of r ≡ read_values text (length old)
@@ -113,10 +131,6 @@ module _ (text old : List ℕ) where
 
           pub refused_values : values_of (ReplyRefused number line) ≡ read_values text (length old)
           refused_values = values_told (ReplyRefused number line) refused_reply
-
-          pub refused_words : old ≡ read_words text old
-          unfolding read_words
-          refused_words = simp (le-leb 16384 (length old) room, refused_lines)
 
         module _ (p : Progress) (n : ℕ) (done : r ≡ LinesAccepted p n) where
           -- the timetable that was read, and what is kept of it

@@ -6,7 +6,7 @@ use Prim.Native.Nat.{ℕ, ◌+◌, ◌-◌, ◌*◌}
 use borrow.Author.Tests.{eq-eqb, ne_eqb, not-true, not-false}
 use lib.Dec.{leb, eqb}
 use lib.ListN.{length}
-use Rattle.words.specs.Put.{put, put_none, put_append}
+use Rattle.words.specs.Put.{put, put_none}
 use Rattle.text_shapes.specs.Shape.{shape_of}
 use Rattle.text_shapes.specs.declared.Line.{Line}
 use Rattle.text_shapes.specs.declared.Line.TheVariants.{Station, Walk, Stop, Shapeless}
@@ -28,10 +28,9 @@ use Rattle.reading.specs.Model.{
   end_of,
 }
 use Rattle.reading_lines.specs.declared.Progress.{Progress}
-use Rattle.reading.specs.declared.Lines.TheVariants.{Accepted as LinesAccepted, Refused as LinesRefused}
-use Rattle.reading.specs.declared.Next.{Next}
-use Rattle.reading.specs.declared.Next.TheVariants.{On, Refused}
-use Rattle.reading.proofs.YesLaws.{walk_room}
+use Rattle.reading.specs.Lines.{Accepted as LinesAccepted, Refused as LinesRefused}
+use Rattle.reading.specs.Next.{Next}
+use Rattle.reading.specs.Next.{On, Refused}
 
 module _ (r : Rules) (p : Progress) (line : Line) (n : ℕ) (is : n ≡ line_number_at r p line) where
   module _ (some : n ≡ 0 → ⊥) where
@@ -65,23 +64,10 @@ module _ (r : Rules) (p : Progress) (line : Line) (n : ℕ) (is : n ≡ line_num
     unfolding starts_after
     taken_starts starts old e = simp (← is, eq-eqb n 0 none) e
 
-    taken_walking : (walking old : List ℕ) → walking ≡ put (4 * p.walks) (walking_words line) old
+    pub taken_walking : (walking old : List ℕ) → walking ≡ put (4 * p.walks) (walking_words line) old
         → walking ≡ walking_after r p line old
     unfolding walking_after
     taken_walking walking old e = simp (← is, eq-eqb n 0 none) e
-
--- the words of a walk are written in two pairs
-pub taken_walk : (r : Rules) (p : Progress) (l : WalkLine) (n : ℕ) → n ≡ line_number_at r p (Walk l) → n ≡ 0
-    → (walking between old : List ℕ) → length old ≡ 1024
-    → between ≡ put (4 * p.walks) (l.from ∷ l.to ∷ []) old
-    → walking ≡ put (4 * p.walks + 2) (l.minutes ∷ l.points ∷ []) between
-    → walking ≡ walking_after r p (Walk l) old
-taken_walk r p l n is none walking between old long e f =
-    taken_walking r p (Walk l) n is none walking old
-    (f
-    ∙ ap (put (4 * p.walks + 2) (l.minutes ∷ l.points ∷ [])) e
-    ∙ put_append (4 * p.walks) 2 (l.from ∷ l.to ∷ []) (l.minutes ∷ l.points ∷ []) old refl
-    (walk_room r p l n is none old long))
 
 -- ---- a line of the text, by its shape
 module _ (r : Rules) (p : Progress) (text : List ℕ) (found shape : Line) (is : found ≡ shape_of text)

@@ -144,12 +144,8 @@ walk_yes r p l n is e = by_kind r.extra (sym is ∙ e)
 
 -- its words have room, and fit
 module _ (r : Rules) (p : Progress) (l : WalkLine) (n : ℕ) (is : n ≡ line_number_at r p (WalkIn l)) (e : n ≡ 0) where
-  pub walk_room : (walking : List ℕ) → length walking ≡ 1024 → 4 * p.walks + 2 ≤ length walking
+  pub walk_room : (walking : List ℕ) → length walking ≡ 1024 → 4 * p.walks + 4 ≤ length walking
   walk_room walking h = omega (arith, walk_yes r p l n is e)
-
-  pub walk_more_room : (old walking : List ℕ) → length old ≡ 1024 → length walking ≡ length old
-      → 4 * p.walks + 2 + 2 ≤ length walking
-  walk_more_room old walking h g = omega (arith, walk_yes r p l n is e)
 
   pub walk_minutes_word : l.minutes < 65536
   walk_minutes_word = omega (arith, walk_yes r p l n is e)

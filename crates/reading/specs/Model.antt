@@ -20,10 +20,10 @@ use Rattle.reading_lines.specs.Draft.{Rules, opening}
 use Rattle.reading_lines.specs.Progress.{Within, progress, line_number_at}
 use Rattle.reading.specs.Reading.{Outcome, Accepted, Refused, numbers_under, read_under}
 use Rattle.reading_lines.specs.declared.Progress.{Progress}
-use Rattle.reading.specs.declared.Next.{Next}
-use Rattle.reading.specs.declared.Next.TheVariants.{On, Refused as NextRefused}
-use Rattle.reading.specs.declared.Lines.{Lines}
-use Rattle.reading.specs.declared.Lines.TheVariants.{Accepted as LinesAccepted, Refused as LinesRefused}
+use Rattle.reading.specs.Next.{Next}
+use Rattle.reading.specs.Next.{On, Refused as NextRefused}
+use Rattle.reading.specs.Lines.{Lines}
+use Rattle.reading.specs.Lines.{Accepted as LinesAccepted, Refused as LinesRefused}
 
 -- stations whose words an array begins with
 unfoldable pub stations_in : List ℕ → (n : ℕ) → List Station

@@ -8,8 +8,8 @@ use Rattle.text_shapes.specs.Shape.{shape_by}
 use Rattle.timetable.specs.Timetable.{Trip, Timetable, stops_of}
 use Rattle.timetable.specs.Words.{words}
 use Rattle.reading_lines.specs.Draft.{Draft, Rules, text_rules, extra_rules, opening, blank, number_under, with_line}
-use Rattle.reading.specs.declared.Reply.{Reply}
-use Rattle.reading.specs.declared.Reply.TheVariants.{Done as ReplyDone, Refused as ReplyRefused}
+use Rattle.reading.specs.Reply.{Reply}
+use Rattle.reading.specs.Reply.{Done as ReplyDone, Refused as ReplyRefused}
 
 pub data Outcome : Type 0 where
   Accepted : Timetable → (lines : ℕ) → Outcome

@@ -9,6 +9,9 @@ ghost use Rattle.lists.specs.Lists.{range};
 ghost use Rattle.words.specs.Put.{put};
 ghost use Rattle.timetable.specs.Words.{joined};
 ghost use Rattle.reading_lines.specs.Progress.{Within, Running};
+ghost use Rattle.reading.specs.Reply.{read_seen};
+ghost use Rattle.reading.specs.Next.{next_seen};
+ghost use Rattle.reading.specs.Lines.{lines_seen};
 ghost use Rattle.reading.specs.Reading.{read_reply, values_of, read_values, read_words};
 ghost use Rattle.reading.specs.Model.{
   read_after,
@@ -22,6 +25,7 @@ ghost use Rattle.reading.specs.Model.{
   LinesRead,
 };
 
+use questions::Refusal;
 use reading_lines::{Progress, Rules};
 use text_shapes::{Line, StationLine, StopLine, WalkLine};
 
@@ -31,72 +35,59 @@ const TEXT_MOST: usize = 65536;
 
 const TRIPS_MOST: usize = timetable::TRIPS_MOST as usize;
 
-#[derive(Clone, Copy)]
-pub enum Next {
-    On(Progress),
-    Refused(u32),
+// The question that has the first no, and the line that it was put to: 0 where it was put to none.
+#[derive(Clone, Copy, PartialEq, Eq)]
+pub struct RefusedLine {
+    pub refusal: Refusal,
+    pub line: u32,
 }
 
-#[derive(Clone, Copy)]
-pub enum Lines {
-    Accepted(Progress, u32),
-    Refused { number: u32, line: u32 },
-}
+impl From<Refusal> for RefusedLine {
+    ghost from_gives = { λ refusal refused. refused ≡ record { refusal = refusal; line = 0 } };
 
-// The answer of a read: the text's lines, or the refusal's number with its line.
-#[derive(Clone, Copy)]
-pub enum Reply {
-    Done { lines: u32 },
-    Refused { number: u32, line: u32 },
+    fn from(refusal: Refusal) -> RefusedLine {
+        RefusedLine { refusal, line: 0 }
+    }
 }
 
 // Puts the questions to a station line, and where all have a yes takes its words.
-fn take_station(rules: Rules, p: Progress, l: StationLine, body: &mut [u16]) -> Next
+fn take_station(
+    rules: Rules,
+    p: Progress,
+    l: StationLine,
+    body: &mut [u16],
+) -> Result<Progress, Refusal>
     requires { Within p × (length body.old ≡ 10368) }
-    ensures { (result ≡ next_of rules p (Station l))
+    ensures { (next_seen result ≡ next_of rules p (Station l))
         × (body.new ≡ body_after rules p (Station l) body.old) }
 {
-    let number = reading_lines::station_asked(rules, p, l);
-    if number != 0 {
-        return Next::Refused(number);
-    }
-    words::put_two(body, 2 * p.stations + 5 * p.stops, l.minutes, l.points);
-    Next::On(Progress {
+    reading_lines::station_asked(rules, p, l)?;
+    words::narrow(body, 2 * p.stations + 5 * p.stops, &[l.minutes, l.points]);
+    Ok(Progress {
         stations: p.stations + 1,
-        walks: p.walks,
-        from: p.from,
-        to: p.to,
-        trips: p.trips,
-        stops: p.stops,
-        begun: p.begun,
-        station: p.station,
-        depart: p.depart,
+        ..p
     })
 }
 
 // Puts the questions to a walk line, and where all have a yes takes its words.
-fn take_walk(rules: Rules, p: Progress, l: WalkLine, walking: &mut [u16]) -> Next
+fn take_walk(
+    rules: Rules,
+    p: Progress,
+    l: WalkLine,
+    walking: &mut [u16],
+) -> Result<Progress, Refusal>
     requires { Within p × (length walking.old ≡ 1024) }
-    ensures { (result ≡ next_of rules p (Walk l))
+    ensures { (next_seen result ≡ next_of rules p (Walk l))
         × (walking.new ≡ walking_after rules p (Walk l) walking.old) }
 {
-    let number = reading_lines::walk_asked(rules, p, l);
-    if number != 0 {
-        return Next::Refused(number);
-    }
+    reading_lines::walk_asked(rules, p, l)?;
     let place = 4 * p.walks;
-    words::put_two(walking, place, l.from, l.to);
-    words::put_two(walking, place + 2, l.minutes, l.points);
-    Next::On(Progress {
-        stations: p.stations,
+    words::narrow(walking, place, &[l.from, l.to, l.minutes, l.points]);
+    Ok(Progress {
         walks: p.walks + 1,
         from: l.from,
         to: l.to,
-        trips: p.trips,
-        stops: p.stops,
-        begun: p.begun,
-        station: p.station,
-        depart: p.depart,
+        ..p
     })
 }
 
@@ -107,27 +98,20 @@ fn after_stop(p: Progress, l: StopLine) -> Progress
 {
     if l.last {
         return Progress {
-            stations: p.stations,
-            walks: p.walks,
-            from: p.from,
-            to: p.to,
             trips: p.trips + 1,
             stops: p.stops + 1,
             begun: 0,
             station: 0,
             depart: 0,
+            ..p
         };
     }
     Progress {
-        stations: p.stations,
-        walks: p.walks,
-        from: p.from,
-        to: p.to,
-        trips: p.trips,
         stops: p.stops + 1,
         begun: p.begun + 1,
         station: l.station,
         depart: l.depart,
+        ..p
     }
 }
 
@@ -144,30 +128,29 @@ fn mark_start(p: Progress, last: bool, starts: &mut [u16])
 }
 
 // Puts the questions to a stop line, and where all have a yes takes its words.
-fn take_stop(rules: Rules, p: Progress, l: StopLine, body: &mut [u16], starts: &mut [u16]) -> Next
+fn take_stop(
+    rules: Rules,
+    p: Progress,
+    l: StopLine,
+    body: &mut [u16],
+    starts: &mut [u16],
+) -> Result<Progress, Refusal>
     requires { Within p × Running rules × (length body.old ≡ 10368) × (length starts.old ≡ 257) }
-    ensures { (result ≡ next_of rules p (Stop l))
+    ensures { (next_seen result ≡ next_of rules p (Stop l))
         × (body.new ≡ body_after rules p (Stop l) body.old)
         × (starts.new ≡ starts_after rules p (Stop l) starts.old) }
 {
-    let number = reading_lines::stop_asked(rules, p, l);
-    if number != 0 {
-        return Next::Refused(number);
-    }
-    words::put_five(
+    reading_lines::stop_asked(rules, p, l)?;
+    words::narrow(
         body,
         2 * p.stations + 5 * p.stops,
-        l.station,
-        l.arrive,
-        l.depart,
-        l.points,
-        l.mark,
+        &[l.station, l.arrive, l.depart, l.points, l.mark],
     );
     mark_start(p, l.last, starts);
-    Next::On(after_stop(p, l))
+    Ok(after_stop(p, l))
 }
 
-// Takes a line, without its line end: the progress after it, or the number of the first no.
+// Takes a line, without its line end: the progress after it, or the first no.
 fn take_line(
     rules: Rules,
     p: Progress,
@@ -175,30 +158,22 @@ fn take_line(
     body: &mut [u16],
     starts: &mut [u16],
     walking: &mut [u16],
-) -> Next
+) -> Result<Progress, Refusal>
     requires { Within p
         × Running rules
         × (length body.old ≡ 10368)
         × (length starts.old ≡ 257)
         × (length walking.old ≡ 1024) }
-    ensures { (result ≡ next_of rules p (shape_of line.now))
+    ensures { (next_seen result ≡ next_of rules p (shape_of line.now))
         × (body.new ≡ body_after rules p (shape_of line.now) body.old)
         × (starts.new ≡ starts_after rules p (shape_of line.now) starts.old)
         × (walking.new ≡ walking_after rules p (shape_of line.now) walking.old) }
 {
     match text_shapes::shape(line) {
-        Line::Station(l) => {
-            return take_station(rules, p, l, body);
-        }
-        Line::Walk(l) => {
-            return take_walk(rules, p, l, walking);
-        }
-        Line::Stop(l) => {
-            return take_stop(rules, p, l, body, starts);
-        }
-        Line::Shapeless => {
-            return Next::Refused(2);
-        }
+        Line::Station(l) => take_station(rules, p, l, body),
+        Line::Walk(l) => take_walk(rules, p, l, walking),
+        Line::Stop(l) => take_stop(rules, p, l, body, starts),
+        Line::Shapeless => Err(Refusal::Shape),
     }
 }
 
@@ -213,17 +188,21 @@ fn is_there(rules: Rules, p: Progress) -> bool
 }
 
 // Question 7, when all lines are read: line is their number plus one.
-fn end_lines(rules: Rules, p: Progress, line: u32) -> Lines
+fn end_lines(rules: Rules, p: Progress, line: u32) -> Result<(Progress, u32), RefusedLine>
     requires { 1 ≤ line }
-    ensures { result ≡ end_of rules p line }
+    ensures { lines_seen result ≡ end_of rules p line }
 {
+    let refused = RefusedLine {
+        refusal: Refusal::End,
+        line,
+    };
     if !is_there(rules, p) {
-        return Lines::Refused { number: 7, line };
+        return Err(refused);
     }
     if p.begun != 0 {
-        return Lines::Refused { number: 7, line };
+        return Err(refused);
     }
-    Lines::Accepted(p, line - 1)
+    Ok((p, line - 1))
 }
 
 // Reads all lines, into the words of stations and stops, the places where trips begin and the words of walks. So many
@@ -235,14 +214,14 @@ pub fn read_lines(
     body: &mut [u16],
     starts: &mut [u16],
     walking: &mut [u16],
-) -> Lines
+) -> Result<(Progress, u32), RefusedLine>
     requires { Running rules
         × (stations ≤ 64)
         × (length body.old ≡ 10368)
         × (length starts.old ≡ 257)
         × (length walking.old ≡ 1024) }
     ensures { LinesRead rules (read_after rules body.old stations text.now)
-        result body.new starts.new walking.new body.old starts.old
+        (lines_seen result) body.new starts.new walking.new body.old starts.old
         walking.old }
 {
     starts[0] = 0;
@@ -260,20 +239,24 @@ pub fn read_lines(
     };
     let mut line = 1;
     let mut from = 0;
+    // Stays: from goes on to behind the line's end, which no range counts.
     loop {
         let end = text::piece_end(text, LINE_END, from);
         if end == n {
             if from == n {
                 return end_lines(rules, p, line);
             }
-            return Lines::Refused { number: 2, line };
+            return Err(RefusedLine {
+                refusal: Refusal::Shape,
+                line,
+            });
         }
         match take_line(rules, p, &text[from..end], body, starts, walking) {
-            Next::On(q) => {
+            Ok(q) => {
                 p = q;
             }
-            Next::Refused(number) => {
-                return Lines::Refused { number, line };
+            Err(refusal) => {
+                return Err(RefusedLine { refusal, line });
             }
         }
         line += 1;
@@ -286,10 +269,8 @@ fn count_trips(numbers: &mut [u16])
     requires { length numbers.old ≡ 256 }
     ensures { numbers.new ≡ range 1 256 }
 {
-    let mut k = 0;
-    while k < TRIPS_MOST {
+    for k in 0..TRIPS_MOST {
         numbers[k] = (k + 1) as u16;
-        k += 1;
     }
 }
 
@@ -321,17 +302,23 @@ fn write_timetable(
     );
 }
 
-// Reads a text into the lent words of a timetable.
-pub fn read(text: &[u8], timetable: &mut [u16]) -> Reply
-    ensures reply { result ≡ read_reply text.now (length timetable.old) }
-    ensures values { values_of result ≡ read_values text.now (length timetable.old) }
+// Reads a text into the lent words of a timetable. Returns the number of lines.
+pub fn read(text: &[u8], timetable: &mut [u16]) -> Result<u32, RefusedLine>
+    ensures reply { read_seen result ≡ read_reply text.now (length timetable.old) }
+    ensures values { values_of (read_seen result) ≡ read_values text.now (length timetable.old) }
     ensures words { timetable.new ≡ read_words text.now timetable.old }
 {
     if timetable.len() < timetable::WORDS_LEAST {
-        return Reply::Refused { number: 8, line: 0 };
+        return Err(RefusedLine {
+            refusal: Refusal::Space,
+            line: 0,
+        });
     }
     if TEXT_MOST < text.len() {
-        return Reply::Refused { number: 1, line: 0 };
+        return Err(RefusedLine {
+            refusal: Refusal::TextTooLong,
+            line: 0,
+        });
     }
     let mut body = [0u16; timetable::BODY_WORDS];
     let mut starts = [0u16; timetable::STARTS_WORDS];
@@ -342,13 +329,7 @@ pub fn read(text: &[u8], timetable: &mut [u16]) -> Reply
         trips: 0,
         stops: 0,
     };
-    match read_lines(rules, 0, text, &mut body, &mut starts, &mut walking) {
-        Lines::Refused { number, line } => {
-            return Reply::Refused { number, line };
-        }
-        Lines::Accepted(p, lines) => {
-            write_timetable(timetable, p, &body, &starts, &walking);
-            return Reply::Done { lines };
-        }
-    }
+    let (p, lines) = read_lines(rules, 0, text, &mut body, &mut starts, &mut walking)?;
+    write_timetable(timetable, p, &body, &starts, &walking);
+    Ok(lines)
 }

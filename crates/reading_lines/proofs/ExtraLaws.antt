@@ -13,6 +13,7 @@ use Rattle.text_shapes.specs.declared.StopLine.{StopLine}
 use Rattle.reading_lines.specs.Draft.{Rules, walk_in_range, stop_in_range, extra_station, extra_walk, extra_in_range}
 use Rattle.reading_lines.specs.Progress.{stop_fits_at, place_of_extra, room_for_extra, extra_stop_at}
 use Rattle.reading_lines.specs.declared.Progress.{Progress}
+use Rattle.reading_lines.proofs.NumberLaws.{asked_no, asked_yes}
 
 -- ---- which questions a line has
 module _ (r : Rules) (a b n : ℕ) where
@@ -40,21 +41,21 @@ module _ (l : StationLine) (m : ℕ) (is_m : m ≡ range_number 1 l.minutes) whe
     extra_astray h = simp (range_in 1 l.minutes m is_m in-m, range_in 2 l.points q is-q h)
 
 -- ---- a walk line
-module _ (l : WalkLine) (t : Bool) (is_t : t ≡ walk_in_range l) where
-  pub extra_walk_out : not t ≡ true → 3 ≡ extra_walk l
+module _ (l : WalkLine) (t : ℕ) (is_t : t ≡ cond (walk_in_range l) 0 3) where
+  pub extra_walk_out : (t ≡ 0 → ⊥) → t ≡ extra_walk l
   unfolding extra_walk
-  extra_walk_out h = simp (← is_t, not-true t h)
+  extra_walk_out h = is_t ∙ simp (asked_no (walk_in_range l) t is_t h)
 
-  pub extra_walk_astray : not t ≡ false → 4 ≡ extra_walk l
+  pub extra_walk_astray : t ≡ 0 → 4 ≡ extra_walk l
   unfolding extra_walk
-  extra_walk_astray h = simp (← is_t, not-false t h)
+  extra_walk_astray h = simp (asked_yes (walk_in_range l) t is_t h)
 
 -- ---- a stop line: its range
 module _ (l : StopLine) where
-  pub no_trip : l.trip < 1 → false ≡ extra_in_range l
+  pub no_trip : l.trip < 1 → ◌≡◌ {A = ℕ} 3 (cond (extra_in_range l) 0 3)
   no_trip h = simp (lt-leb 1 l.trip h)
 
-  pub trip_some : 1 ≤ l.trip → (t : Bool) → t ≡ stop_in_range l → t ≡ extra_in_range l
+  pub trip_some : 1 ≤ l.trip → (t : ℕ) → t ≡ cond (stop_in_range l) 0 3 → t ≡ cond (extra_in_range l) 0 3
   trip_some h t e = e ∙ simp (le-leb 1 l.trip h)
 
 -- its place
@@ -78,26 +79,29 @@ module _ (r : Rules) (p : Progress) where
   stops_decide h = simp (lt-ltb (r.trips + p.trips) 256 h)
 
 -- and all questions
-module _ (r : Rules) (p : Progress) (l : StopLine) (a : Bool) (is-a : a ≡ extra_in_range l) where
-  pub out_of_range : not a ≡ true → 3 ≡ extra_stop_at r p l
+module _ (r : Rules) (p : Progress) (l : StopLine) (a : ℕ) (is-a : a ≡ cond (extra_in_range l) 0 3) where
+  pub out_of_range : (a ≡ 0 → ⊥) → a ≡ extra_stop_at r p l
   unfolding extra_stop_at
-  out_of_range h = simp (← is-a, not-true a h)
+  out_of_range h = is-a ∙ simp (asked_no (extra_in_range l) a is-a h)
 
-  module _ (in_range_lem : not a ≡ false) (b : Bool) (is_b : b ≡ place_of_extra r p l) where
+  module _ (zero-a : a ≡ 0) (b : Bool) (is_b : b ≡ place_of_extra r p l) where
+    in_range_lem : extra_in_range l ≡ true
+    in_range_lem = asked_yes (extra_in_range l) a is-a zero-a
+
     pub out_of_place : not b ≡ true → 4 ≡ extra_stop_at r p l
     unfolding extra_stop_at
-    out_of_place h = simp (← is-a, not-false a in_range_lem, ← is_b, not-true b h)
+    out_of_place h = simp (in_range_lem, ← is_b, not-true b h)
 
     module _ (in_place : not b ≡ false) (c : Bool) (is_c : c ≡ room_for_extra r p) where
       pub too_many : not c ≡ true → 5 ≡ extra_stop_at r p l
       unfolding extra_stop_at
-      too_many h = simp (← is-a, not-false a in_range_lem, ← is_b, not-false b in_place, ← is_c, not-true c h)
+      too_many h = simp (in_range_lem, ← is_b, not-false b in_place, ← is_c, not-true c h)
 
       module _ (counted : not c ≡ false) (f : Bool) (is_f : f ≡ stop_fits_at p l) where
         all_asked : extra_stop_at r p l ≡ first_no (ask 6 f ∷ [])
         unfolding extra_stop_at
         all_asked =
-            simp (← is-a, not-false a in_range_lem, ← is_b, not-false b in_place, ← is_c, not-false c counted, ← is_f)
+            simp (in_range_lem, ← is_b, not-false b in_place, ← is_c, not-false c counted, ← is_f)
 
         pub stop_taken : f ≡ true → 0 ≡ extra_stop_at r p l
         stop_taken h = sym (all_asked ∙ simp h)

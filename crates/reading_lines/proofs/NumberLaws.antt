@@ -1,11 +1,13 @@
 -- The ways out of the functions that put the questions to a line, on plain values.
 use mathlib.Core.Path.{◌≡◌, sym, ◌∙◌}
-use mathlib.Core.Bool.{Bool, true, false, not, ◌&&◌, ◌||◌}
+use mathlib.Core.Path.{refl}
+use mathlib.Core.Bool.{Bool, true, false, cond, not, ◌&&◌, ◌||◌}
 use mathlib.Core.List.{[], ◌∷◌}
 use Prim.Native.Nat.{ℕ, ◌+◌, ◌≤◌, ◌<◌}
+use native.Mathlib.Omega.{arith}
 use borrow.Author.Tests.{lt-ltb, le-ltb, le-leb, lt-leb, eq-eqb, ne_eqb, not-true, not-false}
 use lib.Dec.{leb, ltb, eqb}
-use Rattle.text.specs.Range.{in_range, range_number, range_in, range_out, range_three, range_test}
+use Rattle.text.specs.Range.{in_range, range_number, range_in, range_out, range_three, range_is}
 use Rattle.questions.specs.Question.{ask, first_no}
 use Rattle.text_shapes.specs.declared.StationLine.{StationLine}
 use Rattle.text_shapes.specs.declared.WalkLine.{WalkLine}
@@ -22,6 +24,15 @@ use Rattle.reading_lines.specs.Progress.{
   stop_fits_at,
 }
 use Rattle.reading_lines.specs.declared.Progress.{Progress}
+
+-- ---- what the number of question 3 says of its test
+pub asked_no : (b : Bool) (t : ℕ) → t ≡ cond b 0 3 → (t ≡ 0 → ⊥) → b ≡ false
+asked_no true t is h = absurd (h is)
+asked_no false t is h = refl
+
+pub asked_yes : (b : Bool) (t : ℕ) → t ≡ cond b 0 3 → t ≡ 0 → b ≡ true
+asked_yes true t is e = refl
+asked_yes false t is e = absurd (omega arith)
 
 -- ---- a station line
 module _ (p : Progress) (l : StationLine) (m : ℕ) (is_m : m ≡ range_number 1 l.minutes) where
@@ -81,12 +92,11 @@ module _ (p : Progress) (l : StationLine) (m : ℕ) (is_m : m ≡ range_number 1
 
 -- ---- a walk line: its range
 module _ (l : WalkLine) (m : ℕ) (is_m : m ≡ range_number 6 l.minutes) where
-  pub walk_minutes_out : (m ≡ 0 → ⊥) → false ≡ walk_in_range l
-  walk_minutes_out h = simp (range_out 6 l.minutes m is_m h)
+  pub walk_minutes_out : (m ≡ 0 → ⊥) → m ≡ cond (walk_in_range l) 0 3
+  walk_minutes_out h = range_three 6 l.minutes m is_m h ∙ simp (range_out 6 l.minutes m is_m h)
 
-  pub walk_points_decide : m ≡ 0 → (q : ℕ) → q ≡ range_number 2 l.points → eqb q 0 ≡ walk_in_range l
-  walk_points_decide in-m q is-q =
-      sym (simp (range_in 6 l.minutes m is_m in-m, range_test 2 l.points q is-q))
+  pub walk_points_decide : m ≡ 0 → (q : ℕ) → q ≡ range_number 2 l.points → q ≡ cond (walk_in_range l) 0 3
+  walk_points_decide in-m q is-q = range_is 2 l.points q is-q ∙ sym (simp (range_in 6 l.minutes m is_m in-m))
 
 -- its order
 module _ (p : Progress) (l : WalkLine) where
@@ -130,25 +140,28 @@ module _ (p : Progress) (l : WalkLine) where
       to_decides h = simp (le-leb 1 l.from some, le-leb l.from p.stations listed, le-leb 1 l.to h)
 
 -- and all questions
-module _ (p : Progress) (l : WalkLine) (t : Bool) (is_t : t ≡ walk_in_range l) where
-  pub walk_out_of_range : not t ≡ true → 3 ≡ walk_number_at p l
+module _ (p : Progress) (l : WalkLine) (t : ℕ) (is_t : t ≡ cond (walk_in_range l) 0 3) where
+  pub walk_out_of_range : (t ≡ 0 → ⊥) → t ≡ walk_number_at p l
   unfolding walk_number_at
-  walk_out_of_range h = simp (← is_t, not-true t h)
+  walk_out_of_range h = is_t ∙ simp (asked_no (walk_in_range l) t is_t h)
 
-  module _ (still : not t ≡ false) where
+  module _ (still : t ≡ 0) where
+    walk_in_range_lem : walk_in_range l ≡ true
+    walk_in_range_lem = asked_yes (walk_in_range l) t is_t still
+
     pub walk_behind_stops : (p.stops ≡ 0 → ⊥) → 4 ≡ walk_number_at p l
     unfolding walk_number_at
-    walk_behind_stops h = simp (← is_t, not-false t still, ne_eqb p.stops 0 h)
+    walk_behind_stops h = simp (walk_in_range_lem, ne_eqb p.stops 0 h)
 
     module _ (none : p.stops ≡ 0) (u : Bool) (is-u : u ≡ rises_at p l) where
       pub walk_falls : not u ≡ true → 4 ≡ walk_number_at p l
       unfolding walk_number_at
-      walk_falls h = simp (← is_t, not-false t still, eq-eqb p.stops 0 none, ← is-u, not-true u h)
+      walk_falls h = simp (walk_in_range_lem, eq-eqb p.stops 0 none, ← is-u, not-true u h)
 
       module _ (up : not u ≡ false) where
         walk_placed : walk_number_at p l ≡ first_no (ask 5 (room_for_walk p) ∷ ask 6 (walk_fits_at p l) ∷ [])
         unfolding walk_number_at
-        walk_placed = simp (← is_t, not-false t still, eq-eqb p.stops 0 none, ← is-u, not-false u up)
+        walk_placed = simp (walk_in_range_lem, eq-eqb p.stops 0 none, ← is-u, not-false u up)
 
         pub walks_full : 256 ≤ p.walks → 5 ≡ walk_number_at p l
         walks_full h = sym (walk_placed ∙ simp (le-ltb p.walks 256 h))
@@ -214,45 +227,48 @@ module _ (p : Progress) (l : StopLine) where
 
 -- ---- a stop line: its range
 module _ (l : StopLine) (a : ℕ) (is-a : a ≡ range_number 3 l.arrive) where
-  pub arrive_out : (a ≡ 0 → ⊥) → false ≡ stop_in_range l
+  pub arrive_out : (a ≡ 0 → ⊥) → a ≡ cond (stop_in_range l) 0 3
   unfolding stop_in_range
-  arrive_out h = simp (range_out 3 l.arrive a is-a h)
+  arrive_out h = range_three 3 l.arrive a is-a h ∙ simp (range_out 3 l.arrive a is-a h)
 
   module _ (in-a : a ≡ 0) (d : ℕ) (is-d : d ≡ range_number 3 l.depart) where
-    pub depart_out : (d ≡ 0 → ⊥) → false ≡ stop_in_range l
+    pub depart_out : (d ≡ 0 → ⊥) → d ≡ cond (stop_in_range l) 0 3
     unfolding stop_in_range
-    depart_out h = simp (range_in 3 l.arrive a is-a in-a, range_out 3 l.depart d is-d h)
+    depart_out h =
+        range_three 3 l.depart d is-d h
+        ∙ simp (range_in 3 l.arrive a is-a in-a, range_out 3 l.depart d is-d h)
 
     module _ (in-d : d ≡ 0) (q : ℕ) (is-q : q ≡ range_number 4 l.points) where
-      pub ride_out : (q ≡ 0 → ⊥) → false ≡ stop_in_range l
+      pub ride_out : (q ≡ 0 → ⊥) → q ≡ cond (stop_in_range l) 0 3
       unfolding stop_in_range
       ride_out h =
-          simp (
+          range_three 4 l.points q is-q h
+          ∙ simp (
             range_in 3 l.arrive a is-a in-a,
             range_in 3 l.depart d is-d in-d,
             range_out 4 l.points q is-q h,
           )
 
-      pub mark_decides : q ≡ 0 → (m : ℕ) → m ≡ range_number 5 l.mark → eqb m 0 ≡ stop_in_range l
+      pub mark_decides : q ≡ 0 → (m : ℕ) → m ≡ range_number 5 l.mark → m ≡ cond (stop_in_range l) 0 3
       unfolding stop_in_range
       mark_decides in-q m is_m =
-          sym
+          range_is 5 l.mark m is_m
+          ∙ sym
           (simp (
             range_in 3 l.arrive a is-a in-a,
             range_in 3 l.depart d is-d in-d,
             range_in 4 l.points q is-q in-q,
-            range_test 5 l.mark m is_m,
           ))
 
 -- ---- a stop line: all questions
-module _ (p : Progress) (l : StopLine) (t : Bool) (is_t : t ≡ stop_in_range l) where
-  pub out_of_range : not t ≡ true → 3 ≡ stop_number_at p l
+module _ (p : Progress) (l : StopLine) (t : ℕ) (is_t : t ≡ cond (stop_in_range l) 0 3) where
+  pub out_of_range : (t ≡ 0 → ⊥) → t ≡ stop_number_at p l
   unfolding stop_number_at
-  out_of_range h = simp (← is_t, not-true t h)
+  out_of_range h = is_t ∙ simp (asked_no (stop_in_range l) t is_t h)
 
-  module _ (still : not t ≡ false) where
+  module _ (still : t ≡ 0) where
     in_range_lem : stop_in_range l ≡ true
-    in_range_lem = sym is_t ∙ not-false t still
+    in_range_lem = asked_yes (stop_in_range l) t is_t still
 
     pub other_trip : (l.trip ≡ p.trips + 1 → ⊥) → 4 ≡ stop_number_at p l
     unfolding stop_number_at

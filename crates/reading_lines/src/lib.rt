@@ -2,7 +2,8 @@
 //! lines of an extra trip.
 #![tactic(auto)]
 
-ghost use Rattle.std.specs.Prelude.{◌≡◌};
+ghost use Rattle.std.specs.Prelude.{◌≡◌, cond};
+ghost use Rattle.questions.specs.Refused.{number_seen};
 ghost use Rattle.text_shapes.specs.declared.Line.TheVariants.{Station, Walk, Stop};
 ghost use Rattle.reading_lines.specs.Draft.{walk_in_range, stop_in_range, extra_station, extra_walk, extra_in_range};
 ghost use Rattle.reading_lines.specs.Progress.{
@@ -20,6 +21,7 @@ ghost use Rattle.reading_lines.specs.Progress.{
   line_number_at,
 };
 
+use questions::Refusal;
 use text_shapes::{StationLine, StopLine, WalkLine};
 
 const STATIONS_MOST: usize = timetable::STATIONS_MOST as usize;
@@ -56,42 +58,34 @@ pub struct Rules {
     pub stops: usize,
 }
 
-// Questions 3 to 5 to a station line: 0, or the number of the first no.
-fn station_number(p: Progress, l: StationLine) -> u32
+// Questions 3 to 5 to a station line.
+fn station_number(p: Progress, l: StationLine) -> Result<(), Refusal>
     requires { Within p }
-    ensures { result ≡ station_number_at p l }
+    ensures { number_seen result ≡ station_number_at p l }
 {
-    let minutes = text::range_number(text::CHANGE_MINUTES, l.minutes);
-    if minutes != 0 {
-        return minutes;
-    }
-    let points = text::range_number(text::CHANGE_PENALTY, l.points);
-    if points != 0 {
-        return points;
-    }
+    text::range_number(text::CHANGE_MINUTES, l.minutes)?;
+    text::range_number(text::CHANGE_PENALTY, l.points)?;
     if p.walks != 0 {
-        return 4;
+        return Err(Refusal::Place);
     }
     if p.stops != 0 {
-        return 4;
+        return Err(Refusal::Place);
     }
     if l.number as usize != p.stations + 1 {
-        return 4;
+        return Err(Refusal::Place);
     }
     if STATIONS_MOST <= p.stations {
-        return 5;
+        return Err(Refusal::Count);
     }
-    0
+    Ok(())
 }
 
 // Question 3 to a walk line.
-fn walk_in_range(l: WalkLine) -> bool
-    ensures { result ≡ walk_in_range l }
+fn walk_in_range(l: WalkLine) -> Result<(), Refusal>
+    ensures { number_seen result ≡ cond (walk_in_range l) 0 3 }
 {
-    if text::range_number(text::WALK_MINUTES, l.minutes) != 0 {
-        return false;
-    }
-    text::range_number(text::CHANGE_PENALTY, l.points) == 0
+    text::range_number(text::WALK_MINUTES, l.minutes)?;
+    text::range_number(text::CHANGE_PENALTY, l.points)
 }
 
 // The walk comes after the one before: by from, then to.
@@ -127,43 +121,35 @@ fn walk_fits(p: Progress, l: WalkLine) -> bool
     l.to as usize <= p.stations
 }
 
-// Questions 3 to 6 to a walk line: 0, or the number of the first no.
-fn walk_number(p: Progress, l: WalkLine) -> u32
+// Questions 3 to 6 to a walk line.
+fn walk_number(p: Progress, l: WalkLine) -> Result<(), Refusal>
     requires { Within p }
-    ensures { result ≡ walk_number_at p l }
+    ensures { number_seen result ≡ walk_number_at p l }
 {
-    if !walk_in_range(l) {
-        return 3;
-    }
+    walk_in_range(l)?;
     if p.stops != 0 {
-        return 4;
+        return Err(Refusal::Place);
     }
     if !walk_rises(p, l) {
-        return 4;
+        return Err(Refusal::Place);
     }
     if WALKS_MOST <= p.walks {
-        return 5;
+        return Err(Refusal::Count);
     }
     if walk_fits(p, l) {
-        return 0;
+        return Ok(());
     }
-    6
+    Err(Refusal::Fit)
 }
 
 // Question 3 to a stop line.
-fn stop_in_range(l: StopLine) -> bool
-    ensures { result ≡ stop_in_range l }
+fn stop_in_range(l: StopLine) -> Result<(), Refusal>
+    ensures { number_seen result ≡ cond (stop_in_range l) 0 3 }
 {
-    if text::range_number(text::TIME, l.arrive) != 0 {
-        return false;
-    }
-    if text::range_number(text::TIME, l.depart) != 0 {
-        return false;
-    }
-    if text::range_number(text::RIDE_PENALTY, l.points) != 0 {
-        return false;
-    }
-    text::range_number(text::MARK, l.mark) == 0
+    text::range_number(text::TIME, l.arrive)?;
+    text::range_number(text::TIME, l.depart)?;
+    text::range_number(text::RIDE_PENALTY, l.points)?;
+    text::range_number(text::MARK, l.mark)
 }
 
 // Question 6 to a stop line.
@@ -192,63 +178,53 @@ fn stop_fits(p: Progress, l: StopLine) -> bool
     l.arrive <= l.depart
 }
 
-// Questions 3 to 6 to a stop line: 0, or the number of the first no.
-fn stop_number(p: Progress, l: StopLine) -> u32
+// Questions 3 to 6 to a stop line.
+fn stop_number(p: Progress, l: StopLine) -> Result<(), Refusal>
     requires { Within p }
-    ensures { result ≡ stop_number_at p l }
+    ensures { number_seen result ≡ stop_number_at p l }
 {
-    if !stop_in_range(l) {
-        return 3;
-    }
+    stop_in_range(l)?;
     if l.trip as usize != p.trips + 1 {
-        return 4;
+        return Err(Refusal::Place);
     }
     if l.stop as usize != p.begun + 1 {
-        return 4;
+        return Err(Refusal::Place);
     }
     if TRIPS_MOST <= p.trips {
-        return 5;
+        return Err(Refusal::Count);
     }
     if STOPS_MOST <= p.stops {
-        return 5;
+        return Err(Refusal::Count);
     }
     if stop_fits(p, l) {
-        return 0;
+        return Ok(());
     }
-    6
+    Err(Refusal::Fit)
 }
 
 // Questions 3 and 4 to a station line of an extra trip: none is in place there.
-fn extra_station(l: StationLine) -> u32
-    ensures { result ≡ extra_station l }
+fn extra_station(l: StationLine) -> Result<(), Refusal>
+    ensures { number_seen result ≡ extra_station l }
 {
-    let minutes = text::range_number(text::CHANGE_MINUTES, l.minutes);
-    if minutes != 0 {
-        return minutes;
-    }
-    let points = text::range_number(text::CHANGE_PENALTY, l.points);
-    if points != 0 {
-        return points;
-    }
-    4
+    text::range_number(text::CHANGE_MINUTES, l.minutes)?;
+    text::range_number(text::CHANGE_PENALTY, l.points)?;
+    Err(Refusal::Place)
 }
 
 // Questions 3 and 4 to a walk line of an extra trip: none is in place there either.
-fn extra_walk(l: WalkLine) -> u32
-    ensures { result ≡ extra_walk l }
+fn extra_walk(l: WalkLine) -> Result<(), Refusal>
+    ensures { number_seen result ≡ extra_walk l }
 {
-    if !walk_in_range(l) {
-        return 3;
-    }
-    4
+    walk_in_range(l)?;
+    Err(Refusal::Place)
 }
 
 // Question 3 to a stop line of an extra trip.
-fn extra_in_range(l: StopLine) -> bool
-    ensures { result ≡ extra_in_range l }
+fn extra_in_range(l: StopLine) -> Result<(), Refusal>
+    ensures { number_seen result ≡ cond (extra_in_range l) 0 3 }
 {
     if l.trip < 1 {
-        return false;
+        return Err(Refusal::Range);
     }
     stop_in_range(l)
 }
@@ -278,30 +254,28 @@ fn extra_counted(rules: Rules, p: Progress) -> bool
     rules.stops + p.stops < STOPS_MOST
 }
 
-// Questions 3 to 6 to a stop line of an extra trip: 0, or the number of the first no.
-fn extra_stop(rules: Rules, p: Progress, l: StopLine) -> u32
+// Questions 3 to 6 to a stop line of an extra trip.
+fn extra_stop(rules: Rules, p: Progress, l: StopLine) -> Result<(), Refusal>
     requires { Within p × Running rules }
-    ensures { result ≡ extra_stop_at rules p l }
+    ensures { number_seen result ≡ extra_stop_at rules p l }
 {
-    if !extra_in_range(l) {
-        return 3;
-    }
+    extra_in_range(l)?;
     if !extra_in_place(rules, p, l) {
-        return 4;
+        return Err(Refusal::Place);
     }
     if !extra_counted(rules, p) {
-        return 5;
+        return Err(Refusal::Count);
     }
     if stop_fits(p, l) {
-        return 0;
+        return Ok(());
     }
-    6
+    Err(Refusal::Fit)
 }
 
-// Questions 3 to 6 to a station line, in a text or of an extra trip: 0, or the number of the first no.
-pub fn station_asked(rules: Rules, p: Progress, l: StationLine) -> u32
+// Questions 3 to 6 to a station line, in a text or of an extra trip.
+pub fn station_asked(rules: Rules, p: Progress, l: StationLine) -> Result<(), Refusal>
     requires { Within p }
-    ensures { result ≡ line_number_at rules p (Station l) }
+    ensures { number_seen result ≡ line_number_at rules p (Station l) }
 {
     if rules.extra {
         return extra_station(l);
@@ -310,9 +284,9 @@ pub fn station_asked(rules: Rules, p: Progress, l: StationLine) -> u32
 }
 
 // The same to a walk line.
-pub fn walk_asked(rules: Rules, p: Progress, l: WalkLine) -> u32
+pub fn walk_asked(rules: Rules, p: Progress, l: WalkLine) -> Result<(), Refusal>
     requires { Within p }
-    ensures { result ≡ line_number_at rules p (Walk l) }
+    ensures { number_seen result ≡ line_number_at rules p (Walk l) }
 {
     if rules.extra {
         return extra_walk(l);
@@ -321,9 +295,9 @@ pub fn walk_asked(rules: Rules, p: Progress, l: WalkLine) -> u32
 }
 
 // The same to a stop line.
-pub fn stop_asked(rules: Rules, p: Progress, l: StopLine) -> u32
+pub fn stop_asked(rules: Rules, p: Progress, l: StopLine) -> Result<(), Refusal>
     requires { Within p × Running rules }
-    ensures { result ≡ line_number_at rules p (Stop l) }
+    ensures { number_seen result ≡ line_number_at rules p (Stop l) }
 {
     if rules.extra {
         return extra_stop(rules, p, l);

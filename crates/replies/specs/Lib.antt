@@ -1,2 +1,3 @@
+pub mod Reply
 pub mod Replies
 pub mod Later

@@ -1,7 +1,7 @@
 -- What a call answers and writes, from the number of its first no and its result. Document 01: "A refusal returns its
 -- number, .. count 0, and writes no word of any result slice. Words past a result keep their values"; "Success has
 -- number 0."
-use Rattle.std.specs.Prelude.{◌≡◌, eqb}
+use Rattle.std.specs.Prelude.{◌≡◌, pred, eqb}
 use Rattle.std.proofs.Math.Path.{refl, ap}
 use Rattle.std.proofs.Common.{◌∙◌}
 use Rattle.std.proofs.Math.Bool.{cond}
@@ -9,8 +9,9 @@ use mathlib.Core.List.{List, [], ◌∷◌}
 use Prim.Native.Nat.{ℕ, zero, suc}
 use Rattle.std.proofs.Math.Dec.{eqb-suc-zero}
 use Rattle.words.specs.Put.{put}
-use Rattle.replies.specs.declared.Reply.{Reply}
-use Rattle.replies.specs.declared.Reply.TheVariants.{Done, Refused}
+use Rattle.questions.specs.declared.Refusal.{Refusal}
+use Rattle.questions.specs.Refused.{question_number, number_after}
+use Rattle.replies.specs.Reply.{Reply, Done, Refused}
 
 -- each case of the reply has its number and count
 abbrev pub number_of : Reply → ℕ
@@ -47,6 +48,10 @@ module _ (number count : ℕ) where
   unfolding reply_of
   reply_refused n e = rw (← e, eqb-suc-zero n)
 
+  -- the refusal of a question is refused by its number
+  pub reply_asked : (r : Refusal) → question_number r ≡ number → Refused (question_number r) ≡ reply_of number count
+  reply_asked r e = rw (← number_after r) (reply_refused (pred (question_number r)) (number_after r ∙ e))
+
   pub reply_number : number_of (reply_of number count) ≡ number
   unfolding reply_of
   reply_number = go number
@@ -72,3 +77,6 @@ module _ (number : ℕ) (result old : List ℕ) where
   pub words_kept : (n : ℕ) → suc n ≡ number → old ≡ words_after number result old
   unfolding words_after
   words_kept n e = rw (← e, eqb-suc-zero n)
+
+  pub words_asked : (r : Refusal) → question_number r ≡ number → old ≡ words_after number result old
+  words_asked r e = words_kept (pred (question_number r)) (number_after r ∙ e)

@@ -1,9 +1,2 @@
-//! What a call returns: a count, or the number of the first question that has a no.
+//! What a call returns: a count, or the question that has the first no. Definitions only: the code returns a Result.
 #![tactic(auto)]
-
-// The answer of a call that writes a result.
-#[derive(Clone, Copy)]
-pub enum Reply {
-    Done { count: u32 },
-    Refused { number: u32 },
-}

@@ -10,7 +10,7 @@ use lib.Dec.{leb}
 use lib.ListN.{length}
 use Rattle.words.specs.Put.{put}
 use Rattle.lists.specs.Tests.{and_false}
-use Rattle.replies.specs.declared.Reply.TheVariants.{Done, Refused}
+use Rattle.replies.specs.Reply.{Done, Refused}
 use Rattle.replies.specs.Replies.{reply_done, reply_refused, words_done, words_kept}
 use Rattle.timetable.specs.Words.{is_timetable}
 use Rattle.stores.specs.Words.{nodes, arcs, entries_most, encode, store_words}

@@ -8,8 +8,8 @@ use native.Mathlib.Omega.{arith}
 use borrow.Author.Tests.{leb-true, not-true, not-false}
 use Rattle.questions.specs.Question.{ask, first_no, yes_here, yes_later}
 use Rattle.lists.specs.Tests.{and_left, and_right}
-use Rattle.replies.specs.declared.Reply.{Reply}
-use Rattle.replies.specs.declared.Reply.TheVariants.{Refused}
+use Rattle.replies.specs.Reply.{Reply}
+use Rattle.replies.specs.Reply.{Refused}
 use Rattle.replies.specs.Replies.{reply_of, words_after, reply_refused, words_kept}
 use Rattle.replies.specs.Later.{asked_on, asked_out}
 use Rattle.timetable.specs.Words.{timetable_of, station_count, is_timetable}

@@ -234,9 +234,9 @@ module _ (w : List ℕ) (good : is_timetable w ≡ true) (j base begin end : ℕ
         same = λ m h. get_or-set_other chained (base + k) m f 0 (λ q. omega arith) ∙ so_far.same m h;
       }
 
-  pub walks_kept : (k : ℕ) (chained : List ℕ) → k ≤ end → end ≤ k → KeptWalks w j base begin k chained
+  pub walks_kept : (k : ℕ) (chained : List ℕ) → end ≤ k → KeptWalks w j base begin k chained
       → KeptWalks w j base begin end chained
-  walks_kept k chained most least so_far = record { is = λ i h g. so_far.is i h (omega arith) }
+  walks_kept k chained least so_far = record { is = λ i h g. so_far.is i h (omega arith) }
 
 module _ (w : List ℕ) (good : is_timetable w ≡ true) (chained first : List ℕ) (stands : Standing w chained first) where
   pub still_long : length chained ≡ 20480

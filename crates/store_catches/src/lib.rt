@@ -20,8 +20,8 @@ ghost use Rattle.store_catches.specs.Keeping.{KeptWalks, Keeping};
 use results::Minutes;
 use timetable::Walk;
 
-// No stop.
-const NOWHERE: u16 = 65535;
+// No stop: a word of 16 bits of what is caught, which has no room for an Option beside it.
+pub const NOWHERE: u16 = 65535;
 
 // ---- the search for what is caught
 
@@ -123,17 +123,15 @@ pub fn find_catches(words: &[u16], chain: &[u16], first: &[u32], catches: &mut [
     ensures catches_len { length catches.new ≡ 2048 }
 {
     let n = store_departures::index_at(first, store_departures::STATION_KEYS);
-    let mut k = 0;
-    while k < n {
+    for k in 0..n {
         let j = words::word(chain, k) as usize + 1;
         catches[j] = catch_at(words, chain, first, j);
-        k += 1;
     }
 }
 
 // Behind the chain each stop has a word: where what is caught on foot after the arrival there stands, less the place of
 // the walk; 0 if it is not kept. Behind these words stand the departures caught.
-const KEPT: usize = timetable::STOPS_MOST as usize;
+const KEPT: usize = store_departures::STOPS_MOST;
 
 const KEPT_FIRST: usize = 2 * KEPT;
 
@@ -160,10 +158,8 @@ fn keep_walks(
     ensures front { Front (base + begin) chain.old chain.new }
     ensures chain_len { length chain.new ≡ 20480 }
 {
-    let mut k = begin;
-    while k < end {
+    for k in begin..end {
         chain[base + k] = seek_on_foot(words, chain, first, k, j);
-        k += 1;
     }
 }
 
@@ -203,11 +199,9 @@ pub fn keep_catches(words: &[u16], chain: &mut [u16], first: &[u32])
 {
     let n = store_departures::index_at(first, store_departures::STATION_KEYS);
     let mut at = KEPT_FIRST;
-    let mut k = 0;
-    while k < n {
+    for k in 0..n {
         let j = words::word(chain, k) as usize + 1;
         at = keep_arrival(words, chain, first, j, at);
-        k += 1;
     }
 }
 

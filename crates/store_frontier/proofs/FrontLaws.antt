@@ -15,6 +15,7 @@ use Rattle.store_frontier.specs.Front.{
   Least,
   MinuteTo,
   MinuteEnd,
+  minute_out,
   mark_of,
   Marked,
   LeftOut,
@@ -57,12 +58,19 @@ module _ (w arrivals : List ℕ) (p end : ℕ) (run : Run w arrivals p end) wher
     pub first_stop : get_or arrivals p 0 < 2048
     first_stop = run.held.stop p (omega arith) b
 
-  module _ (q : ℕ) (most : q ≤ end) (m : MinuteTo w arrivals p q) (n : q ≡ end → ⊥) where
+  module _ (q : ℕ) (m : MinuteTo w arrivals p q) (n : q < end) where
     pub next_place : q < length arrivals
-    next_place = omega (arith, n, run.held.inside)
+    next_place = omega (arith, run.held.inside)
 
     pub next_stop : get_or arrivals q 0 < 2048
-    next_stop = run.held.stop q (omega (arith, m.later)) (omega (arith, n))
+    next_stop = run.held.stop q (omega (arith, m.later)) n
+
+-- no minute ends the arrivals
+pub minute_last : (w arrivals : List ℕ) (p q end : ℕ) → MinuteTo w arrivals p q → q ≤ end → end ≤ q
+    → MinuteEnd w arrivals p end end
+minute_last w arrivals p q end m h g =
+    let last : q ≡ end = omega arith in
+    subst (λ n. MinuteEnd w arrivals p end n) last (minute_out w arrivals p q m end last)
 
 -- ---- the least
 module _ (arrivals v : List ℕ) (top p q r low : ℕ) (l : Least arrivals v top p r low) where
@@ -181,14 +189,14 @@ module _ (w arrivals first : List ℕ) (c begin end : ℕ) (is-begin : begin ≡
 
 module _ (w : List ℕ) (source : ℕ) (v : List ℕ) (c stations : ℕ) (v' : List ℕ) (t : Timely w)
     (is : stations ≡ station_count w) (k : Allowing w source v c v') where
-  pub station_listed : c ≤ stations → c ≤ station_count w
+  pub station_listed : c < stations + 1 → c ≤ station_count w
   station_listed h = omega arith
 
-  pub stations_more : (arrivals first v'' : List ℕ) → Arrivals w arrivals first → 1 ≤ c → c ≤ stations
+  pub stations_more : (arrivals first v'' : List ℕ) → Arrivals w arrivals first → 1 ≤ c → c < stations + 1
       → Fronted w arrivals (get_or first c 0) (get_or first (c + 1) 0) (top_of c source) v' (get_or first (c + 1) 0) v''
       → Allowing w source v (c + 1) v''
   stations_more arrivals first v'' s some on f =
       allowing_more w source v t arrivals first s c some (omega arith) v' v'' k f
 
-  pub stations_all : stations < c → AllowsAhead w source v v'
+  pub stations_all : stations + 1 ≤ c → AllowsAhead w source v v'
   stations_all h = allowing_all w source v t c v' (omega arith) k

@@ -29,7 +29,7 @@ use Rattle.store_frontier.specs.Passed.{
   passed_all,
   passed_bounded,
 }
-use Rattle.store_frontier.specs.Zeros.{ZeroTo, zero_each, zero_replicate}
+use Rattle.store_frontier.specs.Zeros.{zero_replicate}
 use Rattle.store_stops.specs.Prospects.{Bounded}
 use Rattle.store_frontier.specs.Routes.{Routes}
 
@@ -148,15 +148,15 @@ module _
 
 -- ---- the pass
 module _ (w departures first : List ℕ) (n : ℕ) (r : Routes w departures n first) (e : List ℕ) (d : ℕ) where
-  pub pass_first : (q leaving old : List ℕ) → length old ≡ 2048 → ZeroTo (length old) leaving
-      → length leaving ≡ length old
+  pub pass_first : (q leaving old : List ℕ) → leaving ≡ replicate (length old) 0
       → Passed w e d (drop n (order w)) q leaving (replicate 65 0)
-  pass_first q leaving old long zeros same =
+  pass_first q leaving old cleared =
       let none : drop n (order w) ≡ [] =
       drop_of_length-le (order w) {i = n}
       (omega (arith, ap length r.departing, length-take-le n departures r.within)) in
       subst (λ l. Passed w e d l q leaving (replicate 65 0)) (sym none)
-      (passed_none w e d q leaving (replicate 65 0) (zero_each leaving (length old) same zeros) (zero_replicate 65))
+      (passed_none w e d q leaving (replicate 65 0) (λ k. rw cleared (zero_replicate (length old) k)) (zero_replicate
+      65))
 
   -- those in front leave too early
   module _ (q leaving high : List ℕ) (begin : ℕ) (within : begin ≤ n) (early : Early w departures d 0 begin)

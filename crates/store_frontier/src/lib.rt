@@ -17,15 +17,12 @@ ghost use Rattle.store_frontier.specs.Front.{Least, MinuteEnd, mark_of, Marked, 
 ghost use Rattle.store_frontier.specs.Allowing.{top_of, AllowsAhead, ClosedAt, Closed};
 ghost use Rattle.store_frontier.specs.Bounding.{caught_bound, Bounding};
 ghost use Rattle.store_frontier.specs.Passed.{Limits, Passed, LeaveBound};
-ghost use Rattle.store_frontier.specs.Zeros.{ZeroTo};
 ghost use Rattle.store_frontier.specs.Routes.{Routes};
 
 use results::Points;
+use store_catches::NOWHERE;
 use store_points::UNREACHED;
 use timetable::Stop;
-
-// No stop.
-const NOWHERE: usize = 65535;
 
 // ---- which arrivals are on the frontier
 
@@ -50,18 +47,12 @@ fn minute_end(words: &[u16], arrivals: &[u16], p: usize, end: usize) -> usize
     ensures { MinuteEnd words.now arrivals.now p end result }
 {
     let minute = minute_at(words, arrivals, p);
-    let mut q = p + 1;
-    loop {
-        if q == end {
-            break;
+    for q in p + 1..end {
+        if minute_at(words, arrivals, q) != minute {
+            return q;
         }
-        let m = minute_at(words, arrivals, q);
-        if m != minute {
-            break;
-        }
-        q += 1;
     }
-    q
+    end
 }
 
 // The least of top and the points of the arrivals at places p up to q.
@@ -70,11 +61,9 @@ fn least(arrivals: &[u16], p: usize, q: usize, v: &[u32], top: Points) -> Points
     ensures { Least arrivals.now v.now top.0 p q result.0 }
 {
     let mut low = top;
-    let mut r = p;
-    while r < q {
+    for r in p..q {
         let j = words::word(arrivals, r) as usize;
         low = query_minutes::lesser(low, query_minutes::points_at(v, j));
-        r += 1;
     }
     low
 }
@@ -99,12 +88,10 @@ fn mark_all(arrivals: &[u16], p: usize, q: usize, before: Points, low: Points, v
     ensures marked { Marked arrivals.now before.0 low.0 p q v.old v.new }
     ensures v_len_unchanged { length v.new ≡ length v.old }
 {
-    let mut r = p;
-    while r < q {
+    for r in p..q {
         let j = words::word(arrivals, r) as usize;
         let u = query_minutes::points_at(v, j);
         query_minutes::set_points(v, j, mark(before, low, u));
-        r += 1;
     }
 }
 
@@ -141,6 +128,7 @@ fn allow_station(
 {
     let mut low = top;
     let mut p = begin;
+    // Stays: p goes on by a minute's arrivals at once, which no range counts.
     while p < end {
         // Most are not reached or have paid no less than someone earlier: whoever else arrives in their minute, they
         // are not on the frontier.
@@ -154,14 +142,6 @@ fn allow_station(
         mark_all(arrivals, p, q, before, low, v);
         p = q;
     }
-}
-
-// Where the arrivals of station c begin.
-fn place_at(first: &[u32], c: usize) -> usize
-    requires { c < length first.now }
-    ensures { result ≡ get_or first.now c 0 }
-{
-    first[c] as usize
 }
 
 // Less than this is to have been paid at station c.
@@ -195,8 +175,8 @@ fn allow_part(
         (get_or first.now (c + 1) 0) v.new }
     ensures v_len_unchanged { length v.new ≡ length v.old }
 {
-    let begin = place_at(first, c);
-    let end = place_at(first, c + 1);
+    let begin = store_departures::index_at(first, c);
+    let end = store_departures::index_at(first, c + 1);
     allow_station(words, arrivals, begin, end, top_of(c, source), v);
 }
 
@@ -222,10 +202,8 @@ fn close_stops(words: &[u16], v: &mut [u32])
     ensures v_len_unchanged { length v.new ≡ length v.old }
 {
     let stops = words::word(words, 2) as usize;
-    let mut j = 0;
-    while j < stops {
+    for j in 0..stops {
         close_stop(words, j, v);
-        j += 1;
     }
 }
 
@@ -259,10 +237,8 @@ fn allow_all(words: &[u16], arrivals: &[u16], first: &[u32], source: usize, v: &
     ensures v_len { length v.new ≡ 2048 }
 {
     let stations = words::word(words, 0) as usize;
-    let mut c = 1;
-    while c <= stations {
+    for c in 1..stations + 1 {
         allow_part(words, arrivals, first, c, source, v);
-        c += 1;
     }
 }
 
@@ -288,12 +264,10 @@ pub fn some_closed(words: &[u16]) -> u32
     ensures { Tells words.now result }
 {
     let stops = words::word(words, 2) as usize;
-    let mut j = 0;
-    while j < stops {
+    for j in 0..stops {
         if !store_departures::may_alight(timetable::stop_at(words, j)) {
             return 1;
         }
-        j += 1;
     }
     0
 }
@@ -305,7 +279,8 @@ fn caught_bound(q: &[u32], f: usize, cost: Points) -> Points
     requires { (f < nowhere) → f < length q.now }
     ensures { result.0 ≡ caught_bound q.now f cost.0 }
 {
-    if f < NOWHERE {
+    // Stays: what is caught is kept in lent words of 16 bits, which have no room for an Option beside the number.
+    if f < NOWHERE as usize {
         return query_minutes::left_of(query_minutes::points_at(q, f), cost);
     }
     Points(0)
@@ -338,12 +313,11 @@ fn walks_bound(words: &[u16], chain: &[u16], first: &[u32], q: &[u32], c: usize,
     ensures { Bounding words.now q.now j
         (WalkTo words.now c (walks_to words.now c)) result.0 }
 {
+    let begin = timetable::walks_to(words, c - 1);
     let end = timetable::walks_to(words, c);
-    let mut k = timetable::walks_to(words, c - 1);
     let mut high = Points(0);
-    while k < end {
+    for k in begin..end {
         high = query_minutes::larger(high, walk_bound(words, chain, first, q, k, j));
-        k += 1;
     }
     high
 }
@@ -513,25 +487,10 @@ fn pass_all(
         × (length leaving.new ≡ 2048)
         × (length high.new ≡ 65) }
 {
-    let mut p = n;
-    while begin < p {
-        p -= 1;
+    for p in (begin..n).rev() {
         pass(
             words, order, n, p, chain, first, catch, d, e, q, leaving, high,
         );
-    }
-}
-
-// All words become 0, below which no one has paid.
-fn clear(v: &mut [u32])
-    ensures zero_to { ZeroTo (length v.old) v.new }
-    ensures v_len_unchanged { length v.new ≡ length v.old }
-{
-    let n = v.len();
-    let mut i = 0;
-    while i < n {
-        query_minutes::set_points(v, i, Points(0));
-        i += 1;
     }
 }
 
@@ -558,7 +517,8 @@ pub fn prospects(
     ensures bounded { Bounded words.now e.now d (catch_by words.now) q.new }
     ensures q_len { (length q.new ≡ 2048) × (length leaving.new ≡ 2048) }
 {
-    clear(leaving);
+    // Below 0 no one has paid.
+    leaving.fill(0);
     let mut high = [0u32; 65];
     // The departures before minute d stand in front, and are left out.
     let begin = store_departures::first_from(words, order, 0, n, d);

@@ -14,10 +14,9 @@ ghost use Rattle.store_frontier.specs.Arrivals.{Arrivals};
 ghost use Rattle.stores.specs.Stored.{sequences};
 ghost use Rattle.store_growth.specs.Chunks.{Whole};
 
-use store_departures::{BY_STATION, CHAIN_WORDS};
+use store_departures::{BY_STATION, CHAIN_WORDS, STOPS_MOST};
 use store_frontier::SOME_CLOSED;
 use store_tree::Counts;
-use tree::STOPS_MOST;
 
 // There are at most so many slots.
 const SLOTS: usize = 320;

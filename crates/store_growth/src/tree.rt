@@ -11,10 +11,8 @@ ghost use Rattle.store_tree.specs.Tree.{Grown};
 ghost use Rattle.stores.specs.Stored.{sequences};
 ghost use Rattle.store_slots.specs.Slots.{slots};
 
+use store_departures::{MINUTES, STOPS_MOST};
 use store_tree::Counts;
-
-// A timetable has at most so many stops.
-pub const STOPS_MOST: usize = timetable::STOPS_MOST as usize;
 
 // The arcs and kids of so many nodes are found in one go.
 const CHUNK: usize = 96;
@@ -23,9 +21,6 @@ const CHUNK: usize = 96;
 const ARC_FLAGS: usize = 6144;
 
 const KID_FLAGS: usize = 30720;
-
-// The minutes of the two days, for each of which it is noted up to which node some go on.
-const MINUTES: usize = 2880;
 
 // Takes the nodes from lo up to hi by their flags. Returns the numbers of nodes and arcs then, if they fit.
 fn take_chunk(
@@ -45,8 +40,7 @@ fn take_chunk(
 {
     let mut n = nodes;
     let mut m = ends;
-    let mut v = lo;
-    while v < hi {
+    for v in lo..hi {
         let o = 64 * (v - lo);
         let k = 320 * (v - lo);
         let taken = store_tree::take_node(
@@ -64,7 +58,6 @@ fn take_chunk(
         }
         n = taken.n;
         m = taken.m;
-        v += 1;
     }
     Counts { n, m, fits: true }
 }
@@ -155,10 +148,12 @@ pub fn grow(
     ensures { Whole words.now (sequences words.now source) source work.new
         targets.new result }
 {
+    // For each minute of the two days, up to which node some go on.
     let mut reach = [0u16; MINUTES];
     let mut n = 0;
     let mut m = 0;
     let mut lo = 0;
+    // Stays: the nodes that the loop goes over are added by the loop itself, so that no range is known before it.
     while lo <= n {
         let hi = chunk_end(lo, n);
         let taken = grow_chunk(

@@ -48,14 +48,6 @@ use timetable::{Stop, Walk};
 // More than any ride from a stop to the next costs.
 const NO_MORE: Points = Points(101);
 
-// Where the departures of station c begin.
-fn begin_of(first: &[u32], c: usize) -> usize
-    requires { c < length first.now }
-    ensures { result ≡ get_or first.now c 0 }
-{
-    first[c] as usize
-}
-
 // ---- the labels of the root
 
 // The label of stop g, at the source.
@@ -85,12 +77,11 @@ pub fn label_root(
     ensures keeps { Keeps words.now source x.old x.new }
     ensures x_len { length x.new ≡ 2048 }
 {
-    let mut k = begin_of(first, source);
-    let end = begin_of(first, source + 1);
-    while k < end {
+    let begin = store_departures::index_at(first, source);
+    let end = store_departures::index_at(first, source + 1);
+    for k in begin..end {
         let g = words::word(chain, k) as usize;
         query_minutes::set_points(x, g, root_label(words, g, d));
-        k += 1;
     }
 }
 
@@ -102,11 +93,9 @@ fn clear(chain: &[u16], begin: usize, end: usize, x: &mut [u32])
     ensures x_after { x.new ≡ fill (λ g. unreached) (slice begin end chain.now) x.old }
     ensures x_len_unchanged { length x.new ≡ length x.old }
 {
-    let mut k = begin;
-    while k < end {
+    for k in begin..end {
         let g = words::word(chain, k) as usize;
         query_minutes::set_points(x, g, UNREACHED);
-        k += 1;
     }
 }
 
@@ -261,6 +250,7 @@ fn ride_on(
     let mut y = paid;
     let mut ride = store_points::of_ride(timetable::stop_at(words, i));
     let mut j = i;
+    // Stays: the marks and stations of the trip's stops tell where the ride ends, which no range knows before.
     loop {
         y = query_minutes::sum(y, ride);
         j += 1;
@@ -335,21 +325,11 @@ fn ride_all(
         ≡ rides words.now c (on_foot way) (waiting words.now c) x.old }
     ensures x_len_2 { length x.new ≡ 2048 }
 {
-    let mut k = begin_of(first, c);
-    let end = begin_of(first, c + 1);
-    while k < end {
-        ride_to(
-            words,
-            chain,
-            first,
-            catch,
-            own,
-            way,
-            c,
-            words::word(chain, k) as usize,
-            x,
-        );
-        k += 1;
+    let begin = store_departures::index_at(first, c);
+    let end = store_departures::index_at(first, c + 1);
+    for k in begin..end {
+        let i = words::word(chain, k) as usize;
+        ride_to(words, chain, first, catch, own, way, c, i, x);
     }
 }
 
@@ -440,12 +420,10 @@ fn settle(chain: &[u16], begin: usize, end: usize, x: &mut [u32])
     ensures x_len_unchanged { length x.new ≡ length x.old }
 {
     let mut low = UNREACHED;
-    let mut k = begin;
-    while k < end {
+    for k in begin..end {
         let g = words::word(chain, k) as usize;
         low = query_minutes::lesser(low, query_minutes::points_at(x, g));
         query_minutes::set_points(x, g, low);
-        k += 1;
     }
 }
 
@@ -468,8 +446,8 @@ fn step_between(
     ensures steps { Steps words.now c (pair y e) x.old x.new }
     ensures x_len { length x.new ≡ 2048 }
 {
-    let begin = begin_of(first, e);
-    let end = begin_of(first, e + 1);
+    let begin = store_departures::index_at(first, e);
+    let end = store_departures::index_at(first, e + 1);
     clear(chain, begin, end, x);
     ride_ways(words, chain, first, catch, c, y, e, x);
     settle(chain, begin, end, x);
@@ -594,11 +572,10 @@ fn mark_walks(
         (walks_from words.now b)) kids.old }
     ensures kids_len { length kids.new ≡ 320 }
 {
-    let mut k = timetable::walks_to(words, b - 1);
+    let begin = timetable::walks_to(words, b - 1);
     let end = timetable::walks_to(words, b);
-    while k < end {
+    for k in begin..end {
         mark_walk(words, chain, first, q, k, j, y, kids);
-        k += 1;
     }
 }
 
@@ -742,6 +719,7 @@ fn mark_on(
     let mut y = paid;
     let mut ride = store_points::of_ride(timetable::stop_at(words, i));
     let mut j = i;
+    // Stays: the marks and stations of the trip's stops tell where the ride ends, which no range knows before.
     loop {
         y = query_minutes::sum(y, ride);
         j += 1;
@@ -812,22 +790,10 @@ pub fn mark(
         q.now kids.old kids.new }
     ensures arcs_len { (length arcs.new ≡ 64) × (length kids.new ≡ 320) }
 {
-    let mut k = begin_of(first, c);
-    let end = begin_of(first, c + 1);
-    while k < end {
-        mark_ride(
-            words,
-            chain,
-            first,
-            catch,
-            allowed,
-            q,
-            x,
-            c,
-            words::word(chain, k) as usize,
-            arcs,
-            kids,
-        );
-        k += 1;
+    let begin = store_departures::index_at(first, c);
+    let end = store_departures::index_at(first, c + 1);
+    for k in begin..end {
+        let i = words::word(chain, k) as usize;
+        mark_ride(words, chain, first, catch, allowed, q, x, c, i, arcs, kids);
     }
 }

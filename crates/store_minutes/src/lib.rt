@@ -1,9 +1,8 @@
 //! The marks of the nodes of a chunk, over all minutes at which a ride departs at the source.
 #![tactic(auto)]
 
-ghost use Rattle.std.specs.Prelude.{◌≡◌, true, ◌+◌, ◌≤◌, ◌<◌, min, max, length, get_or, set};
-ghost use Rattle.timetable.specs.Words.{station_count, is_timetable};
-ghost use Rattle.store_stops.specs.Stopwise.{depart};
+ghost use Rattle.std.specs.Prelude.{◌≡◌, ◌+◌, ◌≤◌, ◌<◌, max, length, get_or, set};
+ghost use Rattle.timetable.specs.Words.{station_count};
 ghost use Rattle.store_departures.specs.Held.{Departures};
 ghost use Rattle.store_frontier.specs.Routes.{Routes};
 ghost use Rattle.store_frontier.specs.Arrivals.{Arrivals};
@@ -163,17 +162,6 @@ fn mark_minute(
     )
 }
 
-// The minute of the departure at place p.
-fn minute_at(words: &[u16], chain: &[u16], p: usize) -> usize
-    requires { (16384 ≤ length words.now)
-        × (is_timetable words.now ≡ true)
-        × (p < length chain.now)
-        × (get_or chain.now p 0 < 2048) }
-    ensures { result ≡ depart words.now (get_or chain.now p 0) }
-{
-    timetable::stop_at(words, words::word(chain, p) as usize).depart as usize
-}
-
 // Whether the nodes of a chunk can be passed over at minute d: nobody goes on behind one of their parents then. The
 // root has no parent.
 fn is_quiet(reach: &[u16], d: usize, chunk: Chunk) -> bool
@@ -192,8 +180,7 @@ fn note_reach(reach: &mut [u16], d: usize, node: u16)
     ensures reach_after { reach.new ≡ set reach.old d (max (get_or reach.old d 0) node) }
     ensures reach_len_unchanged { length reach.new ≡ length reach.old }
 {
-    let old = reach[d];
-    reach[d] = store_nodes::larger(old, node);
+    reach[d] = reach[d].max(node);
 }
 
 // Raises the flags for the departure at place p, unless it is at the minute of the last one, or no node of the chunk is
@@ -250,7 +237,7 @@ fn mark_departure(
         × (length arcs.new ≡ 6144)
         × (length kids.new ≡ 30720) }
 {
-    let d = minute_at(words, chain, p);
+    let d = store_departures::minute_at(words, chain, p);
     if d == last {
         return d;
     }
@@ -262,14 +249,6 @@ fn mark_departure(
     );
     note_reach(reach, d, node);
     d
-}
-
-// Where the departures of station c begin.
-fn place_at(first: &[u32], c: usize) -> usize
-    requires { c < length first.now }
-    ensures { result ≡ get_or first.now c 0 }
-{
-    first[c] as usize
 }
 
 // Raises the flags of the arcs and kids of the nodes of a chunk.
@@ -318,26 +297,15 @@ fn mark_departures(
         × (length arcs.new ≡ 6144)
         × (length kids.new ≡ 30720) }
 {
-    let end = place_at(first, chunk.source + 1);
-    let mut p = place_at(first, chunk.source);
+    let begin = store_departures::index_at(first, chunk.source);
+    let end = store_departures::index_at(first, chunk.source + 1);
     let mut last = NO_MINUTE;
-    while p < end {
+    for p in begin..end {
         last = mark_departure(
             words, order, n, chain, first, arrivals, begins, catch, work, chunk, p, last, reach, v,
             q, x, arcs, kids,
         );
-        p += 1;
     }
-}
-
-// The smaller of two numbers.
-fn lesser(a: usize, b: usize) -> usize
-    ensures { result ≡ min a b }
-{
-    if b < a {
-        return b;
-    }
-    a
 }
 
 // A number that no parent of the nodes from lo up to hi is below.
@@ -346,10 +314,8 @@ fn least_parent(work: &[u32], lo: usize, hi: usize) -> usize
     ensures { Parents work.now lo hi result }
 {
     let mut least = hi;
-    let mut v = lo;
-    while v < hi {
-        least = lesser(least, store_tree::node_parent(work[v]) as usize);
-        v += 1;
+    for v in lo..hi {
+        least = least.min(store_tree::node_parent(work[v]) as usize);
     }
     least
 }

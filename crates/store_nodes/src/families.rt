@@ -97,11 +97,9 @@ fn raise_fresh(flags: &mut [u8], fresh: &[u8]) -> bool
         × (length flags.new ≡ 320) }
 {
     let mut seen = 0;
-    let mut k = 0;
-    while k < KID_FLAGS {
+    for k in 0..KID_FLAGS {
         flags[k] = join(flags[k], fresh[k]);
         seen = join(seen, fresh[k]);
-        k += 1;
     }
     seen == 1
 }
@@ -377,6 +375,8 @@ fn mark_kids(
         × (length kids.new ≡ 30720) }
 {
     let mut v = node;
+    // Stays: the next node tells whether it is a sibling, below hi at the latest; after a range a second way out would
+    // stand that is never taken.
     loop {
         let more = mark_sibling(
             words, chain, first, catch, work, parent, lo, v, hi, c, hope, allowed, q, x, hand,
@@ -550,6 +550,7 @@ pub fn mark_nodes(
 {
     let mut hand = [0u16; HAND_WORDS];
     let mut node = lo;
+    // Stays: node goes on by a family at once, which no range counts.
     while node < hi {
         node = mark_family(
             words, chain, first, catch, work, lo, node, hi, source, d, allowed, q, x, &mut hand,

@@ -6,4 +6,3 @@ mod families;
 mod nodes;
 
 pub use families::mark_nodes;
-pub use nodes::larger;

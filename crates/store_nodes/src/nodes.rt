@@ -1,7 +1,7 @@
 // The marks of one node of the tree, for one minute: the labels of those who board after its changes, and the flags of
 // its arcs and kids. The labels of a node stand at the departures of one station, so that those of several nodes are at
 // hand at once: for each station it is noted, one more than its number, which node's they are.
-ghost use Rattle.std.specs.Prelude.{◌≡◌, true, ◌+◌, ◌≤◌, ◌<◌, max, eqb, length, get_or};
+ghost use Rattle.std.specs.Prelude.{◌≡◌, true, ◌+◌, ◌≤◌, ◌<◌, eqb, length, get_or};
 ghost use Rattle.timetable.specs.Words.{station_count, is_timetable};
 ghost use Rattle.store_slots.specs.Slots.{transfer_at};
 ghost use Rattle.store_departures.specs.Held.{Departures};
@@ -59,16 +59,6 @@ fn is_at_hand(hand: &[u16], c: usize, node: usize) -> bool
     words::word(hand, c) as usize == node + 1
 }
 
-// The larger of two numbers.
-pub fn larger(a: u16, b: u16) -> u16
-    ensures { result ≡ max a b }
-{
-    if a < b {
-        return b;
-    }
-    a
-}
-
 // Notes that the labels at station c are those of the node.
 fn note(hand: &mut [u16], c: usize, node: usize)
     requires { (c < 65) × (node < 16384) × (length hand.old ≡ 66) }
@@ -84,8 +74,7 @@ pub fn note_on(hand: &mut [u16], node: usize)
     ensures noted_on { NotedOn node hand.old hand.new }
     ensures hand_len_unchanged { length hand.new ≡ length hand.old }
 {
-    let last = hand[LAST];
-    hand[LAST] = larger(last, (node + 1) as u16);
+    hand[LAST] = hand[LAST].max((node + 1) as u16);
 }
 
 // One more than the last node behind which some go on.

@@ -1,4 +1,3 @@
-pub mod FillLaws
 pub mod ArriveLaws
 pub mod ChangeLaws
 pub mod RideLaws

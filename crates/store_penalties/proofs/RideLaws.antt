@@ -9,7 +9,7 @@ use lib.ListN.{length, get_or, set}
 use Rattle.timetable.specs.Timetable.{Stop}
 use Rattle.timetable.specs.Words.{station_count, stop_at, is_timetable}
 use Rattle.connections.specs.Rides.{may_board}
-use Rattle.store_stops.specs.Stopwise.{station, depart, change_points, stay, unreached, Arrival}
+use Rattle.store_stops.specs.Stopwise.{station, change_points, stay, unreached, Arrival}
 use Rattle.store_stops.specs.OpenWays.{Open}
 use Rattle.store_departures.specs.Order.{catch_by}
 use Rattle.store_points.specs.Lowered.{lowered}

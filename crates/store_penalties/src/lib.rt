@@ -30,12 +30,7 @@ fn fill(a: &mut [u32])
     ensures blank { Blank 2048 a.new }
     ensures a_len_unchanged { length a.new ≡ length a.old }
 {
-    let n = a.len();
-    let mut k = 0;
-    while k < n {
-        query_minutes::set_points(a, k, UNREACHED);
-        k += 1;
-    }
+    a.fill(UNREACHED_WORD);
 }
 
 // The least that one has paid who leaves a stop at station c, which is open to boarding or is not.
@@ -128,10 +123,8 @@ fn walk_all(
     ensures q_len_unchanged { length q.new ≡ length q.old }
 {
     let end = timetable::walks_to(words, c);
-    let mut k = timetable::walks_to(words, c - 1);
-    while k < end {
+    for k in timetable::walks_to(words, c - 1)..end {
         walk(words, chain, first, k, j, u, q);
-        k += 1;
     }
 }
 
@@ -334,10 +327,8 @@ fn sweep(
         × (length q.new ≡ length q.old)
         × (length low.new ≡ length low.old) }
 {
-    let mut x = begin;
-    while x < n {
+    for x in begin..n {
         turn(words, order, chain, first, catches, source, d, x, v, q, low);
-        x += 1;
     }
 }
 

@@ -12,6 +12,7 @@ use timetable::{Stop, Walk};
 pub const UNREACHED: Points = Points(UNREACHED_WORD);
 
 // The word of a stop that no one on the way has reached.
+// Stays: arrays that are lent hold it as a word, and `unreached` of store_stops/specs/Stopwise.antt says its number.
 pub const UNREACHED_WORD: u32 = 2879 * 1100 + 1;
 
 // Lowers the points at place k to p, if they are more. Past the end there are none.

@@ -98,10 +98,8 @@ fn list_walks(
     ensures value { result ≡ at + length (side_slots words.now above y first end) }
 {
     let mut here = at;
-    let mut k = first;
-    while k < end {
+    for k in first..end {
         here = list_walk(words, above, y, k, list, here);
-        k += 1;
     }
     here
 }
@@ -138,10 +136,8 @@ pub fn list_slots(words: &[u16], list: &mut [u16]) -> usize
 {
     let stations = words::word(words, 0) as usize;
     let mut here = 0;
-    let mut y = 1;
-    while y < stations + 1 {
+    for y in 1..stations + 1 {
         here = list_from(words, y, list, here);
-        y += 1;
     }
     here
 }

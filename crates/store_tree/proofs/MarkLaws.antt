@@ -71,24 +71,24 @@ module _
     (count j : ℕ)
     (so_far : length (marks flags) ≡ count + length (marks_from (j + 1) (drop j flags)))
   where
-    pub count_more : (r : ℕ) → length flags ≡ 64 → j < 64 → r ≡ count + length (marked (get_or flags j 0) 0)
+    pub count_more : (r : ℕ) → j < length flags → r ≡ count + length (marked (get_or flags j 0) 0)
         → length (marks flags) ≡ r + length (marks_from (j + 1 + 1) (drop (j + 1) flags))
-    count_more r long h is =
+    count_more r h is =
         omega (
           arith,
           so_far,
           is,
-          ap length (marks_more flags j (omega arith)),
+          ap length (marks_more flags j h),
           length-append (marked (get_or flags j 0) (j + 1)) (marks_from (j + 1 + 1) (drop (j + 1) flags)),
           marked_long (get_or flags j 0) (j + 1) 0,
         )
 
-    pub count_done : length flags ≡ 64 → 64 ≤ j → count ≡ length (marks flags)
-    count_done long h =
+    pub count_done : length flags ≤ j → count ≡ length (marks flags)
+    count_done h =
         omega (
           arith,
           so_far,
-          ap (λ l. length (marks_from (j + 1) l)) (drop_of_length-le flags {i = j} (omega arith)),
+          ap (λ l. length (marks_from (j + 1) l)) (drop_of_length-le flags {i = j} h),
           ap length (marks_none (j + 1)),
         )
 
@@ -135,9 +135,8 @@ module _
     (old out flags : List ℕ)
     (at here j : ℕ)
     (w : Writing (marks flags) (marks_from (j + 1) (drop j flags)) old out at here)
-    (long : length flags ≡ 64)
   where
-    module _ (h : j < 64) where
+    module _ (h : j < length flags) where
       abbrev this : List ℕ
       this = marked (get_or flags j 0) (j + 1)
 
@@ -156,7 +155,7 @@ module _
           at
           here
           w
-          (marks_more flags j (omega arith))
+          (marks_more flags j h)
 
       pub target_more : (out' : List ℕ) (here' : ℕ) → out' ≡ put here (marked (get_or flags j 0) (j + 1)) out
           → here' ≡ here + length (marked (get_or flags j 0) (j + 1))
@@ -172,9 +171,9 @@ module _
           at
           here
           w
-          (marks_more flags j (omega arith))
+          (marks_more flags j h)
 
-    pub targets_done : 64 ≤ j → out ≡ put at (marks flags) old
+    pub targets_done : length flags ≤ j → out ≡ put at (marks flags) old
     targets_done h =
         writing_done
         (marks flags)
@@ -184,7 +183,7 @@ module _
         at
         here
         w
-        (ap (marks_from (j + 1)) (drop_of_length-le flags {i = j} (omega arith)) ∙ marks_none (j + 1))
+        (ap (marks_from (j + 1)) (drop_of_length-le flags {i = j} h) ∙ marks_none (j + 1))
 
 -- ---- written so far: the words of kids
 pub kids_first : (old flags list : List ℕ) (v at : ℕ) → at + length (slot_marks flags list) ≤ length old

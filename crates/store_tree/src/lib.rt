@@ -13,8 +13,7 @@ ghost use Rattle.store_tree.specs.Marks.{marked, marks, slot_marks, kid_words};
 ghost use Rattle.store_tree.specs.Laid.{arc_words, hits_to, node_hits, total, hits_of, entries_to};
 ghost use Rattle.store_tree.specs.Taking.{Next, Takes, Taken, Whole};
 
-// The most nodes, and the most arcs, of a store.
-const ENTRIES_MOST: usize = stores::ENTRIES_MOST;
+use stores::ENTRIES_MOST;
 
 // The word of a node that has not been taken: the slot of its change and its parent's number.
 fn node_word(slot: u32, parent: u32) -> u32
@@ -79,10 +78,8 @@ fn mark_count(flags: &[u8]) -> usize
     ensures { (result ≡ length (marks flags.now)) × (result ≤ 64) }
 {
     let mut count = 0;
-    let mut j = 0;
-    while j < 64 {
-        count = counted(count, flags[j]);
-        j += 1;
+    for flag in flags {
+        count = counted(count, *flag);
     }
     count
 }
@@ -95,10 +92,8 @@ fn slot_count(flags: &[u8], list: &[u16]) -> usize
     ensures { (result ≡ length (slot_marks flags.now list.now)) × (result ≤ 320) }
 {
     let mut count = 0;
-    let mut j = 0;
-    while j < list.len() {
-        count = counted(count, flags[list[j] as usize]);
-        j += 1;
+    for slot in list {
+        count = counted(count, flags[*slot as usize]);
     }
     count
 }
@@ -124,10 +119,8 @@ fn put_targets(targets: &mut [u8], m: usize, arcs: &[u8])
     ensures targets_len_unchanged { length targets.new ≡ length targets.old }
 {
     let mut here = m;
-    let mut j = 0;
-    while j < 64 {
-        here = put_target(targets, here, arcs[j], (j + 1) as u8);
-        j += 1;
+    for (j, flag) in arcs.iter().enumerate() {
+        here = put_target(targets, here, *flag, (j + 1) as u8);
     }
 }
 
@@ -157,11 +150,8 @@ fn put_kids(work: &mut [u32], n: usize, v: u32, kids: &[u8], list: &[u16])
     ensures work_len_unchanged { length work.new ≡ length work.old }
 {
     let mut here = n;
-    let mut j = 0;
-    while j < list.len() {
-        let slot = list[j] as usize;
-        here = put_kid(work, here, kids[slot], slot as u32, v);
-        j += 1;
+    for slot in list {
+        here = put_kid(work, here, kids[*slot as usize], *slot as u32, v);
     }
 }
 
@@ -214,18 +204,14 @@ fn write_nodes(words: &[u16], work: &[u32], n: usize, store: &mut [u16])
         ≡ put 2 (entries_to words.now work.now 1 (suc n)) store.old }
     ensures store_len_unchanged { length store.new ≡ length store.old }
 {
-    let mut v = 1;
-    while v < n + 1 {
+    for v in 1..n + 1 {
         let x = work[v];
         let change = store_slots::transfer_at(words, node_slot(x) as usize);
-        words::put_three(
+        words::narrow(
             store,
             3 * v - 1,
-            change.alighted,
-            change.boarded,
-            node_parent(x),
+            &[change.alighted, change.boarded, node_parent(x)],
         );
-        v += 1;
     }
 }
 
@@ -237,7 +223,7 @@ fn write_arc(store: &mut [u16], at: usize, target: u8, b: u32, v: u32) -> usize
     ensures value { result ≡ at + length (arc_words target b v) }
 {
     if target as u32 == b {
-        words::put_two(store, at, b, v);
+        words::narrow(store, at, &[b, v]);
         return at + 2;
     }
     at
@@ -263,10 +249,8 @@ fn write_hits(
     ensures value { result ≡ at + length (hits_to targets.now b v first end) }
 {
     let mut here = at;
-    let mut i = first;
-    while i < end {
+    for i in first..end {
         here = write_arc(store, here, targets[i], b, v);
-        i += 1;
     }
     here
 }
@@ -293,12 +277,10 @@ fn write_arcs_to(
 {
     let mut here = at;
     let mut i = 0;
-    let mut v = 0;
-    while v < n + 1 {
+    for v in 0..n + 1 {
         let end = i + node_arcs(work[v]) as usize;
         here = write_hits(targets, i, end, b, v as u32, store, here);
         i = end;
-        v += 1;
     }
     here
 }
@@ -316,10 +298,8 @@ fn write_arcs(work: &[u32], targets: &[u8], n: usize, stations: usize, store: &m
     ensures store_len_unchanged { length store.new ≡ length store.old }
 {
     let mut here = at;
-    let mut b = 1;
-    while b < stations + 1 {
+    for b in 1..stations + 1 {
         here = write_arcs_to(work, targets, n, b as u32, store, here);
-        b += 1;
     }
 }
 
@@ -343,7 +323,7 @@ pub fn write_store(
     ensures store_len_unchanged { length store.new ≡ length store.old }
 {
     let stations = words::word(words, 0) as usize;
-    words::put_two(store, 0, n as u32, m as u32);
+    words::narrow(store, 0, &[n as u32, m as u32]);
     write_nodes(words, work, n, store);
     write_arcs(work, targets, n, stations, store, 2 + 3 * n);
 }

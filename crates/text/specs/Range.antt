@@ -52,6 +52,10 @@ module _ (kind v n : ℕ) (is : n ≡ range_number kind v) where
       by_test true h = rw h
       by_test false h = rw h
 
+pub range_is : (kind v n : ℕ) → n ≡ range_number kind v → n ≡ cond (in_range kind v) 0 3
+unfolding range_number
+range_is kind v n is = is
+
 -- a number other than 0 is the refusal's
 pub range_three : (kind v n : ℕ) → n ≡ range_number kind v → (n ≡ 0 → ⊥) → n ≡ 3
 unfolding range_number

@@ -6,6 +6,9 @@ ghost use Rattle.text.specs.Piece.{piece_length};
 ghost use Rattle.text.specs.Number.{digit_value, field_value};
 ghost use Rattle.text.specs.Time.{pair_value, time_value};
 ghost use Rattle.text.specs.Range.{range_number};
+ghost use Rattle.questions.specs.Refused.{number_seen};
+
+use questions::Refusal;
 
 pub const COMMA: u8 = 44;
 
@@ -16,6 +19,7 @@ const NINE: u8 = 57;
 const COLON: u8 = 58;
 
 // The value of an empty field and of a field that is no number: both above every number.
+// Stays: `empty_field` and `no_number` of specs/Number.antt say these numbers, and the laws of lines compare by them.
 pub const EMPTY: u32 = 10000;
 
 const NO_NUMBER: u32 = 10001;
@@ -32,9 +36,12 @@ const HOURS_MOST: u32 = 47;
 const MINUTES_MOST: u32 = 59;
 
 // The value of a time of good form that is out of range: the first minute after the two days.
+// Stays: `past_times` of specs/Time.antt says this number.
 const PAST_TIMES: u32 = 2880;
 
 // The kinds of fields that have a value range.
+// Stays: document 01 asks here for "a match on the field's kind number", and `range_number` of specs/Range.antt speaks
+// of every number.
 pub const CHANGE_MINUTES: u8 = 1;
 
 pub const CHANGE_PENALTY: u8 = 2;
@@ -54,19 +61,16 @@ pub fn piece_end(s: &[u8], mark: u8, from: usize) -> usize
         × (from ≤ result)
         × (result ≤ length s.now) }
 {
-    let mut i = from;
-    loop {
-        if i == s.len() {
-            break i;
-        }
+    for i in from..s.len() {
         if s[i] == mark {
-            break i;
+            return i;
         }
-        i += 1;
     }
+    s.len()
 }
 
 // The value of a decimal digit, and 10 for any other byte.
+// Stays: `digit_value` of specs/Number.antt says this 10, and `decimal` there stops at it.
 fn digit_value(b: u8) -> u32
     ensures { result ≡ digit_value b }
 {
@@ -97,14 +101,12 @@ pub fn field_value(field: &[u8]) -> u32
         return NO_NUMBER;
     }
     let mut value = 0;
-    let mut i = 0;
-    while i < n {
-        let d = digit_value(field[i]);
+    for &b in field {
+        let d = digit_value(b);
         if 10 <= d {
             return NO_NUMBER;
         }
         value = value * 10 + d;
-        i += 1;
     }
     value
 }
@@ -155,35 +157,35 @@ pub fn time_value(field: &[u8]) -> u32
     hours * 60 + minutes
 }
 
-// 0 where a value is in the range of its kind of field, else the refusal's number.
-pub fn range_number(kind: u8, value: u32) -> u32
-    ensures { result ≡ range_number kind value }
+// The question whether a value is in the range of its kind of field.
+pub fn range_number(kind: u8, value: u32) -> Result<(), Refusal>
+    ensures { number_seen result ≡ range_number kind value }
 {
     match kind {
         CHANGE_MINUTES => match value {
-            0..=240 => 0,
-            _ => 3,
+            0..=240 => Ok(()),
+            _ => Err(Refusal::Range),
         },
         CHANGE_PENALTY => match value {
-            1..=1000 => 0,
-            _ => 3,
+            1..=1000 => Ok(()),
+            _ => Err(Refusal::Range),
         },
         TIME => match value {
-            0..=2879 => 0,
-            _ => 3,
+            0..=2879 => Ok(()),
+            _ => Err(Refusal::Range),
         },
         RIDE_PENALTY => match value {
-            0..=100 => 0,
-            _ => 3,
+            0..=100 => Ok(()),
+            _ => Err(Refusal::Range),
         },
         MARK => match value {
-            0..=2 => 0,
-            _ => 3,
+            0..=2 => Ok(()),
+            _ => Err(Refusal::Range),
         },
         WALK_MINUTES => match value {
-            1..=60 => 0,
-            _ => 3,
+            1..=60 => Ok(()),
+            _ => Err(Refusal::Range),
         },
-        _ => 0,
+        _ => Ok(()),
     }
 }

@@ -7,7 +7,6 @@ use native.Mathlib.Numerals.{add-one}
 use native.Mathlib.Omega.{arith}
 use lib.ListN.{length, take, drop, set, length-drop}
 use lib.Seq.{drop-drop, take_all, length-take-le}
-use native.Mathlib.Decide.{ℕ_discrete}
 use Rattle.words.specs.Put.{put, put_next}
 use Rattle.text.specs.Piece.{pieces, piece_length, last_from, first_from_lem}
 use Rattle.text_shapes.specs.Values.{value_at, values_from, line_values}
@@ -79,28 +78,11 @@ module _
         length-take-le k all (omega (arith, length_next all k x r e)) in
         rw (held, take_next all k x r e) (put_next k (take k all) old x long (omega arith))
 
-    -- with the eightth value the rest does not matter
-    eight_counted : (r : List ℕ) → drop k all ≡ x ∷ r → k + 1 ≡ 8 → k + 1 ≡ min 8 (length all)
-    eight_counted r e h = omega (arith, length_next all k x r e)
-
     more : (end ≡ length s → ⊥) → drop k all ≡ x ∷ left_from kind (k + 1) s (end + 1)
     more n = next (left_from kind (k + 1) s (end + 1)) (first_value_lem kind k s from end ends in-s within n)
 
     last : end ≡ length s → drop k all ≡ x ∷ []
     last e = next [] (last_value kind k s from end ends in-s e)
-
-    some : (r : List ℕ) × (drop k all ≡ x ∷ r)
-    some =
-        elim (ℕ_discrete end (length s)) [
-          | yes e ↦ ([], last e)
-          | no n ↦ (left_from kind (k + 1) s (end + 1), more n)
-        ]
-
-    pub eight_count : k + 1 ≡ 8 → k + 1 ≡ min 8 (length all)
-    eight_count h = eight_counted some.0 some.1 h
-
-    pub eight_stored : k + 1 ≡ 8 → set values k x ≡ put 0 (take 8 all) old
-    eight_stored h = rw h at (stored some.0 some.1)
 
     pub last_count : end ≡ length s → k + 1 ≡ min 8 (length all)
     last_count e = omega (arith, length_next all k x [] (last e))
@@ -111,6 +93,9 @@ module _
         let whole : take (k + 1) all ≡ all = take_all (k + 1) all (omega arith) in
         let eight : take 8 all ≡ all = take_all 8 all (omega arith) in
         rw eight (rw whole at (stored [] (last e)))
+
+    pub more_long : (end ≡ length s → ⊥) → k + 1 ≤ length all
+    more_long n = omega (arith, length_next all k x (left_from kind (k + 1) s (end + 1)) (more n))
 
     pub more_left : (end ≡ length s → ⊥) → drop (k + 1) all ≡ left_from kind (k + 1) s (end + 1)
     more_left n = drop_next all k x (left_from kind (k + 1) s (end + 1)) (more n)

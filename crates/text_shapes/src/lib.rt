@@ -61,6 +61,7 @@ pub struct WalkLine {
 
 // A line `T,trip,stop,station,arrive,depart,ride penalty,mark`; an empty field is 0, and last says that depart is
 // empty.
+// Stays: `stop_of` of specs/Shape.antt says both, and the model of reading asks for `last`.
 #[derive(Clone, Copy)]
 pub struct StopLine {
     pub trip: u32,
@@ -105,19 +106,15 @@ fn field_values(kind: u8, s: &[u8], values: &mut [u32]) -> usize
 {
     let n = s.len();
     let mut from = 0;
-    let mut k = 0;
-    loop {
+    for k in 0..FIELDS_MOST {
         let end = text::piece_end(s, COMMA, from);
         values[k] = value_at(kind, k, &s[from..end]);
-        k += 1;
-        if k == FIELDS_MOST {
-            return k;
-        }
         if end == n {
-            return k;
+            return k + 1;
         }
         from = end + 1;
     }
+    FIELDS_MOST
 }
 
 // The station line of three values.

@@ -24,6 +24,9 @@ module _ (w : List ℕ) (y : ℕ) (accepted : is_timetable w ≡ true) (inside :
   pub place_few : 1 ≤ y → y - 1 < 64
   place_few h = omega (arith, station_few)
 
+  pub begins_before : (end k : ℕ) → end ≡ walks_to w y → k ≡ walks_to w (y - 1) → k ≤ end
+  begins_before end k is from = omega (arith, is, from, walks_rise w accepted (y - 1) y (omega arith) inside)
+
   pub walk_few : (end k : ℕ) → end ≡ walks_to w y → k < end → k < 256
   walk_few end k is h =
       omega (arith, is, walks_rise w accepted y (station_count w) inside (omega arith), walks_few w accepted)

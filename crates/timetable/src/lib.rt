@@ -65,6 +65,7 @@ pub struct Walk {
 // A stop of a trip. A field that is empty in the text is 0: arrive at a trip's first stop, depart and points at its
 // last. The points are those of the ride to the next stop. The mark says who may use the stop: 0 who boards and who
 // alights, 1 who boards, 2 who alights.
+// Stays: the mark is a word of lent memory, which may hold any number; `stop_in` of specs/Words.antt reads it as it is.
 #[derive(Clone, Copy)]
 pub struct Stop {
     pub station: u32,
@@ -197,6 +198,7 @@ pub fn walk_at(words: &[u16], k: usize) -> Walk
 }
 
 // The place of the walk from station y to station x among all walks; the one past those from y if there is none.
+// Stays: `walk_to` of specs/WalkTo.antt says the place past them.
 pub fn walk_to(words: &[u16], y: usize, x: usize) -> usize
     requires { (16384 ≤ length words.now)
         × (is_timetable words.now ≡ true)
@@ -205,17 +207,12 @@ pub fn walk_to(words: &[u16], y: usize, x: usize) -> usize
     ensures { result ≡ walk_to words.now y x }
 {
     let end = walks_to(words, y);
-    let mut k = walks_to(words, y - 1);
-    let place = loop {
-        if end <= k {
-            break k;
-        }
+    for k in walks_to(words, y - 1)..end {
         if walk_at(words, k).to as usize == x {
-            break k;
+            return k;
         }
-        k += 1;
-    };
-    place
+    }
+    end
 }
 
 // What a change at station c itself takes and costs: what its walk to itself says, if there is one.
@@ -253,11 +250,9 @@ pub fn count_to(words: &[u16], place: usize, walks: usize, y: u32) -> usize
     ensures { (result ≡ count_to (walks_in words.now place walks) y) × (result ≤ 256) }
 {
     let mut count = 0;
-    let mut k = 0;
-    while k < walks {
+    for k in 0..walks {
         let from = words::word(words, place + 4 * k);
         count += one_to(from, y);
-        k += 1;
     }
     count
 }

@@ -5,8 +5,10 @@ ghost use Rattle.std.specs.Prelude.{◌≡◌, ◌+◌, ◌≤◌, ◌<◌, leng
 ghost use Rattle.timetable.specs.Timetable.{valid_station, valid_stations, valid_walk, walk_before, valid_walks, climb};
 ghost use Rattle.timetable.specs.Words.{station_count, trip_count, stop_count, is_timetable, timetable_number};
 ghost use Rattle.timetable.specs.Check.{stations_at, numbers_at, walks_at, footed_from};
+ghost use Rattle.questions.specs.Refused.{number_seen};
 ghost use Rattle.timetable_check.specs.Standing.{walk_stands};
 
+use questions::Refusal;
 use timetable::{Station, Walk};
 
 const NUMBER_MOST: u32 = timetable::NUMBER_MOST;
@@ -33,12 +35,10 @@ fn stations_are_valid(words: &[u16], n: usize) -> bool
     requires { (16384 ≤ length words.now) × (n ≤ 64) }
     ensures { result ≡ valid_stations (stations_at words.now 0 n) }
 {
-    let mut i = 0;
-    while i < n {
+    for i in 0..n {
         if !station_is_valid(timetable::station_at(words, i)) {
             return false;
         }
-        i += 1;
     }
     true
 }
@@ -112,12 +112,10 @@ fn walks_are_valid(words: &[u16], n: u32, walks: usize) -> bool
         × (walks ≤ 256) }
     ensures { result ≡ valid_walks n (walks_at words.now 0 walks) }
 {
-    let mut k = 0;
-    while k < walks {
+    for k in 0..walks {
         if !walk_stands(words, n, k, walks) {
             return false;
         }
-        k += 1;
     }
     true
 }
@@ -133,12 +131,10 @@ fn walks_are_counted(words: &[u16], stations: usize, walks: usize) -> bool
     ensures { result ≡ footed_from words.now (walks_at words.now 0 walks) 0 (stations + 1) }
 {
     let place = timetable::walks_place(words);
-    let mut y = 0;
-    while y <= stations {
+    for y in 0..stations + 1 {
         if timetable::walks_to(words, y) != timetable::count_to(words, place, walks, y as u32) {
             return false;
         }
-        y += 1;
     }
     true
 }
@@ -153,8 +149,7 @@ fn numbers_climb(words: &[u16], trips: usize) -> bool
     ensures { result ≡ climb 0 (numbers_at words.now 0 trips) }
 {
     let mut last = 0;
-    let mut k = 0;
-    while k < trips {
+    for k in 0..trips {
         let number = timetable::number_at(words, k);
         if number <= last {
             return false;
@@ -163,7 +158,6 @@ fn numbers_climb(words: &[u16], trips: usize) -> bool
             return false;
         }
         last = number;
-        k += 1;
     }
     true
 }
@@ -210,15 +204,15 @@ pub fn is_timetable(words: &[u16]) -> bool
     timetable_trips::trips_are_valid(words, stations, trips as usize, stops as usize)
 }
 
-// Questions 8 and 9 to lent timetable words: 0, or the number of the first no.
-pub fn timetable_number(words: &[u16]) -> u32
-    ensures { result ≡ timetable_number words.now }
+// Questions 8 and 9 to lent timetable words.
+pub fn timetable_number(words: &[u16]) -> Result<(), Refusal>
+    ensures { number_seen result ≡ timetable_number words.now }
 {
     if words.len() < timetable::WORDS_LEAST {
-        return 8;
+        return Err(Refusal::Space);
     }
     if is_timetable(words) {
-        return 0;
+        return Ok(());
     }
-    9
+    Err(Refusal::NoTimetable)
 }

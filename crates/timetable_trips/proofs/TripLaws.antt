@@ -20,11 +20,11 @@ run_starts w n s i first end e = ap (λ (b : Stop). runs n b (stops_at w i end))
 
 module _ (w : List ℕ) (n : ℕ) (whole : Bool) (before : Stop) (i end : ℕ)
     (left : whole ≡ runs n before (stops_at w i end)) where
-  pub run_short : i ≡ end → false ≡ whole
+  pub run_short : end ≤ i → false ≡ whole
   unfolding runs
-  run_short e = sym (left ∙ ap (runs n before) (between_none (stop_at w) i end (omega arith)))
+  run_short e = sym (left ∙ ap (runs n before) (between_none (stop_at w) i end e))
 
-  module _ (s : Stop) (is : s ≡ stop_at w i) (h : i ≤ end) (g : i ≡ end → ⊥) where
+  module _ (s : Stop) (is : s ≡ stop_at w i) (h : i < end) where
     module _ (e : i + 1 ≡ end) (t : Bool) (after : t ≡ follows n before s) where
       last : whole ≡ (t && ends s)
       unfolding runs

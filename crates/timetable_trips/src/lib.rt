@@ -97,11 +97,7 @@ fn trip_runs(words: &[u16], n: u32, first: usize, end: usize) -> bool
     ensures { result ≡ runs n (stop_at words.now first) (stops_at words.now (first + 1) end) }
 {
     let mut before = timetable::stop_at(words, first);
-    let mut i = first + 1;
-    loop {
-        if i == end {
-            return false;
-        }
+    for i in first + 1..end {
         let s = timetable::stop_at(words, i);
         if i + 1 == end {
             if stop_follows(n, before, s) {
@@ -113,8 +109,8 @@ fn trip_runs(words: &[u16], n: u32, first: usize, end: usize) -> bool
             return false;
         }
         before = s;
-        i += 1;
     }
+    false
 }
 
 // The trip of the stops from place first up to place end.
@@ -142,8 +138,7 @@ pub fn trips_are_valid(words: &[u16], n: u32, trips: usize, stops: usize) -> boo
     ensures { result ≡ trips_test words.now n stops 0 0 trips }
 {
     let mut first = 0;
-    let mut k = 0;
-    while k < trips {
+    for k in 0..trips {
         let end = timetable::start_at(words, k + 1);
         if end < first {
             return false;
@@ -155,7 +150,6 @@ pub fn trips_are_valid(words: &[u16], n: u32, trips: usize, stops: usize) -> boo
             return false;
         }
         first = end;
-        k += 1;
     }
     first == stops
 }

@@ -4,7 +4,6 @@ use mathlib.Core.List.{List}
 use Prim.Native.Nat.{ℕ, ◌+◌, ◌-◌, ◌*◌, ◌≤◌}
 use native.Mathlib.Omega.{arith}
 use lib.ListN.{length, get_or, take, drop, length-take, length-drop}
-use lib.Seq.{take-take}
 use Rattle.words.specs.Put.{put}
 use Rattle.timetable.specs.Words.{
   station_words,
@@ -21,13 +20,13 @@ use Rattle.timetable.specs.Check.{stations_at, stops_at, numbers_at, walks_at}
 use Rattle.timetable_writing.specs.Parts.{stations_part, stops_part, numbers_part, walks_part}
 
 -- all of a part
-part_whole : (w : List ℕ) (from n : ℕ) → take n (take (from + n - from) (drop from w)) ≡ take n (drop from w)
+part_whole : (w : List ℕ) (from n : ℕ) → take (from + n - from) (drop from w) ≡ take n (drop from w)
 part_whole w from n =
     let all : from + n - from ≡ n = omega arith in
-    ap (λ m. take n (take m (drop from w))) all ∙ take-take n n (drop from w) (omega arith)
+    ap (λ m. take m (drop from w)) all
 
 pub stations_copied : (w body out : List ℕ) (s : ℕ) → 16384 ≤ length w → get_or w 0 0 ≤ 64 → s ≡ get_or w 0 0
-    → out ≡ put 0 (take (2 * s) (take (3 + 2 * s - 3) (drop 3 w))) body
+    → out ≡ put 0 (take (3 + 2 * s - 3) (drop 3 w)) body
     → out ≡ put 0 (station_words (stations_at w 0 (station_count w))) body
 stations_copied w body out s long few is e =
     e
@@ -40,8 +39,7 @@ pub stops_copied : (w body out : List ℕ) (s first end at : ℕ) → 16384 ≤ 
     → s ≡ get_or w 0 0 → first ≤ end → end ≤ 2048
     → out
     ≡ put at
-    (take (5 * (end - first)) (take (3 + 2 * s + 5 * first + 5 * (end - first) - (3 + 2 * s + 5 * first))
-    (drop (3 + 2 * s + 5 * first) w)))
+    (take (3 + 2 * s + 5 * first + 5 * (end - first) - (3 + 2 * s + 5 * first)) (drop (3 + 2 * s + 5 * first) w))
     body
     → out ≡ put at (stop_words (stops_at w first end)) body
 stops_copied w body out s first end at long few is h g e =
@@ -56,9 +54,8 @@ pub numbers_copied : (w numbers out : List ℕ) (s t n first end at : ℕ) → 1
     end ≤ 256
     → out
     ≡ put at
-    (take (end - first)
     (take (3 + 2 * s + 5 * n + (t + 1) + first + (end - first) - (3 + 2 * s + 5 * n + (t + 1) + first))
-    (drop (3 + 2 * s + 5 * n + (t + 1) + first) w)))
+    (drop (3 + 2 * s + 5 * n + (t + 1) + first) w))
     numbers
     → out ≡ put at (numbers_at w first end) numbers
 numbers_copied w numbers out s t n first end at long few-s few-t few-n is-s is_t is-n h g e =
@@ -77,14 +74,12 @@ module _ (w : List ℕ) (long : 16384 ≤ length w) (few-s : station_count w ≤
   pub walks_inside : from + 4 * walks ≤ length w
   walks_inside = omega (arith, all_walks)
 
-  pub walks_room : (walking : List ℕ) → length walking ≡ 1024 → 0 + 4 * walks ≤ length walking
-  walks_room walking e = omega (arith, all_walks)
-
-  pub walks_all : 4 * walks ≤ length (take (from + 4 * walks - from) (drop from w))
-  walks_all = simp (length-take, length-drop) (omega (arith, walks_inside))
+  pub walks_room : (walking : List ℕ) → length walking ≡ 1024
+      → 0 + length (take (from + 4 * walks - from) (drop from w)) ≤ length walking
+  walks_room walking e = simp (length-take, length-drop) (omega (arith, walks_inside, all_walks))
 
   pub walks_copied : (walking out : List ℕ)
-      → out ≡ put 0 (take (4 * walks) (take (from + 4 * walks - from) (drop from w))) walking
+      → out ≡ put 0 (take (from + 4 * walks - from) (drop from w)) walking
       → out ≡ put 0 (walk_words (walks_at w 0 (walk_count w))) walking
   walks_copied walking out e =
       e

@@ -60,13 +60,6 @@ walks_written stations walks at walking old footed table few low room e f =
 -- ---- the front, in four parts, and the walks behind it
 module _ (stations trips stops : ℕ) (few_stations : stations ≤ 64) (few_trips : trips ≤ 256) (few_stops : stops ≤ 2048)
   where
-    pub starts_enough : (starts : List ℕ) → length starts ≡ 257 → trips + 1 ≤ length starts
-    starts_enough starts e = omega arith
-
-    pub starts_fit : (old headed bodied : List ℕ) → 16384 ≤ length old → length headed ≡ length old
-        → length bodied ≡ length headed → 3 + (2 * stations + 5 * stops) + (trips + 1) ≤ length bodied
-    starts_fit old headed bodied room kept e = omega arith
-
     module _ (body starts numbers old : List ℕ) (room : 16384 ≤ length old) (long : length body ≡ 10368)
         (enough : length starts ≡ 257) where
       abbrev length_body : ℕ

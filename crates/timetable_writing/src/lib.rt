@@ -27,9 +27,7 @@ pub fn copy_stations(words: &[u16], body: &mut [u16])
     ensures body_len_unchanged { length body.new ≡ length body.old }
 {
     let count = 2 * words::word(words, 0) as usize;
-    let from = 3;
-    let part = &words[from..from + count];
-    words::copy(body, 0, part, count);
+    words::copy(body, 0, &words[3..3 + count]);
 }
 
 // Copies the words of the stops from place first up to place end into body, from index at on.
@@ -46,8 +44,7 @@ pub fn copy_stops(words: &[u16], first: usize, end: usize, body: &mut [u16], at:
 {
     let count = 5 * (end - first);
     let from = 3 + 2 * words::word(words, 0) as usize + 5 * first;
-    let part = &words[from..from + count];
-    words::copy(body, at, part, count);
+    words::copy(body, at, &words[from..from + count]);
 }
 
 // Copies the numbers of the trips from place first up to place end into numbers, from index at on.
@@ -68,8 +65,7 @@ pub fn copy_numbers(words: &[u16], first: usize, end: usize, numbers: &mut [u16]
     let stops = 3 + 2 * words::word(words, 0) as usize;
     let starts = stops + 5 * words::word(words, 2) as usize;
     let from = starts + (words::word(words, 1) as usize + 1) + first;
-    let part = &words[from..from + count];
-    words::copy(numbers, at, part, count);
+    words::copy(numbers, at, &words[from..from + count]);
 }
 
 // Copies the words of all walks to the beginning of walking. Returns their number.
@@ -86,10 +82,8 @@ pub fn copy_walks(words: &[u16], walking: &mut [u16]) -> usize
     ensures walking_len_unchanged { length walking.new ≡ length walking.old }
 {
     let walks = timetable::walks_to(words, words::word(words, 0) as usize);
-    let count = 4 * walks;
     let from = timetable::walks_place(words);
-    let part = &words[from..from + count];
-    words::copy(walking, 0, part, count);
+    words::copy(walking, 0, &words[from..from + 4 * walks]);
     walks
 }
 
@@ -104,10 +98,8 @@ fn write_feet(timetable: &mut [u16], at: usize, stations: usize, walks: usize, w
         ≡ put at (foot_words stations (walks_in walking.now 0 walks)) timetable.old }
     ensures timetable_len_unchanged { length timetable.new ≡ length timetable.old }
 {
-    let mut y = 0;
-    while y <= stations {
+    for y in 0..stations + 1 {
         timetable[at + y] = timetable::count_to(walking, 0, walks, y as u32) as u16;
-        y += 1;
     }
 }
 
@@ -126,7 +118,7 @@ fn write_walks(timetable: &mut [u16], at: usize, stations: usize, walks: usize, 
     ensures timetable_len_unchanged { length timetable.new ≡ length timetable.old }
 {
     write_feet(timetable, at, stations, walks, walking);
-    words::copy(timetable, at + (stations + 1), walking, 4 * walks);
+    words::copy(timetable, at + (stations + 1), &walking[..4 * walks]);
 }
 
 // Writes the three counts, the words of stations and stops, which body begins with, where the trips begin, and which
@@ -155,10 +147,10 @@ fn write_front(
     let body_length = 2 * stations + 5 * stops;
     let starts_at = 3 + body_length;
     let starts_length = trips + 1;
-    words::put_three(timetable, 0, stations as u32, trips as u32, stops as u32);
-    words::copy(timetable, 3, body, body_length);
-    words::copy(timetable, starts_at, starts, starts_length);
-    words::copy(timetable, starts_at + starts_length, numbers, trips);
+    words::narrow(timetable, 0, &[stations as u32, trips as u32, stops as u32]);
+    words::copy(timetable, 3, &body[..body_length]);
+    words::copy(timetable, starts_at, &starts[..starts_length]);
+    words::copy(timetable, starts_at + starts_length, &numbers[..trips]);
 }
 
 // Writes the words of a timetable of so many stations, trips, stops and walks: the words of its stations and stops,

@@ -36,3 +36,10 @@ module _ (m : ℕ) where
   below_taken (x ∷ l) zero j b h g = absurd (omega arith)
   below_taken (x ∷ l) (suc n) zero b h g = b.0
   below_taken (x ∷ l) (suc n) (suc j) b h g = below_taken l n j b.1 (omega arith) (omega arith)
+
+  -- each number of the list
+  pub below_each : (src : List ℕ) (j : ℕ) → Below m src → j < length src → get_or src j 0 < m
+  unfolding Below
+  below_each [] j b h = absurd (omega arith)
+  below_each (x ∷ l) zero b h = b.0
+  below_each (x ∷ l) (suc j) b h = below_each l j b.1 (omega arith)

@@ -8,12 +8,22 @@ use Rattle.std.proofs.Math.ListN.{get_or-append}
 use Rattle.std.proofs.lemmas.List.{set_at, take-append-le}
 
 -- `old` with `ws` in the place of the words from `at` on
-unfoldable pub put : ℕ → List ℕ → List ℕ → List ℕ
+unfoldable pub put : {A : Type 0} → ℕ → List A → List A → List A
 put at ws old = take at old ++ ws ++ drop (at + length ws) old
 
 pub length_put : (at : ℕ) (ws old : List ℕ) → at + length ws ≤ length old → length (put at ws old) ≡ length old
 unfolding put
 length_put at ws old h = simp (length-append, length-take, length-drop) (omega arith)
+
+-- a part of it that is written over
+pub put_part : {A : Type 0} (at n : ℕ) (ws old new : List A) → n ≡ length ws → new ≡ ws
+    → take at old ++ (new ++ drop n (drop at old)) ≡ put at ws old
+unfolding put
+put_part at n ws old new long e =
+    ap (λ l. take at old ++ (l ++ drop n (drop at old))) e
+    ∙ ap (λ k. take at old ++ (ws ++ drop k (drop at old))) long
+    ∙ ap (λ l. take at old ++ (ws ++ l)) (drop-drop (length ws) at old)
+    ∙ sym (append_assoc (take at old) ws (drop (at + length ws) old))
 
 -- at the front
 pub put_front : (ws old : List ℕ) → put 0 ws old ≡ ws ++ drop (length ws) old

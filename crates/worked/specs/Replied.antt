@@ -7,13 +7,13 @@ use Rattle.std.proofs.Math.Path.{ap}
 use borrow.Author.Tests.{leb-true, eqb-false, le-leb, lt-leb}
 use Rattle.std.proofs.Math.ListN.{get_or}
 use Rattle.words.specs.Put.{put, length_put, put_front}
-use Rattle.replies.specs.declared.Reply.TheVariants.{Done}
+use Rattle.replies.specs.Reply.{Done}
 use Rattle.replies.specs.Replies.{number_of, reply_of}
 use Rattle.lists.specs.Tests.{and_left, and_right}
 use Rattle.timetable.specs.Timetable.{Timetable, last_minute}
 use Rattle.timetable.specs.Words.{words, timetable_of}
 use Rattle.reading.specs.Reading.{Accepted, reading, read_reply, read_words}
-use Rattle.reading.specs.declared.Reply.TheVariants.{Done as ReadDone}
+use Rattle.reading.specs.Reply.{Done as ReadDone}
 use Rattle.accepted.specs.Fits.{words_most_lem}
 use Rattle.accepted.specs.Sound.{accepted_valid}
 use Rattle.accepted.specs.Question9.{read_has_yes, read_spells}

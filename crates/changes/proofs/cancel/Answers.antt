@@ -1,27 +1,36 @@
 -- A refusal writes nothing.
+use Rattle.std.proofs.Common.{refl}
+use Rattle.std.proofs.lemmas.Result.{err_from_is_err_and}
+use Rattle.questions.specs.Refused.{number_some}
 use borrow.Author.Rules.{rules}
 use Rattle.changes.proofs.CancelLaws.{denied_reply, denied_timetable, denied_lines, kept_reply, kept_timetable}
 use Rattle.changes.proofs.CancelLaws.{kept_lines}
 use Rattle.changes.proofs.AskedLaws.{none_left, order_left}
 use Rattle.changes.proofs.cancel.Goals as goal
 
-pub returns-then-number-ne0-clause-reply : goal.returns-then-number-ne0-clause-reply
-returns-then-number-ne0-clause-reply c = search denied_reply
+pub returns-in_err-order_number-clause-reply : goal.returns-in_err-order_number-clause-reply
+returns-in_err-order_number-clause-reply c =
+    let p = err_from_is_err_and c.from_residual.result c.from_residual.ensures.1 in
+    rw (p.1, p.2) (search (denied_reply, number_some, c.in_err-order_number.ensures.value))
 
-pub returns-then-number-ne0-clause-timetable : goal.returns-then-number-ne0-clause-timetable
-returns-then-number-ne0-clause-timetable c = search denied_timetable
+pub returns-in_err-order_number-clause-timetable : goal.returns-in_err-order_number-clause-timetable
+returns-in_err-order_number-clause-timetable c = search (
+  denied_timetable,
+  number_some,
+  c.in_err-order_number.ensures.value,
+)
 
-pub returns-then-number-ne0-clause-lines : goal.returns-then-number-ne0-clause-lines
-returns-then-number-ne0-clause-lines c = search denied_lines
+pub returns-in_err-order_number-clause-lines : goal.returns-in_err-order_number-clause-lines
+returns-in_err-order_number-clause-lines c = search (denied_lines, number_some, c.in_err-order_number.ensures.value)
 
 pub cancel_asked-requires-clause-work_value : goal.cancel_asked-requires-clause-work_value
-cancel_asked-requires-clause-work_value c = none_left _ _ _ _ c.order_number-number.result
-    c.order_number-number.ensures.value (search rules) (search rules)
+cancel_asked-requires-clause-work_value c = none_left _ _ _ _ 0
+    c.in_ok-order_number.ensures.value refl (search rules)
 
 pub cancel_asked-requires-clause-order_len : goal.cancel_asked-requires-clause-order_len
 cancel_asked-requires-clause-order_len c = (
   search rules,
-  order_left c.order_number-number.result _ _ c.order_number-number.ensures.ordered (search rules),
+  order_left 0 _ _ c.in_ok-order_number.ensures.ordered refl,
 )
 
 pub returns-clause-reply : goal.returns-clause-reply

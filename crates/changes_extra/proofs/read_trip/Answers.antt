@@ -1,20 +1,24 @@
 -- An accepted trip is written as a timetable of its own.
+use Rattle.std.proofs.Common.{refl}
+use Rattle.std.proofs.lemmas.Result.{err_from_is_err_and}
 use borrow.Author.Rules.{rules}
 use Rattle.changes_extra.proofs.TripLaws.{trip_refused, number_small, trip_stations, trip_trips, trip_stops_lem}
 use Rattle.changes_extra.proofs.TripLaws.{trip_whole}
 use Rattle.changes_extra.proofs.read_trip.Goals as goal
 
-pub returns-in-Refused-clause-trip_read : goal.returns-in-Refused-clause-trip_read
-returns-in-Refused-clause-trip_read c = search trip_refused
+pub returns-in_err-p-clause-trip_read : goal.returns-in_err-p-clause-trip_read
+returns-in_err-p-clause-trip_read c =
+    let p = err_from_is_err_and c.from_residual.result c.from_residual.ensures.1 in
+    rw (p.1, p.2) (search (trip_refused, refl, c.in_err-p.ensures))
 
 pub put_number-requires : goal.put_number-requires
-put_number-requires c = (search rules, search number_small)
+put_number-requires c = (search rules, number_small _ _ _ _ _ c.in_ok-p.ensures c.in_ok-p.p _ refl)
 
 pub write_words-requires : goal.write_words-requires
 write_words-requires c = (
-  search trip_stations,
-  search trip_trips,
-  search trip_stops_lem,
+  trip_stations _ _ _ _ _ c.in_ok-p.ensures c.in_ok-p.p _ refl,
+  trip_trips _ _ _ _ _ c.in_ok-p.ensures c.in_ok-p.p _ refl,
+  trip_stops_lem _ _ _ _ _ c.in_ok-p.ensures c.in_ok-p.p _ refl,
   search rules,
   search rules,
   search rules,
@@ -23,5 +27,5 @@ write_words-requires c = (
   search rules,
 )
 
-pub returns-in-Accepted-clause-trip_read : goal.returns-in-Accepted-clause-trip_read
-returns-in-Accepted-clause-trip_read c = search trip_whole
+pub returns-clause-trip_read : goal.returns-clause-trip_read
+returns-clause-trip_read c = search (trip_whole _ _ _ _ _ c.in_ok-p.ensures c.in_ok-p.p _ refl)

@@ -8,6 +8,3 @@ use Rattle.changes_places.proofs.place_of.Given as goal
 abbrev pub invariant-loop-k : goal.invariant-loop-k
 invariant-loop-k l = (l.k ≤ l.trips) × (place_of l.number (numbers_at l.words 0 l.trips) ≡ l.k + place_of l.number
     (numbers_at l.words l.k l.trips))
-
-abbrev pub decreases-loop-k : goal.decreases-loop-k
-decreases-loop-k l = l.trips - l.k

@@ -11,6 +11,3 @@ invariant-loop-k l = (l.from ≤ l.k)
     × (l.k ≤ l.to)
     × (length l.starts ≡ 257)
     × (l.starts ≡ put (l.p.trips + 1) (take (l.k - l.from) (ends_at l.words l.from l.to l.p.stops)) l.initial.starts)
-
-abbrev pub decreases-loop-k : goal.decreases-loop-k
-decreases-loop-k l = l.to - l.k

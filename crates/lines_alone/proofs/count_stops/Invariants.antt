@@ -11,6 +11,3 @@ invariant-loop-z l = (l.z ≤ l.trips)
     × (l.count ≤ 65535 * l.z)
     × (length (stops_of (drawn_trips l.v 0 l.trips)) ≡ l.count + length
     (stops_of (drawn_trips l.v l.z (l.trips - l.z))))
-
-abbrev pub decreases-loop-z : goal.decreases-loop-z
-decreases-loop-z l = l.trips - l.z

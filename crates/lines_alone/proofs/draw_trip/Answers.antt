@@ -1,5 +1,4 @@
 use mathlib.Core.Path.{sym}
-use Prim.Native.Nat.{◌-◌}
 use borrow.Author.Rules.{rules}
 use Rattle.words.specs.Put.{put_none}
 use Rattle.timetable.specs.Words.{stop_words}

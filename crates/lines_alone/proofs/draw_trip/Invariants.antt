@@ -1,7 +1,7 @@
 -- One stop for each position of the line; the low word of its total is at hand.
 use mathlib.Core.List.{map}
 use mathlib.Core.Path.{◌≡◌}
-use Prim.Native.Nat.{◌≤◌, ◌<◌, ◌-◌}
+use Prim.Native.Nat.{◌≤◌, ◌<◌}
 use lib.ListN.{length}
 use Rattle.words.specs.Put.{put}
 use Rattle.lists.specs.Lists.{range}
@@ -16,6 +16,3 @@ invariant-loop-p l = (l.p ≤ l.home.line.positions)
     × (l.here < 65536)
     × (l.here ≡ low_at l.v l.home.line l.p)
     × (l.body ≡ put l.at (stop_words (map (stop_on l.v l.home) (range 0 l.p))) l.initial.body)
-
-abbrev pub decreases-loop-p : goal.decreases-loop-p
-decreases-loop-p l = l.home.line.positions - l.p

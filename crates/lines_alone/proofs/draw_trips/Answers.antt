@@ -42,13 +42,13 @@ loop-z-preserved c = let a = c.args in
       search rules,
       search rules,
       next_counted a.v.now a.trips c.loop-z.z c.loop-z.count c.loop-z.invariant.4 a.numbers.now
-          told number.result number.ensures.0 x.result x.ensures.value c.loop-z-test.true,
+          told number.result number.ensures.0 x.result x.ensures.value (omega arith),
       trip_more a.v.now a.trips c.loop-z.z c.loop-z.count c.loop-z.invariant.4 a.numbers.now told
-          number.result number.ensures.0 x.result x.ensures.value c.loop-z-test.true a.at
+          number.result number.ensures.0 x.result x.ensures.value (omega arith) a.at
           a.body.now c.loop-z.body c.requires.trips_in_bounds.3 c.loop-z.invariant.5
           c.draw_trip.new.body c.draw_trip.ensures.body_after,
       start_more a.v.now a.trips c.loop-z.z c.loop-z.count c.loop-z.invariant.4 a.numbers.now told
-          number.result number.ensures.0 x.result x.ensures.value c.loop-z-test.true zeroed
+          number.result number.ensures.0 x.result x.ensures.value (omega arith) zeroed
           c.loop-z.starts c.loop-z.invariant.6
           (omega (arith, length-set a.starts.now 0 0, c.requires.trips_in_bounds.0)),
     )

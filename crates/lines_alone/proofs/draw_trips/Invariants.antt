@@ -16,6 +16,3 @@ invariant-loop-z l = (l.z ≤ l.trips)
     × (l.count ≡ length (stops_of (drawn_trips l.v 0 l.z)))
     × (l.body ≡ put l.at (stop_words (stops_of (drawn_trips l.v 0 l.z))) l.initial.body)
     × (l.starts ≡ put 0 (start_words 0 (drawn_trips l.v 0 l.z)) l.initial.starts)
-
-abbrev pub decreases-loop-z : goal.decreases-loop-z
-decreases-loop-z l = l.trips - l.z

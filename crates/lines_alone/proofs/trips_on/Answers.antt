@@ -1,4 +1,3 @@
-use Prim.Native.Nat.{◌-◌}
 use borrow.Author.Rules.{rules}
 use Rattle.lines_alone.proofs.CountLaws.{trips_first, trips_more, trips_counted}
 use Rattle.lines_alone.proofs.trips_on.Goals as goal

@@ -7,6 +7,3 @@ use Rattle.lines_alone.proofs.trips_on.Given as goal
 abbrev pub invariant-loop-i : goal.invariant-loop-i
 invariant-loop-i l = (l.i ≤ l.lines) × (l.count ≤ 65535 * l.i) ×
     (trips_from l.v 0 l.lines ≡ l.count + trips_from l.v l.i (l.lines - l.i))
-
-abbrev pub decreases-loop-i : goal.decreases-loop-i
-decreases-loop-i l = l.lines - l.i

@@ -1,7 +1,4 @@
 use Rattle.lines_check.proofs.AskedLaws.{below_first, as_listed}
-use Rattle.lines_check.proofs.is_listed.Reads as reads
-use Rattle.lines_check.proofs.is_listed.Lts as lts
-use Rattle.words.proofs.word.Reads as word_reads
 use Rattle.lines_check.proofs.is_listed.Goals as goal
 
 pub returns-then-station-lt1 : goal.returns-then-station-lt1

@@ -1,4 +1,3 @@
-use Prim.Native.Nat.{◌-◌}
 use borrow.Author.Rules.{rules}
 use Rattle.lines_check.proofs.SameLaws.{counted_none, counted_more, counted_all}
 use Rattle.lines_check.proofs.same_words.Goals as goal

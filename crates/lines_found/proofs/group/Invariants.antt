@@ -1,6 +1,6 @@
 -- The arrays hold the lines of the trips taken so far; with those that are left they come to the timetable's lines.
 use mathlib.Core.Path.{◌≡◌}
-use Prim.Native.Nat.{◌≤◌, ◌-◌}
+use Prim.Native.Nat.{◌≤◌}
 use lib.ListN.{length}
 use Rattle.lines_found.specs.Taken.{OfLasts}
 use Rattle.lines_found.proofs.GroupLaws.{Kept, Given}
@@ -12,6 +12,3 @@ invariant-loop-k l = (l.k ≤ l.trips) × (l.trips ≤ 256) × Given l.words l.o
     × (length l.ends ≡ 256) × (length l.lasts ≡ 256)
     × (length l.chains ≡ 1024) × Kept l.words l.initial.numbers l.initial.ends l.numbers l.ends l.lasts l.count l.k ×
     OfLasts l.words l.lasts l.count l.chains
-
-abbrev pub decreases-loop-k : goal.decreases-loop-k
-decreases-loop-k l = l.trips - l.k

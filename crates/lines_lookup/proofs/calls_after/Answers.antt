@@ -1,4 +1,3 @@
-use Prim.Native.Nat.{◌-◌}
 use borrow.Author.Rules.{rules}
 use Rattle.lines_lookup.proofs.LookupLaws.{none_after, found_after, passed_over}
 use Rattle.lines_lookup.proofs.calls_after.Goals as goal

@@ -1,6 +1,6 @@
 -- None of the trips before place j leaves in time, so the first that does is the first from j on.
 use mathlib.Core.Path.{◌≡◌}
-use Prim.Native.Nat.{◌≤◌, ◌-◌}
+use Prim.Native.Nat.{◌-◌}
 use lib.Dec.{leb}
 use Rattle.lines_lookup.specs.Lookup.{depart_at}
 use Rattle.lists.specs.First.{first_from}
@@ -8,8 +8,5 @@ use Rattle.lines_lookup.specs.First.{first_trip}
 use Rattle.lines_lookup.proofs.first_trip.Given as goal
 
 abbrev pub invariant-loop-j : goal.invariant-loop-j
-invariant-loop-j l = (l.j ≤ l.l.trips)
-    × (first_trip l.v l.l l.x l.minute ≡ first_from (λ j. leb l.minute (depart_at l.v l.l l.x j)) l.j (l.l.trips - l.j))
-
-abbrev pub decreases-loop-j : goal.decreases-loop-j
-decreases-loop-j l = l.l.trips - l.j
+invariant-loop-j l =
+    first_trip l.v l.l l.x l.minute ≡ first_from (λ j. leb l.minute (depart_at l.v l.l l.x j)) l.j (l.l.trips - l.j)

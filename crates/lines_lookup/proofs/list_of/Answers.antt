@@ -1,6 +1,6 @@
 -- The words between the places of the station and of the next, as far as there are words.
 use borrow.Author.Rules.{rules}
-use Rattle.lines_lookup.proofs.LookupLaws.{no_station_lem, not_listed, whole_list, cut_list}
+use Rattle.lines_lookup.proofs.LookupLaws.{no_station_lem, not_listed, cut_list}
 use Rattle.lines_lookup.proofs.list_of.Goals as goal
 
 pub returns-then-station-lt1 : goal.returns-then-station-lt1
@@ -9,12 +9,5 @@ returns-then-station-lt1 c = (search no_station_lem, search rules)
 pub returns-then-peek-station : goal.returns-then-peek-station
 returns-then-peek-station c = (search not_listed, search rules)
 
-pub returns-then-v-end : goal.returns-then-v-end
-returns-then-v-end c = (
-  cut_list _ _ _ c.peek.ensures.0 c.if-station-lt1.false c.if-peek-station.false _ _
-      c.calls_place-from.ensures.0 c.calls_place-end.ensures.0 c.if-v-end.true,
-  search rules,
-)
-
 pub returns : goal.returns
-returns c = (search whole_list, search rules)
+returns c = (search cut_list, search rules)

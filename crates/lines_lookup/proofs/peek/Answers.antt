@@ -1,8 +1,5 @@
 use borrow.Author.Rules.{rules}
 use Rattle.lists.specs.Places.{past}
-use Rattle.lines_lookup.proofs.peek.Reads as reads
-use Rattle.lines_lookup.proofs.peek.Lts as lts
-use Rattle.words.proofs.word.Reads as word_reads
 use Rattle.lines_lookup.proofs.peek.Goals as goal
 
 pub returns : goal.returns

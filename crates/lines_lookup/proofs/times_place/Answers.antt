@@ -1,8 +1,6 @@
 use mathlib.Core.Path.{refl}
 use native.Mathlib.Omega.{arith}
 use Rattle.lines_lookup.proofs.LookupLaws.{product}
-use Rattle.lines_lookup.proofs.times_place.Reads as reads
-use Rattle.lines_lookup.proofs.times_place.Lts as lts
 use Rattle.lines_lookup.proofs.times_place.Goals as goal
 
 pub overflow_mul-result-2 : goal.overflow_mul-result-2

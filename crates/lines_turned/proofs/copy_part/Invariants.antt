@@ -11,6 +11,3 @@ invariant-loop-k l = (l.from ≤ l.k)
     × (l.k ≤ l.end)
     × (length l.out ≡ length l.initial.out)
     × (put l.from (slice l.from l.end l.lines) l.initial.out ≡ put l.k (slice l.k l.end l.lines) l.out)
-
-abbrev pub decreases-loop-k : goal.decreases-loop-k
-decreases-loop-k l = l.end - l.k

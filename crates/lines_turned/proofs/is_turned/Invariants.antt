@@ -14,6 +14,3 @@ invariant-loop-i l = (l.i ≤ l.count)
     × (are_by_trip l.words l.other
     ≡ starts (drop (line_start (timetable_of l.words) l.i) (words_by_trip (timetable_of l.words)))
     (drop (line_start (timetable_of l.words) l.i) l.other))
-
-abbrev pub decreases-loop-i : goal.decreases-loop-i
-decreases-loop-i l = l.count - l.i

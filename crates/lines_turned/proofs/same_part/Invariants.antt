@@ -9,6 +9,3 @@ use Rattle.lines_turned.proofs.same_part.Given as goal
 abbrev pub invariant-loop-k : goal.invariant-loop-k
 invariant-loop-k l = (l.from ≤ l.k) × (l.k ≤ l.end) × (starts (slice l.from l.end l.work) (drop l.from l.other) ≡ starts
     (slice l.k l.end l.work) (drop l.k l.other))
-
-abbrev pub decreases-loop-k : goal.decreases-loop-k
-decreases-loop-k l = l.end - l.k

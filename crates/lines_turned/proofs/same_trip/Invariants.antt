@@ -10,6 +10,3 @@ invariant-loop-p l = (l.p ≤ l.stops)
     × (l.k ≤ 32768 + 32768 * l.p)
     × (starts (stepped l.work l.from l.trips l.stops) (drop l.at l.other)
     ≡ starts (stepped l.work l.k l.trips (l.stops - l.p)) (drop (l.at + 2 * l.p) l.other))
-
-abbrev pub decreases-loop-p : goal.decreases-loop-p
-decreases-loop-p l = l.stops - l.p

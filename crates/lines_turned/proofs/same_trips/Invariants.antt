@@ -10,6 +10,3 @@ invariant-loop-j l = (l.j ≤ l.l.trips)
     × (l.at + (l.l.trips - l.j) * (2 * l.l.positions) ≡ line_end l.l)
     × (starts (turned_trips l.work l.from l.l.trips l.l.positions l.l.trips) (drop l.from l.other)
     ≡ starts (turned_trips l.work (l.from + l.j) l.l.trips l.l.positions (l.l.trips - l.j)) (drop l.at l.other))
-
-abbrev pub decreases-loop-j : goal.decreases-loop-j
-decreases-loop-j l = l.l.trips - l.j

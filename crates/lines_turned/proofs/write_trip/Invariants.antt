@@ -12,6 +12,3 @@ invariant-loop-p l = (l.p ≤ l.stops)
     × (length l.out ≡ length l.initial.out)
     × (put l.at (stepped l.lines l.from l.trips l.stops) l.initial.out ≡ put (l.at + 2 * l.p)
     (stepped l.lines l.k l.trips (l.stops - l.p)) l.out)
-
-abbrev pub decreases-loop-p : goal.decreases-loop-p
-decreases-loop-p l = l.stops - l.p

@@ -12,6 +12,3 @@ invariant-loop-j l = (l.j ≤ l.l.trips)
     × (length l.out ≡ length l.initial.out)
     × (put l.from (turned_trips l.lines l.from l.l.trips l.l.positions l.l.trips) l.initial.out
     ≡ put l.at (turned_trips l.lines (l.from + l.j) l.l.trips l.l.positions (l.l.trips - l.j)) l.out)
-
-abbrev pub decreases-loop-j : goal.decreases-loop-j
-decreases-loop-j l = l.l.trips - l.j

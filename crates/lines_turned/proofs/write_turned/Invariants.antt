@@ -16,6 +16,3 @@ invariant-loop-i l = let t = timetable_of l.words in
     × (16384 ≤ length l.other)
     × (put (line_start t 0) (drop (line_start t 0) whole) l.initial.other ≡ put (line_start t l.i)
     (drop (line_start t l.i) whole) l.other)
-
-abbrev pub decreases-loop-i : goal.decreases-loop-i
-decreases-loop-i l = l.count - l.i

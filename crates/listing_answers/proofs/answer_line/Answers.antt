@@ -3,18 +3,17 @@ use Rattle.listing_answers.proofs.LineLaws.{asked_count, asked_words, misshapen_
 use borrow.Author.Rules.{rules}
 use Rattle.listing_answers.proofs.answer_line.Goals as goal
 
-pub returns-in-Asked-clause-count_value : goal.returns-in-Asked-clause-count_value
-returns-in-Asked-clause-count_value c = (
+pub returns-in-Some-clause-count_value : goal.returns-in-Some-clause-count_value
+returns-in-Some-clause-count_value c = (
   search asked_count,
   search asked_words,
   search rules,
   search rules,
-  search
-      rules,
+  search rules,
 )
 
-pub returns-in-Misshapen-clause-count_value : goal.returns-in-Misshapen-clause-count_value
-returns-in-Misshapen-clause-count_value c = (
+pub returns-in-None-clause-count_value : goal.returns-in-None-clause-count_value
+returns-in-None-clause-count_value c = (
   search misshapen_count,
   search misshapen_words,
   search rules,

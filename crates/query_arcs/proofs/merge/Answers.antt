@@ -1,4 +1,3 @@
-use Prim.Native.Nat.{◌-◌}
 use Rattle.query_arcs.specs.Merged.{merging_first, merging_skip}
 use Rattle.query_arcs.specs.Merged.{merging_turn, merging_all, merging_blank}
 use borrow.Author.Rules.{rules}

@@ -1,6 +1,5 @@
 -- The minutes before m are merged, and those from m on are as they were.
 use mathlib.Core.Path.{◌≡◌}
-use Prim.Native.Nat.{◌-◌}
 use lib.ListN.{length}
 use Rattle.query_arcs.specs.Merged.{Merging}
 use Rattle.query_arcs.proofs.merge.Given as goal
@@ -10,6 +9,3 @@ invariant-loop-m l = (length l.mine ≡ 2880)
     × (length l.best ≡ 2880)
     × (length l.who ≡ 2880)
     × Merging l.k l.m l.initial.mine l.initial.best l.initial.who l.mine l.best l.who
-
-abbrev pub decreases-loop-m : goal.decreases-loop-m
-decreases-loop-m l = l.to - l.m

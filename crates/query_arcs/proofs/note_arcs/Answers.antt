@@ -1,5 +1,4 @@
 use mathlib.Core.Path.{refl}
-use Prim.Native.Nat.{◌-◌}
 use Rattle.query_arcs.specs.Merged.{bound_first}
 use Rattle.query_arcs.specs.Arcs.{noted_first, noted_idle, noted_all}
 use Rattle.query_arcs.specs.Arcs.{noted_end, store_words, store_made, counted_target}
@@ -11,7 +10,6 @@ arc_count-arcs-requires c = search store_words
 
 pub loop-k-init : goal.loop-k-init
 loop-k-init c = (
-  search rules,
   search rules,
   search rules,
   search rules,
@@ -30,7 +28,6 @@ counts-requires c = (search store_made, search rules)
 
 pub loop-k-preserved-then-not-counts : goal.loop-k-preserved-then-not-counts
 loop-k-preserved-then-not-counts c = (
-  search rules,
   search rules,
   search rules,
   search rules,

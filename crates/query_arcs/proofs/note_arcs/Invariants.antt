@@ -1,7 +1,6 @@
 -- The penalties are the least of the connections that go by one of the arcs so far, and a minute has an arc only if no
 -- other of them has its penalty.
 use mathlib.Core.Path.{◌≡◌}
-use Prim.Native.Nat.{◌≤◌, ◌-◌}
 use lib.ListN.{length}
 use Rattle.query_store.specs.Entries.{arc_count}
 use Rattle.query_minutes.specs.Minutes.{blank}
@@ -10,8 +9,7 @@ use Rattle.query_arcs.specs.Arcs.{NotedAll}
 use Rattle.query_arcs.proofs.note_arcs.Given as goal
 
 abbrev pub invariant-loop-k : goal.invariant-loop-k
-invariant-loop-k l = (l.k ≤ l.arcs)
-    × (l.arcs ≡ arc_count l.store)
+invariant-loop-k l = (l.arcs ≡ arc_count l.store)
     × (length l.best ≡ 2880)
     × (length l.who ≡ 2880)
     × (length l.mine ≡ 2880)
@@ -22,6 +20,3 @@ invariant-loop-k l = (l.k ≤ l.arcs)
     × (l.q ≡ blank)
     × Bound l.best l.who
     × NotedAll l.words l.store l.asked.from l.asked.to l.asked.minute l.k l.best l.who
-
-abbrev pub decreases-loop-k : goal.decreases-loop-k
-decreases-loop-k l = l.arcs - l.k

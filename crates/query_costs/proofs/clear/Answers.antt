@@ -1,4 +1,3 @@
-use Prim.Native.Nat.{◌-◌}
 use borrow.Author.Rules.{rules}
 use Rattle.query_costs.specs.Falling.{clear_more, clear_done}
 use Rattle.query_costs.proofs.LowestLaws.{lowest_short}

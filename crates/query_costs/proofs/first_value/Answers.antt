@@ -1,16 +1,19 @@
-use Prim.Native.Nat.{◌-◌}
 use borrow.Author.Rules.{rules}
 use Rattle.query_costs.proofs.LowestLaws.{looks_on, none_left, found, goes_on}
 use Rattle.query_costs.proofs.first_value.Goals as goal
 
 pub loop-m-init : goal.loop-m-init
-loop-m-init c = (search rules, search rules, search looks_on)
+loop-m-init c = search looks_on
 
 pub loop-m-preserved : goal.loop-m-preserved
-loop-m-preserved c = (search rules, search rules, search goes_on)
+loop-m-preserved c = search goes_on
 
-pub returns-then-m-ge-MINUTES : goal.returns-then-m-ge-MINUTES
-returns-then-m-ge-MINUTES c = (search none_left, search rules, search rules)
+pub returns : goal.returns
+returns c = (
+  none_left c.args.p.now c.loop-m.m c.loop-m.invariant (search rules) (search rules),
+  search rules,
+  search rules,
+)
 
 pub returns-then-less : goal.returns-then-less
 returns-then-less c = (search found, search rules, search rules)

@@ -1,6 +1,6 @@
 -- None of the minutes before m has a penalty, so the first that does is the first from m on.
 use mathlib.Core.Path.{◌≡◌}
-use Prim.Native.Nat.{◌≤◌, ◌-◌}
+use Prim.Native.Nat.{◌-◌}
 use lib.Dec.{ltb}
 use lib.ListN.{get_or}
 use Rattle.lists.specs.First.{first_from}
@@ -9,8 +9,5 @@ use Rattle.query_costs.specs.Layering.{first_value}
 use Rattle.query_costs.proofs.first_value.Given as goal
 
 abbrev pub invariant-loop-m : goal.invariant-loop-m
-invariant-loop-m l = (l.m ≤ 2880) × (l.from ≤ l.m) × (first_value l.p ≡ first_from (λ k. ltb (get_or l.p k 0) no_points)
+invariant-loop-m l = (first_value l.p ≡ first_from (λ k. ltb (get_or l.p k 0) no_points)
     l.m (2880 - l.m))
-
-abbrev pub decreases-loop-m : goal.decreases-loop-m
-decreases-loop-m l = 2880 - l.m

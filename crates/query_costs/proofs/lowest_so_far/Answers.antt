@@ -1,5 +1,4 @@
 use mathlib.Core.Path.{refl}
-use Prim.Native.Nat.{◌-◌}
 use borrow.Author.Rules.{rules}
 use Rattle.query_costs.specs.Falling.{lowest_kept, lowest_falls_now}
 use Rattle.query_costs.proofs.LowestLaws.{lowest_short, lowest_first, rest_same, lowest_more}

@@ -1,5 +1,4 @@
 use mathlib.Core.Path.{ap}
-use Prim.Native.Nat.{◌-◌}
 use lib.ListN.{length}
 use borrow.Author.Rules.{rules}
 use Rattle.query_costs.specs.Spans.{within_from}
@@ -27,8 +26,8 @@ loop-j-init c = (
   search rules,
 )
 
-pub finish_turned-noted-requires : goal.finish_turned-noted-requires
-finish_turned-noted-requires c = (search rules, search rules, search rules, search rules, search rules, search fitting)
+pub finish_turned-requires : goal.finish_turned-requires
+finish_turned-requires c = (search rules, search rules, search rules, search rules, search rules, search fitting)
 
 pub step_turned-s-requires-clause-in_bounds : goal.step_turned-s-requires-clause-in_bounds
 step_turned-s-requires-clause-in_bounds c = (search rules, search rules, search alighted_here)
@@ -43,7 +42,7 @@ loop-j-preserved c = (
   search rules,
   search rules,
   search rules,
-  boarded_here _ _ _ _ _ c.requires.le_r.3 c.loop-j.invariant.0 c.if-j-r.false c.word-boarded.ensures.0,
+  boarded_here _ _ _ _ _ c.requires.le_r.3 (search rules) c.word-boarded.ensures.0,
   c.step_turned-s.ensures.falls_2.0,
   c.step_turned-s.ensures.q_after_2.0,
   ready_next _ c.requires.in_bounds.1 _ c.requires.in_bounds.2 _ _ _ c.loop-j.invariant.0 c.requires.le_r.3 _ _ _ _
@@ -56,19 +55,19 @@ loop-j-preserved c = (
   search rules,
 )
 
-pub returns-then-j-r-clause-lowered : goal.returns-then-j-r-clause-lowered
-returns-then-j-r-clause-lowered c = ended _ c.requires.in_bounds.1 _ c.requires.in_bounds.2 _ _ _ c.loop-j.invariant.0
+pub returns-clause-lowered : goal.returns-clause-lowered
+returns-clause-lowered c = ended _ c.requires.in_bounds.1 _ c.requires.in_bounds.2 _ _ _ c.loop-j.invariant.0
     c.requires.le_r.3 _ _ _ _ c.loop-j.invariant.5 _
-    c.loop-j.invariant.8 _ c.word-alighted.ensures.0 c.if-j-r.true _ _ _ c.requires.p_value.4 c.loop-j.invariant.4
-    c.finish_turned-noted.ensures.best_after
+    c.loop-j.invariant.8 _ (search rules) c.word-to.ensures.0 _ _ _ c.requires.p_value.4 c.loop-j.invariant.4
+    c.finish_turned.ensures.best_after
 
-pub returns-then-j-r-clause-within : goal.returns-then-j-r-clause-within
-returns-then-j-r-clause-within c = search within_from
+pub returns-clause-within : goal.returns-clause-within
+returns-clause-within c = search within_from
 
 pub returns-then-s-ge-MINUTES-clause-lowered : goal.returns-then-s-ge-MINUTES-clause-lowered
 returns-then-s-ge-MINUTES-clause-lowered c = stopped _ c.requires.in_bounds.1 _ c.requires.in_bounds.2 _ _ _
     c.loop-j.invariant.0 c.requires.le_r.3 _ _ _ _ c.loop-j.invariant.5 _
-    c.loop-j.invariant.8 _ c.word-alighted.ensures.0 _ c.word-boarded.ensures.0 c.if-j-r.false _
+    c.loop-j.invariant.8 _ c.word-alighted.ensures.0 _ c.word-boarded.ensures.0 (search rules) _
     c.step_turned-s.ensures.q_after _ c.step_turned-s.ensures.falls_2.1 c.step_turned-s.ensures.falls_2.2
     c.if-s-ge-MINUTES.true _ _ c.loop-j.invariant.4
 

@@ -1,7 +1,7 @@
 -- The words held are those of one who is ready at the present station, from the first minute on that the last step
 -- answered. Before the last ride they give what is promised; if no one is ready, no connection has the pattern.
 use mathlib.Core.Path.{◌≡◌}
-use Prim.Native.Nat.{◌≤◌, ◌<◌, ◌-◌}
+use Prim.Native.Nat.{◌≤◌, ◌<◌}
 use lib.ListN.{length}
 use Rattle.timetable.specs.Words.{timetable_of}
 use Rattle.connections.specs.Connections.{net}
@@ -29,6 +29,3 @@ invariant-loop-j l = (l.j < l.r)
     × (length l.initial.p ≡ 2880)
     × (length l.initial.q ≡ 2880)
     × (length l.initial.best ≡ 2880)
-
-abbrev pub decreases-loop-j : goal.decreases-loop-j
-decreases-loop-j l = l.r - l.j

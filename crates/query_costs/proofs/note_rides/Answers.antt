@@ -1,11 +1,11 @@
 use borrow.Author.Rules.{rules}
-use Rattle.query_rides.specs.Riding.{near_falls}
+use Rattle.query_rides.specs.Riding.{near_falls, good_some}
 use Rattle.query_costs.proofs.RideLaws.{fitting_first, fitting_next, fits_here, noting_first, noting_more}
 use Rattle.query_costs.proofs.RideLaws.{noting_done, span_first, span_more, span_low}
 use Rattle.query_costs.proofs.note_rides.Goals as goal
 
-pub loop-c-init : goal.loop-c-init
-loop-c-init c = (
+pub loop-next-init : goal.loop-next-init
+loop-next-init c = (
   search rules,
   search fitting_first,
   search rules,
@@ -15,14 +15,20 @@ loop-c-init c = (
   search noting_first,
 )
 
+pub tell-requires : goal.tell-requires
+tell-requires c = search good_some
+
+pub next_nearest-next-requires : goal.next_nearest-next-requires
+next_nearest-next-requires c = search good_some
+
 pub note_ride-noted-requires : goal.note_ride-noted-requires
-note_ride-noted-requires c = (search rules, search fits_here, search rules, search rules)
+note_ride-noted-requires c = (search rules, search (fits_here, good_some), search rules, search rules)
 
-pub loop-c-smaller : goal.loop-c-smaller
-loop-c-smaller c = search near_falls
+pub loop-next-smaller : goal.loop-next-smaller
+loop-next-smaller c = search near_falls
 
-pub loop-c-preserved : goal.loop-c-preserved
-loop-c-preserved c = (
+pub loop-next-preserved : goal.loop-next-preserved
+loop-next-preserved c = (
   search rules,
   search fitting_next,
   search rules,

@@ -1,14 +1,13 @@
-use Prim.Native.Nat.{◌-◌}
+-- All words of the window are copied at once.
+use mathlib.Core.Path.{ap}
+use native.Mathlib.Omega.{arith}
 use borrow.Author.Rules.{rules}
-use Rattle.query_rests.specs.Spans.{stored_none, stored_all}
-use Rattle.query_layers.proofs.LayerLaws.{keep_more}
+use lib.ListN.{get_or}
+use Rattle.query_minutes.specs.Minutes.{no_points}
+use Rattle.query_rests.specs.Spans.{stored_copy}
 use Rattle.query_layers.proofs.keep.Goals as goal
 
-pub loop-i-init : goal.loop-i-init
-loop-i-init c = (search rules, search rules, search rules, search stored_none)
-
-pub loop-i-preserved : goal.loop-i-preserved
-loop-i-preserved c = (search rules, search rules, search rules, search keep_more)
-
 pub returns-clause-stored : goal.returns-clause-stored
-returns-clause-stored c = search stored_all
+returns-clause-stored c =
+    stored_copy _ _ c.args.minute _ _ _ _ _ _ c.copy_from_slice.ensures.after (search rules) (search rules)
+    (search rules) (search rules) (λ m h g. ap (λ i. get_or c.args.z.now i no_points) (omega arith))

@@ -1,14 +1,10 @@
-use Prim.Native.Nat.{◌-◌}
+-- All words of the window are copied at once.
+use mathlib.Core.Path.{refl}
 use borrow.Author.Rules.{rules}
-use Rattle.query_rests.specs.Spans.{stored_none}
-use Rattle.query_layers.proofs.LayerLaws.{look_more, stored_until}
+use Rattle.query_rests.specs.Spans.{stored_copy}
 use Rattle.query_layers.proofs.look_up.Goals as goal
 
-pub loop-m-init : goal.loop-m-init
-loop-m-init c = (search rules, search rules, search rules, search stored_none)
-
-pub loop-m-preserved : goal.loop-m-preserved
-loop-m-preserved c = (search rules, search rules, search rules, search look_more)
-
 pub returns-clause-stored : goal.returns-clause-stored
-returns-clause-stored c = search stored_until
+returns-clause-stored c =
+    stored_copy _ _ c.args.at _ _ _ _ _ _ c.copy_from_slice.ensures.after (search rules) (search rules) (search rules)
+    (search rules) (λ m h g. refl)

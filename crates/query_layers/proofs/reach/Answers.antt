@@ -1,7 +1,5 @@
-use Prim.Native.Nat.{◌-◌}
-use borrow.Author.Rules.{rules}
 use Rattle.query_layers.proofs.LayerLaws.{room_one}
 use Rattle.query_layers.proofs.reach.Goals as goal
 
 pub loop-high-init : goal.loop-high-init
-loop-high-init c = (search rules, search rules, search room_one)
+loop-high-init c = search room_one

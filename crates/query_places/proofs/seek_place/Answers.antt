@@ -1,4 +1,3 @@
-use Prim.Native.Nat.{◌-◌}
 use borrow.Author.Rules.{rules}
 use Rattle.query_places.proofs.ReachLaws.{place_none, place_other, place_closed, place_found}
 use Rattle.query_places.proofs.seek_place.Goals as goal

@@ -3,10 +3,10 @@ use Rattle.query_rests.proofs.RestLaws.{settle_begins, low_begins, settle_more, 
 use Rattle.query_rests.proofs.settle.Goals as goal
 
 pub loop-m-init : goal.loop-m-init
-loop-m-init c = (search rules, search rules, search rules, search settle_begins, search low_begins)
+loop-m-init c = (search rules, search rules, search settle_begins, search low_begins)
 
 pub loop-m-preserved : goal.loop-m-preserved
-loop-m-preserved c = (search rules, search rules, search rules, search settle_more, search low_more)
+loop-m-preserved c = (search rules, search rules, search settle_more, search low_more)
 
 pub returns-clause-z_after : goal.returns-clause-z_after
 returns-clause-z_after c = (search settle_done, search settle_spans)

@@ -4,8 +4,8 @@ use Rattle.query_rows.proofs.PointLaws.{count_skip_at, count_leading_at, count_n
 use borrow.Author.Rules.{rules}
 use Rattle.query_rows.proofs.measure.Goals as goal
 
-pub loop-m-init : goal.loop-m-init
-loop-m-init c = (
+pub loop-arrive-init : goal.loop-arrive-init
+loop-arrive-init c = (
   search rules,
   search rules,
   search rules,
@@ -16,8 +16,8 @@ loop-m-init c = (
       counting_begin,
 )
 
-pub loop-m-preserved-then-not-less : goal.loop-m-preserved-then-not-less
-loop-m-preserved-then-not-less c = (
+pub loop-arrive-preserved-then-not-less : goal.loop-arrive-preserved-then-not-less
+loop-arrive-preserved-then-not-less c = (
   search rules,
   search rules,
   search rules,
@@ -37,19 +37,19 @@ name_arc-count-requires c = (
   search rules,
 )
 
-pub loop-m-preserved : goal.loop-m-preserved
-loop-m-preserved c = (
+pub loop-arrive-preserved : goal.loop-arrive-preserved
+loop-arrive-preserved c = (
   search rules,
   search rules,
   search rules,
   search rules,
   search rules,
   named_at _ _ _ _ _ _ _ _ _ _ _ _ c.points_at-points.ensures c.requires.0 c.requires.1 c.requires.4
-      c.loop-m.invariant.6 _ c.loop-m.invariant.2 (search rules) _ c.less.ensures (search rules) _ _
-      c.loop-m.invariant.3 c.name_arc-count.ensures.named_row.0 c.loop-m.invariant.5,
+      c.loop-arrive.invariant.6 _ c.loop-arrive.invariant.2 (search rules) _ c.less.ensures (search rules) _ _
+      c.loop-arrive.invariant.3 c.name_arc-count.ensures.named_row.0 c.loop-arrive.invariant.5,
   count_row_at _ _ _ _ _ _ _ _ _ _ _ _ c.points_at-points.ensures c.requires.0 c.requires.1 c.requires.4
-      c.loop-m.invariant.6 _ c.loop-m.invariant.2 (search rules) _ c.less.ensures (search rules) _ _
-      c.loop-m.invariant.3 c.name_arc-count.ensures.named_row.0,
+      c.loop-arrive.invariant.6 _ c.loop-arrive.invariant.2 (search rules) _ c.less.ensures (search rules) _ _
+      c.loop-arrive.invariant.3 c.name_arc-count.ensures.named_row.0,
 )
 
 pub returns-clause-value : goal.returns-clause-value

@@ -8,14 +8,11 @@ use Rattle.query_rows.specs.Named.{AllNamed}
 use Rattle.query_rows.proofs.PassLaws.{Counting}
 use Rattle.query_rows.proofs.measure.Given as goal
 
-abbrev pub invariant-loop-m : goal.invariant-loop-m
-invariant-loop-m l = (l.m ≤ 2880)
-    × (l.count ≤ 195 * l.m)
+abbrev pub invariant-loop-arrive : goal.invariant-loop-arrive
+invariant-loop-arrive l = (l.arrive ≤ 2880)
+    × (l.count ≤ 195 * l.arrive)
     × LeadsEnd l.best l.end
     × (length l.who ≡ 2880)
     × (length l.work ≡ length l.initial.work)
     × AllNamed l.words l.store l.asked.from l.asked.to l.asked.minute l.best l.who
-    × Counting l.best l.who (rows l.words l.store l.asked.from l.asked.to l.asked.minute) l.count l.least.0 l.m
-
-abbrev pub decreases-loop-m : goal.decreases-loop-m
-decreases-loop-m l = 2880 - l.m
+    × Counting l.best l.who (rows l.words l.store l.asked.from l.asked.to l.asked.minute) l.count l.least.0 l.arrive

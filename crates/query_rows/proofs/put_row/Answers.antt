@@ -3,8 +3,8 @@ use Rattle.query_rows.proofs.RowLaws.{copy_room, row_put, row_long}
 use borrow.Author.Rules.{rules}
 use Rattle.query_rows.proofs.put_row.Goals as goal
 
-pub copy_long-requires : goal.copy_long-requires
-copy_long-requires c = (search copy_room, search rules)
+pub copy-requires : goal.copy-requires
+copy-requires c = search copy_room
 
 pub shape_of-answer : goal.shape_of-answer
 shape_of-answer c = search row_long

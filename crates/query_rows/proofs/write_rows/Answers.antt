@@ -4,11 +4,11 @@ use Rattle.query_rows.proofs.PointLaws.{skip_at, leading_at, some_at, leader_at,
 use borrow.Author.Rules.{rules}
 use Rattle.query_rows.proofs.write_rows.Goals as goal
 
-pub loop-m-init : goal.loop-m-init
-loop-m-init c = (search rules, search rules, search rules, search rules, search going_begin, search put_nothing)
+pub loop-arrive-init : goal.loop-arrive-init
+loop-arrive-init c = (search rules, search rules, search rules, search rules, search going_begin, search put_nothing)
 
-pub loop-m-preserved-then-not-less : goal.loop-m-preserved-then-not-less
-loop-m-preserved-then-not-less c = (
+pub loop-arrive-preserved-then-not-less : goal.loop-arrive-preserved-then-not-less
+loop-arrive-preserved-then-not-less c = (
   search rules,
   search rules,
   search rules,
@@ -30,8 +30,8 @@ write_row-here-requires c = (
   search room_at,
 )
 
-pub loop-m-preserved : goal.loop-m-preserved
-loop-m-preserved c = (search rules, search rules, search rules, search rules, search written_at, search held_at)
+pub loop-arrive-preserved : goal.loop-arrive-preserved
+loop-arrive-preserved c = (search rules, search rules, search rules, search rules, search written_at, search held_at)
 
 pub returns-clause-answer_after : goal.returns-clause-answer_after
 returns-clause-answer_after c = search all_written

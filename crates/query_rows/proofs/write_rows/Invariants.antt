@@ -8,14 +8,11 @@ use Rattle.query_minutes.specs.Ending.{LeadsEnd}
 use Rattle.query_rows.proofs.PassLaws.{Going}
 use Rattle.query_rows.proofs.write_rows.Given as goal
 
-abbrev pub invariant-loop-m : goal.invariant-loop-m
-invariant-loop-m l = (l.m ≤ 2880)
+abbrev pub invariant-loop-arrive : goal.invariant-loop-arrive
+invariant-loop-arrive l = (l.arrive ≤ 2880)
     × LeadsEnd l.best l.end
     × (length l.answer ≡ length l.initial.answer)
     × (length l.work ≡ length l.initial.work)
-    × Going l.best (rows l.words l.store l.asked.from l.asked.to l.asked.minute) l.here l.least.0 l.m
+    × Going l.best (rows l.words l.store l.asked.from l.asked.to l.asked.minute) l.here l.least.0 l.arrive
     × (l.answer ≡ put 0 (take l.here (row_words (rows l.words l.store l.asked.from l.asked.to l.asked.minute)))
     l.initial.answer)
-
-abbrev pub decreases-loop-m : goal.decreases-loop-m
-decreases-loop-m l = 2880 - l.m

@@ -1,4 +1,3 @@
-use Prim.Native.Nat.{◌-◌}
 use borrow.Author.Rules.{rules}
 use Rattle.query_layers.proofs.LayerLaws.{keeps_none}
 use Rattle.query_shown.proofs.WayLaws.{starts_there, starts, none_there}

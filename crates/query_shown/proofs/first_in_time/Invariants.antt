@@ -1,7 +1,7 @@
 -- The rides written so far begin the connection that is shown; with no ride left they are it. Only the first ride can
 -- fail to be found.
 use mathlib.Core.Path.{◌≡◌}
-use Prim.Native.Nat.{◌-◌, ◌≤◌}
+use Prim.Native.Nat.{◌≤◌}
 use lib.ListN.{length}
 use Rattle.query_rests.specs.Spans.{Spans}
 use Rattle.query_layers.specs.Layers.{Keeps}
@@ -18,6 +18,3 @@ invariant-loop-i l = Onward l.words l.lines l.path l.r l.sought.arrive l.sought.
     × (l.sought.minute ≤ l.sought.arrive)
     × Spans l.sought.minute l.sought.arrive l.z
     × Spans l.sought.minute l.sought.arrive l.old
-
-abbrev pub decreases-loop-i : goal.decreases-loop-i
-decreases-loop-i l = l.r - l.i

@@ -1,11 +1,7 @@
-use Prim.Native.Nat.{◌+◌, ◌<◌}
-use mathlib.Core.Path.{refl}
-use native.Mathlib.Omega.{arith}
-use lib.ListN.{length}
 use borrow.Author.Rules.{rules}
-use Rattle.query_store.proofs.ReadLaws.{root_words, root_count, node_first, node_present, parent_below}
-use Rattle.query_store.proofs.ReadLaws.{parent_known, parent_room, node_room, node_begin, node_second}
-use Rattle.query_store.proofs.ReadLaws.{node_count_lem, node_words, kept_twice}
+use Rattle.query_store.proofs.ReadLaws.{root_words, root_count, parent_below}
+use Rattle.query_store.proofs.ReadLaws.{parent_known, parent_room, node_begin, node_second}
+use Rattle.query_store.proofs.ReadLaws.{node_count_lem, node_words}
 use Rattle.query_store.proofs.+read_pattern.Goals as goal
 
 pub returns-then-node-eq0-clause-path_after : goal.returns-then-node-eq0-clause-path_after

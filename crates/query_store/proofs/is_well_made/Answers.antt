@@ -1,6 +1,5 @@
 -- The tests are those of question 13, in the order of `decided`.
 use borrow.Author.Rules.{rules}
-use borrow.Author.Tests.{not-false}
 use Rattle.query_store.proofs.TestLaws.{not_present, nodes_there, all_there, few_nodes, nodes_bad, made_decides}
 use Rattle.query_store.proofs.is_well_made.Goals as goal
 

@@ -1,5 +1,4 @@
 use mathlib.Core.Path.{refl}
-use Prim.Native.Nat.{◌-◌}
 use borrow.Author.Rules.{rules}
 use Rattle.query_store.proofs.TestLaws.{node_unlisted, node_unboarded, node_unknown, node_made, nodes_done}
 use Rattle.query_store.proofs.TestLaws.{all_noted, nothing_noted, same_length as kept, node_inside}
@@ -7,7 +6,7 @@ use Rattle.query_store.proofs.TestLaws.{parent_inside, depth_small, one_deeper, 
 use Rattle.query_store.proofs.nodes_made.Goals as goal
 
 pub loop-v-init : goal.loop-v-init
-loop-v-init c = (search rules, search rules, refl, search root_noted)
+loop-v-init c = (search rules, refl, search root_noted)
 
 pub shape_of-work-then-not-is_listed : goal.shape_of-work-then-not-is_listed
 shape_of-work-then-not-is_listed c = search kept
@@ -46,7 +45,7 @@ pub bounds-work-node : goal.bounds-work-node
 bounds-work-node c = search node_inside
 
 pub loop-v-preserved : goal.loop-v-preserved
-loop-v-preserved c = (search rules, search rules, search node_made, search one_deeper)
+loop-v-preserved c = (search rules, search node_made, search one_deeper)
 
 pub shape_of-work : goal.shape_of-work
 shape_of-work c = search kept

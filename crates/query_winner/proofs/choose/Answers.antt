@@ -9,14 +9,13 @@ pub arc_count-arcs-requires : goal.arc_count-arcs-requires
 arc_count-arcs-requires c = search store_words
 
 pub loop-k-init : goal.loop-k-init
-loop-k-init c = (search rules, search rules, search rules, search rules, search first_sized, search tried_first)
+loop-k-init c = (search rules, search rules, search rules, search first_sized, search tried_first)
 
 pub counts-requires : goal.counts-requires
 counts-requires c = (search store_made, search rules)
 
 pub loop-k-preserved-then-not-counts : goal.loop-k-preserved-then-not-counts
 loop-k-preserved-then-not-counts c = (
-  search rules,
   search rules,
   search rules,
   search rules,

@@ -6,12 +6,8 @@ use Rattle.query_winner.specs.Trying.{Sized, Tried}
 use Rattle.query_winner.proofs.choose.Given as goal
 
 abbrev pub invariant-loop-k : goal.invariant-loop-k
-invariant-loop-k l = (l.k ≤ l.arcs)
-    × (length l.tried ≡ 192)
+invariant-loop-k l = (length l.tried ≡ 192)
     × (length l.shown ≡ 192)
     × (length l.work ≡ length l.initial.work)
     × Sized l.x
     × Tried l.words l.store l.asked.from l.asked.to l.asked.minute l.row.arrive l.row.points.0 l.k l.x l.shown
-
-abbrev pub decreases-loop-k : goal.decreases-loop-k
-decreases-loop-k l = l.arcs - l.k

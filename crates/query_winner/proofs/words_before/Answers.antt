@@ -10,7 +10,7 @@ pub returns-then-b-i : goal.returns-then-b-i
 returns-then-b-i c = search word_more
 
 pub loop-i-preserved : goal.loop-i-preserved
-loop-i-preserved c = (search rules, search word_same)
+loop-i-preserved c = search word_same
 
 pub returns : goal.returns
 returns c = search words_same

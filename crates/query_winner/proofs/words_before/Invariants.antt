@@ -6,8 +6,5 @@ use Rattle.lists.specs.Lists.{before}
 use Rattle.query_winner.proofs.words_before.Given as goal
 
 abbrev pub invariant-loop-i : goal.invariant-loop-i
-invariant-loop-i l = (l.i ≤ l.n) × (before (take l.n l.a) (take l.n l.b) ≡ before (drop l.i (take l.n l.a))
-    (drop l.i (take l.n l.b)))
-
-abbrev pub decreases-loop-i : goal.decreases-loop-i
-decreases-loop-i l = l.n - l.i
+invariant-loop-i l = before (take l.n l.a) (take l.n l.b) ≡ before (drop l.i (take l.n l.a))
+    (drop l.i (take l.n l.b))

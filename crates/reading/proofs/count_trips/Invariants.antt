@@ -8,6 +8,3 @@ use Rattle.reading.proofs.count_trips.Given as goal
 
 abbrev pub invariant-loop-k : goal.invariant-loop-k
 invariant-loop-k l = (l.k ≤ 256) × (length l.numbers ≡ 256) × (l.numbers ≡ put 0 (range 1 l.k) l.initial.numbers)
-
-abbrev pub decreases-loop-k : goal.decreases-loop-k
-decreases-loop-k l = 256 - l.k

@@ -1,9 +1,9 @@
--- Two cases: number 0 with a count, or a number without one.
-use Rattle.promises.specs.Packed.{count_done, count_refused}
+-- Two cases: number 0 with a count, or a question's number without one.
+use Rattle.replies_packed.proofs.PackedLaws.{ok_packed, err_packed}
 use Rattle.replies_packed.proofs.pack_count.Goals as goal
 
-pub returns-in-Done : goal.returns-in-Done
-returns-in-Done c = search count_done
+pub returns-in-Ok : goal.returns-in-Ok
+returns-in-Ok c = search ok_packed
 
-pub returns-in-Refused : goal.returns-in-Refused
-returns-in-Refused c = search count_refused
+pub returns-in-Err : goal.returns-in-Err
+returns-in-Err c = search err_packed

@@ -1,9 +1,9 @@
--- Two cases: number 0 with a count and no line, or a number with its line and no count.
-use Rattle.promises.specs.Packed.{packed_done, packed_refused}
+-- Two cases: number 0 with a count and no line, or a question's number with its line and no count.
+use Rattle.replies_packed.proofs.PackedLaws.{lines_packed, line_packed}
 use Rattle.replies_packed.proofs.pack_reply.Goals as goal
 
-pub returns-in-Done : goal.returns-in-Done
-returns-in-Done c = search packed_done
+pub returns-in-Ok : goal.returns-in-Ok
+returns-in-Ok c = search lines_packed
 
-pub returns-in-Refused : goal.returns-in-Refused
-returns-in-Refused c = search packed_refused
+pub returns-in-Err : goal.returns-in-Err
+returns-in-Err c = search line_packed

@@ -1,4 +1,3 @@
-use Prim.Native.Nat.{◌-◌}
 use Rattle.store_catches.proofs.CatchLaws.{caught_start, number_is, number_few, arrives_few, arrives_listed}
 use Rattle.store_catches.proofs.CatchLaws.{arrives_first, arrives_near, arrives_in_time, caught_more, all_caught}
 use borrow.Author.Rules.{rules}
@@ -6,7 +5,6 @@ use Rattle.store_catches.proofs.find_catches.Goals as goal
 
 pub loop-k-init : goal.loop-k-init
 loop-k-init c = (
-  search rules,
   search number_is,
   search number_few,
   search rules,
@@ -28,7 +26,7 @@ pub bounds-catches-j : goal.bounds-catches-j
 bounds-catches-j c = search arrives_listed
 
 pub loop-k-preserved : goal.loop-k-preserved
-loop-k-preserved c = (search rules, search rules, search rules, search rules, search caught_more)
+loop-k-preserved c = (search rules, search rules, search rules, search caught_more)
 
 pub returns-clause-caught : goal.returns-clause-caught
 returns-clause-caught c = search all_caught

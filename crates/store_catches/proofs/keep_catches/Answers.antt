@@ -1,4 +1,3 @@
-use Prim.Native.Nat.{◌-◌}
 use borrow.Author.Rules.{rules}
 use Rattle.store_catches.proofs.CatchLaws.{number_is, number_few, listed_all, place_held, arrives}
 use Rattle.store_catches.proofs.KeepLaws.{kept_start, kept_more, keeps_chain, end_low, end_high}
@@ -10,7 +9,6 @@ index_at-n-requires c = search listed_all
 
 pub loop-k-init : goal.loop-k-init
 loop-k-init c = (
-  search rules,
   search number_is,
   search number_few,
   search rules,
@@ -27,7 +25,6 @@ keep_arrival-at-requires c = (search rules, search rules, search rules, search a
 
 pub loop-k-preserved : goal.loop-k-preserved
 loop-k-preserved c = (
-  search rules,
   search rules,
   search rules,
   search end_low,

@@ -1,4 +1,3 @@
-use Prim.Native.Nat.{◌-◌}
 use borrow.Author.Rules.{rules}
 use Rattle.timetable.specs.Access.{stations_few}
 use Rattle.store_frontier.specs.Allowing.{allowing_none}

@@ -3,11 +3,11 @@ use borrow.Author.Rules.{rules}
 use Rattle.store_frontier.proofs.FrontLaws.{first_inside, next_inside, part_run, part_fronted}
 use Rattle.store_frontier.proofs.allow_part.Goals as goal
 
-pub place_at-begin-requires : goal.place_at-begin-requires
-place_at-begin-requires c = search first_inside
+pub index_at-begin-requires : goal.index_at-begin-requires
+index_at-begin-requires c = search first_inside
 
-pub place_at-end-requires : goal.place_at-end-requires
-place_at-end-requires c = search next_inside
+pub index_at-end-requires : goal.index_at-end-requires
+index_at-end-requires c = search next_inside
 
 pub allow_station-requires : goal.allow_station-requires
 allow_station-requires c = (search rules, search rules, search part_run, search rules)

@@ -1,4 +1,3 @@
-use Prim.Native.Nat.{◌-◌}
 use borrow.Author.Rules.{rules}
 use Rattle.store_frontier.specs.Front.{fronting_all}
 use Rattle.store_frontier.proofs.FrontLaws.{end_most, end_nearer, end_behind, run_from, minute_held, run_ordered}

@@ -5,8 +5,8 @@ use Rattle.store_frontier.proofs.caught_bound.Goals as goal
 pub points_at-requires : goal.points_at-requires
 points_at-requires c = search caught_inside
 
-pub returns-then-f-lt-NOWHERE : goal.returns-then-f-lt-NOWHERE
-returns-then-f-lt-NOWHERE c = search bound_some
+pub returns-then-f : goal.returns-then-f
+returns-then-f c = search bound_some
 
 pub returns : goal.returns
 returns c = search bound_none

@@ -1,4 +1,3 @@
-use Prim.Native.Nat.{◌-◌}
 use borrow.Author.Rules.{rules}
 use Rattle.store_frontier.specs.Front.{least_none}
 use Rattle.store_frontier.proofs.FrontLaws.{held_ordered, place_inside, stop_inside, least_turn, least_all}

@@ -1,10 +1,7 @@
 -- All arrivals from place p up to q are of one minute.
-use Prim.Native.Nat.{◌≤◌, ◌-◌}
+use Prim.Native.Nat.{◌≤◌}
 use Rattle.store_frontier.specs.Front.{MinuteTo}
 use Rattle.store_frontier.proofs.minute_end.Given as goal
 
 abbrev pub invariant-loop-q : goal.invariant-loop-q
 invariant-loop-q l = (l.q ≤ l.end) × MinuteTo l.words l.arrivals l.p l.q
-
-abbrev pub decreases-loop-q : goal.decreases-loop-q
-decreases-loop-q l = l.end - l.q

@@ -13,6 +13,3 @@ invariant-loop-p l = (l.begin ≤ l.p)
     × (length l.leaving ≡ 2048)
     × (length l.high ≡ 65)
     × Passed l.words l.e l.d (drop l.p (departures l.words)) l.q l.leaving l.high
-
-abbrev pub decreases-loop-p : goal.decreases-loop-p
-decreases-loop-p l = l.p

@@ -1,5 +1,4 @@
 use borrow.Author.Rules.{rules}
-use Prim.Native.Nat.{◌-◌}
 use Rattle.timetable.specs.Access.{stations_few}
 use Rattle.store_frontier.specs.Allowing.{stop_below, open_none, open_more, open_all, told_closed}
 use Rattle.store_frontier.proofs.some_closed.Goals as goal

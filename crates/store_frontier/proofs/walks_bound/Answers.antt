@@ -1,4 +1,3 @@
-use Prim.Native.Nat.{◌-◌}
 use borrow.Author.Rules.{rules}
 use Rattle.timetable.specs.Access.{stations_few, trips_few, stops_few}
 use Rattle.store_stops.specs.OpenWays.{station_most, before_most, walks_begin, walks_ordered, walk_from_here}
@@ -14,8 +13,8 @@ walks_to-end-requires c = (
   search station_most,
 )
 
-pub walks_to-k-requires : goal.walks_to-k-requires
-walks_to-k-requires c = (
+pub walks_to-begin-requires : goal.walks_to-begin-requires
+walks_to-begin-requires c = (
   search rules,
   search stations_few,
   search trips_few,

@@ -8,6 +8,3 @@ use Rattle.store_frontier.proofs.walks_bound.Given as goal
 abbrev pub invariant-loop-k : goal.invariant-loop-k
 invariant-loop-k l = (walks_to l.words (l.c - 1) ≤ l.k) × (l.k ≤ l.end) × Bounding l.words l.q l.j
     (WalkTo l.words l.c l.k) l.high.0
-
-abbrev pub decreases-loop-k : goal.decreases-loop-k
-decreases-loop-k l = l.end - l.k

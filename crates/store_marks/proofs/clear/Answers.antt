@@ -1,4 +1,3 @@
-use Prim.Native.Nat.{◌-◌}
 use borrow.Author.Rules.{rules}
 use Rattle.store_marks.proofs.PartLaws.{inside_word, clear_on, clear_done}
 use Rattle.store_marks.proofs.clear.Goals as goal

@@ -1,6 +1,6 @@
 -- What is left to set at the departures from place k on comes to what was to be set at all of them.
 use mathlib.Core.Path.{◌≡◌}
-use Prim.Native.Nat.{◌≤◌, ◌-◌}
+use Prim.Native.Nat.{◌≤◌}
 use lib.ListN.{length}
 use lib.Seq.{slice}
 use Rattle.store_stops.specs.Stopwise.{unreached}
@@ -11,6 +11,3 @@ abbrev pub invariant-loop-k : goal.invariant-loop-k
 invariant-loop-k l = (l.begin ≤ l.k) × (l.k ≤ l.end) × (length l.x ≡ length l.initial.x)
     × (fill (λ g. unreached) (slice l.begin l.end l.chain) l.initial.x ≡ fill (λ g. unreached) (slice l.k l.end l.chain)
     l.x)
-
-abbrev pub decreases-loop-k : goal.decreases-loop-k
-decreases-loop-k l = l.end - l.k

@@ -1,17 +1,16 @@
-use Prim.Native.Nat.{◌-◌}
 use borrow.Author.Rules.{rules}
 use Rattle.store_marks.proofs.PartLaws.{first_room, next_room, next_fits, ordered, place_inside, stop_few}
 use Rattle.store_marks.proofs.PartLaws.{stop_inside, root_start, root_on, root_done, root_kept}
 use Rattle.store_marks.proofs.label_root.Goals as goal
 
-pub begin_of-k-requires : goal.begin_of-k-requires
-begin_of-k-requires c = search first_room
+pub index_at-begin-requires : goal.index_at-begin-requires
+index_at-begin-requires c = search first_room
 
 pub overflow_add-source : goal.overflow_add-source
 overflow_add-source c = record { fits = search next_fits }
 
-pub begin_of-end-requires : goal.begin_of-end-requires
-begin_of-end-requires c = search next_room
+pub index_at-end-requires : goal.index_at-end-requires
+index_at-end-requires c = search next_room
 
 pub loop-k-init : goal.loop-k-init
 loop-k-init c = (search rules, search ordered, search rules, search root_start)

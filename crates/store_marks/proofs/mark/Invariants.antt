@@ -1,6 +1,6 @@
 -- The rides from the departures from place k on, done to the flags as they are, come to all rides.
 use mathlib.Core.Path.{◌≡◌}
-use Prim.Native.Nat.{◌≤◌, ◌-◌}
+use Prim.Native.Nat.{◌≤◌}
 use lib.ListN.{length, get_or}
 use lib.Seq.{slice}
 use Rattle.store_departures.specs.Order.{waiting}
@@ -14,6 +14,3 @@ invariant-loop-k l = (get_or l.first l.c 0 ≤ l.k) × (l.k ≤ l.end) × (l.end
     ≡ run (flag_arc l.words l.allowed) (boardings l.words l.c l.x (slice l.k l.end l.chain)) l.arcs)
     × (run (flag_kids l.words l.q) (boardings l.words l.c l.x (waiting l.words l.c)) l.initial.kids
     ≡ run (flag_kids l.words l.q) (boardings l.words l.c l.x (slice l.k l.end l.chain)) l.kids)
-
-abbrev pub decreases-loop-k : goal.decreases-loop-k
-decreases-loop-k l = l.end - l.k

@@ -1,5 +1,4 @@
 use mathlib.Core.Path.{refl}
-use Prim.Native.Nat.{◌-◌}
 use borrow.Author.Rules.{rules}
 use Rattle.query_minutes.specs.Compared.{same_yes, same_no}
 use Rattle.timetable.specs.Access.{stations_few}

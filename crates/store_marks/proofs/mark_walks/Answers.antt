@@ -1,4 +1,3 @@
-use Prim.Native.Nat.{◌-◌}
 use borrow.Author.Rules.{rules}
 use Rattle.timetable.specs.Access.{stations_few, trips_few, stops_few}
 use Rattle.store_marks.proofs.ArrivalLaws.{arrival_some, arrival_low, before_low}
@@ -8,8 +7,8 @@ use Rattle.store_marks.proofs.mark_walks.Goals as goal
 pub overflow_sub-b : goal.overflow_sub-b
 overflow_sub-b c = search arrival_some
 
-pub walks_to-k-requires : goal.walks_to-k-requires
-walks_to-k-requires c = (search rules, search stations_few, search trips_few, search stops_few, search before_low)
+pub walks_to-begin-requires : goal.walks_to-begin-requires
+walks_to-begin-requires c = (search rules, search stations_few, search trips_few, search stops_few, search before_low)
 
 pub walks_to-end-requires : goal.walks_to-end-requires
 walks_to-end-requires c = (search rules, search stations_few, search trips_few, search stops_few, search arrival_low)

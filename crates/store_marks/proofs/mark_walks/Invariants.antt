@@ -12,6 +12,3 @@ abbrev pub invariant-loop-k : goal.invariant-loop-k
 invariant-loop-k l = (l.end ≡ walks_to l.words l.b) × (walks_to l.words (l.b - 1) ≤ l.k) × (length l.kids ≡ 320)
     × (raise_all (walk_tries l.words l.q (visit l.j l.y.0) (walks_from l.words l.b)) l.initial.kids
     ≡ raise_all (walk_tries l.words l.q (visit l.j l.y.0) (range l.k (l.end - l.k))) l.kids)
-
-abbrev pub decreases-loop-k : goal.decreases-loop-k
-decreases-loop-k l = l.end - l.k

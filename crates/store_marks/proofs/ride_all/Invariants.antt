@@ -1,6 +1,6 @@
 -- The rides from the departures from place k on, done to the labels as they are, come to all rides.
 use mathlib.Core.Path.{◌≡◌}
-use Prim.Native.Nat.{◌≤◌, ◌-◌}
+use Prim.Native.Nat.{◌≤◌}
 use lib.ListN.{length, get_or}
 use lib.Seq.{slice}
 use Rattle.connections.specs.Connections.{on_foot}
@@ -12,6 +12,3 @@ abbrev pub invariant-loop-k : goal.invariant-loop-k
 invariant-loop-k l = (get_or l.first l.c 0 ≤ l.k) × (l.k ≤ l.end) × (l.end ≤ length l.chain) × (length l.x ≡ 2048)
     × (rides l.words l.c (on_foot l.way) (waiting l.words l.c) l.initial.x ≡ rides l.words l.c (on_foot l.way)
     (slice l.k l.end l.chain) l.x)
-
-abbrev pub decreases-loop-k : goal.decreases-loop-k
-decreases-loop-k l = l.end - l.k

@@ -1,4 +1,3 @@
-use Prim.Native.Nat.{◌-◌}
 use borrow.Author.Rules.{rules}
 use Rattle.store_marks.proofs.PartLaws.{inside_word, settle_on, settle_done}
 use Rattle.store_marks.proofs.settle.Goals as goal

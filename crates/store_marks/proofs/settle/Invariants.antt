@@ -1,6 +1,6 @@
 -- What is left to fall from place k on, the least so far given, comes to what was to fall at all departures.
 use mathlib.Core.Path.{◌≡◌}
-use Prim.Native.Nat.{◌≤◌, ◌-◌}
+use Prim.Native.Nat.{◌≤◌}
 use lib.ListN.{length}
 use lib.Seq.{slice}
 use Rattle.store_stops.specs.Stopwise.{unreached}
@@ -10,6 +10,3 @@ use Rattle.store_marks.proofs.settle.Given as goal
 abbrev pub invariant-loop-k : goal.invariant-loop-k
 invariant-loop-k l = (l.begin ≤ l.k) × (l.k ≤ l.end) × (length l.x ≡ length l.initial.x)
     × (fall unreached (slice l.begin l.end l.chain) l.initial.x ≡ fall l.low.0 (slice l.k l.end l.chain) l.x)
-
-abbrev pub decreases-loop-k : goal.decreases-loop-k
-decreases-loop-k l = l.end - l.k

@@ -3,14 +3,14 @@ use Rattle.store_marks.proofs.PartLaws.{first_room, next_room, next_fits, ordere
 use Rattle.store_marks.proofs.WholeLaws.{steps}
 use Rattle.store_marks.proofs.step_between.Goals as goal
 
-pub begin_of-begin-requires : goal.begin_of-begin-requires
-begin_of-begin-requires c = search first_room
+pub index_at-begin-requires : goal.index_at-begin-requires
+index_at-begin-requires c = search first_room
 
 pub overflow_add-e : goal.overflow_add-e
 overflow_add-e c = record { fits = search next_fits }
 
-pub begin_of-end-requires : goal.begin_of-end-requires
-begin_of-end-requires c = search next_room
+pub index_at-end-requires : goal.index_at-end-requires
+index_at-end-requires c = search next_room
 
 pub clear-requires : goal.clear-requires
 clear-requires c = (search ordered, search end_inside, search all_inside)

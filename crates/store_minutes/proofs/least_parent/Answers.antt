@@ -1,4 +1,3 @@
-use Prim.Native.Nat.{◌-◌}
 use Rattle.store_minutes.specs.Looking.{parents_none, parents_more, parents_all}
 use borrow.Author.Rules.{rules}
 use Rattle.store_minutes.proofs.least_parent.Goals as goal

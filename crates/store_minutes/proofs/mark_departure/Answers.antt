@@ -1,4 +1,5 @@
 -- The same minute once more changes nothing, nor does one at which the nodes are quiet; another one adds its own marks.
+use Rattle.timetable.specs.Access.{stations_few}
 use Rattle.store_minutes.specs.Prepared.{long_enough_lem, accepted}
 use Rattle.store_minutes.specs.Seeking.{place_inside, stop_few, sought_same, sought_more}
 use Rattle.store_minutes.specs.Looking.{minute_few, sounded_same, sounded_over, sought_over, sounded_more}
@@ -7,7 +8,7 @@ use borrow.Author.Rules.{rules}
 use Rattle.store_minutes.proofs.mark_departure.Goals as goal
 
 pub minute_at-d-requires : goal.minute_at-d-requires
-minute_at-d-requires c = (search long_enough_lem, search accepted, search place_inside, search stop_few)
+minute_at-d-requires c = (search long_enough_lem, search (stations_few, accepted), search place_inside, search stop_few)
 
 pub returns-then-d-last : goal.returns-then-d-last
 returns-then-d-last c = (

@@ -1,4 +1,3 @@
-use Prim.Native.Nat.{◌-◌}
 use borrow.Author.Rules.{rules}
 use Rattle.store_minutes.specs.Seeking.{sought_first, place_known, next_known, next_fits, begins_before, chunked}
 use Rattle.store_minutes.specs.Looking.{sounded_none, sounded_first, looked_all}
@@ -7,11 +6,11 @@ use Rattle.store_minutes.proofs.mark_departures.Goals as goal
 pub overflow_add-chunk : goal.overflow_add-chunk
 overflow_add-chunk c = record { fits = search next_fits }
 
-pub place_at-end-requires : goal.place_at-end-requires
-place_at-end-requires c = search next_known
+pub index_at-end-requires : goal.index_at-end-requires
+index_at-end-requires c = search next_known
 
-pub place_at-p-requires : goal.place_at-p-requires
-place_at-p-requires c = search place_known
+pub index_at-begin-requires : goal.index_at-begin-requires
+index_at-begin-requires c = search place_known
 
 pub loop-p-init : goal.loop-p-init
 loop-p-init c = (

@@ -1,6 +1,6 @@
 -- The departures of the source up to place p have been looked at.
 use mathlib.Core.Path.{◌≡◌}
-use Prim.Native.Nat.{◌+◌, ◌-◌, ◌≤◌}
+use Prim.Native.Nat.{◌+◌, ◌≤◌}
 use lib.ListN.{length, get_or}
 use Rattle.timetable.specs.Words.{station_count}
 use Rattle.store_frontier.specs.Routes.{Routes}
@@ -32,6 +32,3 @@ invariant-loop-p l = Routes l.words l.order l.n l.catch
     × Sought l.words l.chunk.source l.chain (get_or l.first l.chunk.source 0) l.p l.last l.chunk.lo l.chunk.hi l.arcs
     l.kids
     × Sounded l.words l.chunk.source l.chain (get_or l.first l.chunk.source 0) l.p l.chunk.lo l.chunk.hi l.reach
-
-abbrev pub decreases-loop-p : goal.decreases-loop-p
-decreases-loop-p l = l.end - l.p

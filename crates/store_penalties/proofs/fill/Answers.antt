@@ -1,10 +1,7 @@
-use Prim.Native.Nat.{◌-◌}
-use borrow.Author.Rules.{rules}
-use Rattle.store_penalties.proofs.FillLaws.{one_more, filled}
+-- All words become the one word.
+use mathlib.Core.Path.{sym, subst}
+use Rattle.store_penalties.specs.Sweeping.{Blank, blank}
 use Rattle.store_penalties.proofs.fill.Goals as goal
 
-pub loop-k-preserved : goal.loop-k-preserved
-loop-k-preserved c = (search rules, search rules, search one_more)
-
 pub returns-clause-blank : goal.returns-clause-blank
-returns-clause-blank c = search filled
+returns-clause-blank c = subst (Blank 2048) (sym (c.fill.ensures.after (λ y e. e))) (blank 2048 _ c.requires)

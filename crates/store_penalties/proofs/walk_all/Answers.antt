@@ -1,4 +1,3 @@
-use Prim.Native.Nat.{◌-◌}
 use borrow.Author.Rules.{rules}
 use Rattle.timetable.specs.Access.{stations_few, trips_few, stops_few}
 use Rattle.store_stops.specs.OpenWays.{station_most, before_most, walks_begin, walks_ordered, walk_from_here}
@@ -24,13 +23,13 @@ walks_to-k-requires c = (
 )
 
 pub loop-k-init : goal.loop-k-init
-loop-k-init c = (search walks_begin, search walks_ordered, search rules, search none_walked)
+loop-k-init c = (search walks_begin, search rules, search none_walked)
 
 pub walk-requires : goal.walk-requires
 walk-requires c = (search rules, search rules, search rules, search rules, search walk_from_here, search rules)
 
 pub loop-k-preserved : goal.loop-k-preserved
-loop-k-preserved c = (search rules, search rules, search rules, search one_walked)
+loop-k-preserved c = (search rules, search rules, search one_walked)
 
 pub returns-clause-offering : goal.returns-clause-offering
-returns-clause-offering c = search all_walked
+returns-clause-offering c = search (all_walked, c.loop-k.auto.k-end, walks_ordered)

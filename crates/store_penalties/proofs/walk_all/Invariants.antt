@@ -9,9 +9,5 @@ use Rattle.store_penalties.proofs.walk_all.Given as goal
 
 abbrev pub invariant-loop-k : goal.invariant-loop-k
 invariant-loop-k l = (walks_to l.words (l.c - 1) ≤ l.k)
-    × (l.k ≤ l.end)
     × (length l.q ≡ length l.initial.q)
     × Offering l.words l.j l.u.0 (WalkTo l.words l.c l.k) l.initial.q l.q
-
-abbrev pub decreases-loop-k : goal.decreases-loop-k
-decreases-loop-k l = l.end - l.k

@@ -1,4 +1,3 @@
-use Prim.Native.Nat.{◌-◌}
 use borrow.Author.Rules.{rules}
 use Rattle.store_slots.specs.Listing.{side_more, side_none}
 use Rattle.store_slots.specs.Writing.{writing_first, writing_more, writing_done, writing_end}

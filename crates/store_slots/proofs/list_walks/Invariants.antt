@@ -1,6 +1,5 @@
 -- The walks before k have been looked at.
 use mathlib.Core.Path.{◌≡◌}
-use Prim.Native.Nat.{◌-◌}
 use lib.ListN.{length}
 use Rattle.store_slots.specs.Listing.{side_slots}
 use Rattle.store_slots.specs.Writing.{Writing}
@@ -10,6 +9,3 @@ abbrev pub invariant-loop-k : goal.invariant-loop-k
 invariant-loop-k l = (length l.list ≡ length l.initial.list)
     × Writing (side_slots l.words l.above l.y l.first l.end) (side_slots l.words l.above l.y l.k l.end) l.initial.list
     l.list l.at l.here
-
-abbrev pub decreases-loop-k : goal.decreases-loop-k
-decreases-loop-k l = l.end - l.k

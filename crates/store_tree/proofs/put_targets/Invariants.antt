@@ -2,14 +2,10 @@
 use Rattle.store_tree.specs.Marks.{marks, marks_from}
 use Rattle.store_slots.specs.Writing.{Writing}
 use mathlib.Core.Path.{◌≡◌}
-use Prim.Native.Nat.{◌≤◌, ◌-◌, ◌+◌}
+use Prim.Native.Nat.{◌+◌}
 use lib.ListN.{length, drop}
 use Rattle.store_tree.proofs.put_targets.Given as goal
 
 abbrev pub invariant-loop-j : goal.invariant-loop-j
-invariant-loop-j l = (l.j ≤ 64)
-    × (length l.targets ≡ length l.initial.targets)
+invariant-loop-j l = (length l.targets ≡ length l.initial.targets)
     × Writing (marks l.arcs) (marks_from (l.j + 1) (drop l.j l.arcs)) l.initial.targets l.targets l.m l.here
-
-abbrev pub decreases-loop-j : goal.decreases-loop-j
-decreases-loop-j l = 64 - l.j

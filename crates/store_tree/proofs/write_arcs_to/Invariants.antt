@@ -3,16 +3,12 @@ use Prim.Native.Nat.{suc}
 use Rattle.store_tree.specs.Laid.{node_hits, total}
 use Rattle.store_slots.specs.Writing.{Writing}
 use mathlib.Core.Path.{◌≡◌}
-use Prim.Native.Nat.{◌≤◌, ◌-◌, ◌+◌}
+use Prim.Native.Nat.{◌-◌, ◌+◌}
 use lib.ListN.{length}
 use Rattle.store_tree.proofs.write_arcs_to.Given as goal
 
 abbrev pub invariant-loop-v : goal.invariant-loop-v
-invariant-loop-v l = (l.v ≤ l.n + 1)
-    × (length l.store ≡ length l.initial.store)
+invariant-loop-v l = (length l.store ≡ length l.initial.store)
     × (l.i + total l.work l.v (suc l.n - l.v) ≡ total l.work 0 (suc l.n))
     × Writing (node_hits l.work l.targets l.b 0 0 (suc l.n)) (node_hits l.work l.targets l.b l.i l.v (suc l.n - l.v))
     l.initial.store l.store l.at l.here
-
-abbrev pub decreases-loop-v : goal.decreases-loop-v
-decreases-loop-v l = l.n + 1 - l.v

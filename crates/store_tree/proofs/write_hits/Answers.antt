@@ -1,7 +1,6 @@
 use Rattle.store_tree.proofs.LayLaws.{hit_room}
 use Rattle.store_tree.specs.LaidSteps.{hits_more, hits_none}
 use Rattle.store_slots.specs.Writing.{writing_first, writing_more, writing_done, writing_end}
-use Prim.Native.Nat.{◌-◌}
 use borrow.Author.Rules.{rules}
 use Rattle.store_tree.proofs.write_hits.Goals as goal
 

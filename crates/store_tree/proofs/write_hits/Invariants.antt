@@ -2,7 +2,6 @@
 use Rattle.store_tree.specs.Laid.{hits_to}
 use Rattle.store_slots.specs.Writing.{Writing}
 use mathlib.Core.Path.{◌≡◌}
-use Prim.Native.Nat.{◌-◌}
 use lib.ListN.{length}
 use Rattle.store_tree.proofs.write_hits.Given as goal
 
@@ -10,6 +9,3 @@ abbrev pub invariant-loop-i : goal.invariant-loop-i
 invariant-loop-i l = (length l.store ≡ length l.initial.store)
     × Writing (hits_to l.targets l.b l.v l.first l.end) (hits_to l.targets l.b l.v l.i l.end) l.initial.store l.store
     l.at l.here
-
-abbrev pub decreases-loop-i : goal.decreases-loop-i
-decreases-loop-i l = l.end - l.i

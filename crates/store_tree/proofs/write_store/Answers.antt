@@ -1,8 +1,15 @@
 -- The two counts, the nodes and the arcs, one behind the other.
 use borrow.Author.Rules.{rules}
+use Rattle.words.specs.Below.{below_none, below_more}
 use Rattle.store_tree.proofs.StoreLaws.{whole_spelled, whole_listed, whole_total, whole_stations, arcs_room}
 use Rattle.store_tree.proofs.StoreLaws.{store_written}
 use Rattle.store_tree.proofs.write_store.Goals as goal
+
+pub narrow-requires : goal.narrow-requires
+narrow-requires c = (
+  search rules,
+  below_more _ _ _ (search rules) (below_more _ _ _ (search rules) (below_none _)),
+)
 
 pub write_nodes-requires : goal.write_nodes-requires
 write_nodes-requires c = (

@@ -18,23 +18,23 @@ returns-then-n-eq1 c = search value_zero
 pub returns-then-field-eq-ZERO : goal.returns-then-field-eq-ZERO
 returns-then-field-eq-ZERO c = search value_leading
 
-pub loop-i-init : goal.loop-i-init
+pub loop-b-init : goal.loop-b-init
 unfolding tens
-loop-i-init c = (search rules, (search rules, (omega arith, search value_digits)))
+loop-b-init c = (omega arith, omega arith, search value_digits)
 
 pub returns-then-d-ge10 : goal.returns-then-d-ge10
 returns-then-d-ge10 c = search digits_break
 
 pub overflow_mul-value : goal.overflow_mul-value
-overflow_mul-value c = let small : c.loop-i.value < 1000 = search at_most_three in
+overflow_mul-value c = let small : c.loop-b.value < 1000 = search at_most_three in
     omega arith
 
 pub overflow_add-value : goal.overflow_add-value
-overflow_add-value c = let small : c.loop-i.value < 1000 = search at_most_three in
+overflow_add-value c = let small : c.loop-b.value < 1000 = search at_most_three in
     omega arith
 
-pub loop-i-preserved : goal.loop-i-preserved
-loop-i-preserved c = (search rules, (search rules, (search tens_more, search digits_more)))
+pub loop-b-preserved : goal.loop-b-preserved
+loop-b-preserved c = (search rules, search tens_more, search digits_more)
 
 pub returns : goal.returns
 returns c = search digits_end

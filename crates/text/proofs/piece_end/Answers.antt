@@ -1,12 +1,20 @@
-use borrow.Author.Rules.{rules}
+use Rattle.std.proofs.Common.{◌≡◌, ◌≤◌, length, arith, rules}
 use Rattle.text.specs.Piece.{piece_ends, piece_found, piece_goes_on}
 use Rattle.text.proofs.piece_end.Goals as goal
 
 pub loop-i-preserved : goal.loop-i-preserved
-loop-i-preserved c = (search rules, search rules, search piece_goes_on)
-
-pub returns-then-i-s : goal.returns-then-i-s
-returns-then-i-s c = (search piece_ends, search rules, search rules)
+loop-i-preserved c =
+    let inside : c.loop-i.i ≤ length c.args.s.now = omega arith in
+    let more : c.loop-i.i ≡ length c.args.s.now → ⊥ = omega arith in
+    piece_goes_on _ _ _ _ c.loop-i.invariant inside more c.if-s-i.false
 
 pub returns-then-s-i : goal.returns-then-s-i
-returns-then-s-i c = (search piece_found, search rules, search rules)
+returns-then-s-i c =
+    let inside : c.loop-i.i ≤ length c.args.s.now = omega arith in
+    let more : c.loop-i.i ≡ length c.args.s.now → ⊥ = omega arith in
+    (piece_found _ _ _ _ c.loop-i.invariant inside more c.if-s-i.true, search rules, search rules)
+
+pub returns : goal.returns
+returns c =
+    let end : c.loop-i.i ≡ length c.args.s.now = omega arith in
+    (omega (arith, piece_ends _ _ _ _ c.loop-i.invariant end), search rules, search rules)

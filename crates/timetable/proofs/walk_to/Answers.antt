@@ -1,6 +1,6 @@
-use borrow.Author.Rules.{rules}
+use Rattle.std.proofs.Common.{◌≡◌, ◌≤◌, ◌∙◌, arith, rules}
 use Rattle.timetable.specs.Access.{stations_few, trips_few, stops_few}
-use Rattle.timetable.proofs.WalkToLaws.{station_few, before_few, walk_few}
+use Rattle.timetable.proofs.WalkToLaws.{station_few, before_few, begins_before, walk_few}
 use Rattle.timetable.proofs.WalkToLaws.{seek_begins, seek_none, seek_here, seek_on}
 use Rattle.timetable.proofs.walk_to.Goals as goal
 
@@ -18,11 +18,14 @@ walk_at-requires c = (search rules, search stations_few, search trips_few, searc
 
 pub loop-k-preserved : goal.loop-k-preserved
 loop-k-preserved c = let so_far = c.loop-k.invariant in
-    seek_on _ _ _ _ _ so_far _ c.if-end-k.false c.walk_at.ensures c.if-walk_at-x.false
-
-pub returns-then-end-k : goal.returns-then-end-k
-returns-then-end-k c = search seek_none
+    seek_on _ _ _ _ _ so_far _ c.loop-k-test.true c.walk_at.ensures c.if-walk_at-x.false
 
 pub returns-then-walk_at-x : goal.returns-then-walk_at-x
 returns-then-walk_at-x c = let so_far = c.loop-k.invariant in
-    seek_here _ _ _ _ _ so_far _ c.if-end-k.false c.walk_at.ensures c.if-walk_at-x.true
+    seek_here _ _ _ _ _ so_far _ c.loop-k-test.true c.walk_at.ensures c.if-walk_at-x.true
+
+pub returns : goal.returns
+returns c =
+    let rises : c.walks_to-k.result ≤ c.walks_to-end.result = search begins_before in
+    let over : c.walks_to-end.result ≡ c.loop-k.k = omega arith in
+    over ∙ seek_none _ _ _ _ _ c.loop-k.invariant (omega arith)

@@ -9,6 +9,3 @@ use Rattle.timetable.proofs.walk_to.Given as goal
 
 abbrev pub invariant-loop-k : goal.invariant-loop-k
 invariant-loop-k l = walk_to l.words l.y l.x ≡ first_from (λ k. eqb (walk_at l.words k).to l.x) l.k (l.end - l.k)
-
-abbrev pub decreases-loop-k : goal.decreases-loop-k
-decreases-loop-k l = l.end - l.k

@@ -1,5 +1,3 @@
-use Prim.Native.Nat.{◌-◌}
-use borrow.Author.Rules.{rules}
 use Rattle.timetable_check.proofs.CheckLaws.{station_bad, station_good, stations_done}
 use Rattle.timetable_check.proofs.stations_are_valid.Goals as goal
 
@@ -7,7 +5,7 @@ pub returns-then-not-station_is_valid : goal.returns-then-not-station_is_valid
 returns-then-not-station_is_valid c = search station_bad
 
 pub loop-i-preserved : goal.loop-i-preserved
-loop-i-preserved c = (search rules, search station_good)
+loop-i-preserved c = search station_good
 
 pub returns : goal.returns
 returns c = search stations_done

@@ -1,4 +1,3 @@
-use Prim.Native.Nat.{◌-◌}
 use borrow.Author.Rules.{rules}
 use Rattle.timetable_trips.proofs.TripLaws.{trip_falls, trip_beyond, trip_bad, trip_good, trips_done}
 use Rattle.timetable_trips.proofs.trips_are_valid.Goals as goal
@@ -13,7 +12,7 @@ pub returns-then-not-trip_is_valid : goal.returns-then-not-trip_is_valid
 returns-then-not-trip_is_valid c = search trip_bad
 
 pub loop-k-preserved : goal.loop-k-preserved
-loop-k-preserved c = (search rules, search rules, search rules, search trip_good)
+loop-k-preserved c = (search rules, search rules, search trip_good)
 
 pub returns : goal.returns
 returns c = search trips_done

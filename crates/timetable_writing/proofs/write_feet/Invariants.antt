@@ -1,15 +1,10 @@
 -- The counts before station y stand, one behind the other.
 use mathlib.Core.Path.{◌≡◌}
-use Prim.Native.Nat.{◌+◌, ◌-◌, ◌≤◌}
-use lib.ListN.{length, take}
+use lib.ListN.{take}
 use Rattle.words.specs.Put.{put}
 use Rattle.timetable.specs.Words.{foot_words, walks_in}
 use Rattle.timetable_writing.proofs.write_feet.Given as goal
 
 abbrev pub invariant-loop-y : goal.invariant-loop-y
-invariant-loop-y l = (l.y ≤ l.stations + 1)
-    × (length l.timetable ≡ length l.initial.timetable)
-    × (l.timetable ≡ put l.at (take l.y (foot_words l.stations (walks_in l.walking 0 l.walks))) l.initial.timetable)
-
-abbrev pub decreases-loop-y : goal.decreases-loop-y
-decreases-loop-y l = l.stations + 1 - l.y
+invariant-loop-y l =
+    l.timetable ≡ put l.at (take l.y (foot_words l.stations (walks_in l.walking 0 l.walks))) l.initial.timetable

@@ -1,13 +1,8 @@
-use mathlib.Core.Path.{refl, sym}
-use borrow.Author.Rules.{rules}
-use Rattle.words.specs.Put.{put_none, copy_more, copied}
+-- The part of the slice is src, and its other parts are as they were.
+use Rattle.std.proofs.Common.{arith}
+use Rattle.words.specs.Put.{put_part}
 use Rattle.words.proofs.copy.Goals as goal
 
-pub loop-j-init : goal.loop-j-init
-loop-j-init c = (search rules, (refl, sym (put_none _ _)))
-
-pub loop-j-preserved : goal.loop-j-preserved
-loop-j-preserved c = (search rules, (search rules, search copy_more))
-
 pub returns-clause-dst_after : goal.returns-clause-dst_after
-returns-clause-dst_after c = search copied
+returns-clause-dst_after g c =
+    put_part c.args.at _ c.args.src.now c.args.dst.now _ (omega arith) c.copy_from_slice.ensures.after

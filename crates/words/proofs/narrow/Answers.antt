@@ -1,21 +1,21 @@
-use mathlib.Core.Path.{refl, sym}
-use Prim.Native.Nat.{◌<◌}
-use native.Mathlib.Omega.{arith}
-use borrow.Author.Rules.{rules}
-use lib.ListN.{get_or}
-use Rattle.words.specs.Put.{put_none, copy_first, copied}
-use Rattle.words.specs.Below.{below_taken}
+use Rattle.std.proofs.Common.{◌≤◌, ◌<◌, length, get_or, sym, ap, ◌∙◌, arith, take_all}
+use Rattle.words.specs.Put.{put, put_none, copy_more}
+use Rattle.words.specs.Below.{below_each}
 use Rattle.words.proofs.narrow.Goals as goal
 
-pub loop-j-init : goal.loop-j-init
-loop-j-init c = (search rules, (refl, sym (put_none _ _)))
+pub loop-i-init : goal.loop-i-init
+loop-i-init c = sym (put_none _ _)
 
 pub overflow_cast-dst : goal.overflow_cast-dst
-overflow_cast-dst c = let small : get_or c.args.src.now c.loop-j.j 0 < 65536 = search below_taken in
+overflow_cast-dst c = let small : get_or c.args.src.now c.loop-i.i 0 < 65536 = search below_each in
     omega (arith, small)
 
-pub loop-j-preserved : goal.loop-j-preserved
-loop-j-preserved c = (search rules, (search rules, search copy_first))
+pub loop-i-preserved : goal.loop-i-preserved
+loop-i-preserved c =
+    copy_more c.args.at (length c.args.src.now) c.loop-i.i _ _ _ c.loop-i.invariant (omega arith) (omega arith)
+    (omega arith)
 
 pub returns-clause-dst_after : goal.returns-clause-dst_after
-returns-clause-dst_after c = search copied
+returns-clause-dst_after c =
+    let all : length c.args.src.now ≤ c.loop-i.i = omega arith in
+    c.loop-i.invariant ∙ ap (λ l. put c.args.at l c.args.dst.now) (take_all c.loop-i.i c.args.src.now all)

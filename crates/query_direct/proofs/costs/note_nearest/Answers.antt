@@ -2,8 +2,8 @@
 use Rattle.query_direct.proofs.CallLaws.{noted_none, noted_nearest}
 use Rattle.query_direct.proofs.costs.note_nearest.Goals as goal
 
-pub returns-then-not-to-clause-best_after : goal.returns-then-not-to-clause-best_after
-returns-then-not-to-clause-best_after c = search noted_none
+pub returns-in-Some-clause-best_after : goal.returns-in-Some-clause-best_after
+returns-in-Some-clause-best_after c = search noted_nearest
 
-pub returns-clause-best_after : goal.returns-clause-best_after
-returns-clause-best_after c = search noted_nearest
+pub returns-in_default-clause-best_after : goal.returns-in_default-clause-best_after
+returns-in_default-clause-best_after c = search noted_none

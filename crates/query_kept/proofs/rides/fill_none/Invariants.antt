@@ -1,12 +1,8 @@
 -- For the minutes so far none is kept.
 use mathlib.Core.Path.{◌≡◌}
-use Prim.Native.Nat.{◌≤◌, ◌-◌}
 use lib.ListN.{length}
 use Rattle.query_kept.specs.Keeping.{Unkept}
 use Rattle.query_kept.proofs.rides.fill_none.Given as goal
 
 abbrev pub invariant-loop-a : goal.invariant-loop-a
-invariant-loop-a l = (l.a ≤ 2880) × (length l.kept ≡ 11520) × Unkept l.kept l.a
-
-abbrev pub decreases-loop-a : goal.decreases-loop-a
-decreases-loop-a l = 2880 - l.a
+invariant-loop-a l = (length l.kept ≡ 11520) × Unkept l.kept l.a

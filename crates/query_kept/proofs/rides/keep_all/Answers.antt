@@ -1,6 +1,4 @@
-use Prim.Native.Nat.{◌-◌}
 use borrow.Author.Rules.{rules}
-use Rattle.query_places.specs.Turns as piece
 use Rattle.query_kept.proofs.KeepLaws.{all_begins, all_more, all_done}
 use Rattle.query_kept.proofs.rides.keep_all.Goals as goal
 

@@ -2,8 +2,8 @@
 use Rattle.query_kept.proofs.KeepLaws.{kept_none, kept_nearest}
 use Rattle.query_kept.proofs.rides.keep_nearest.Goals as goal
 
-pub returns-then-not-to-clause-kept_after : goal.returns-then-not-to-clause-kept_after
-returns-then-not-to-clause-kept_after c = search kept_none
+pub returns-in-Some-clause-kept_after : goal.returns-in-Some-clause-kept_after
+returns-in-Some-clause-kept_after c = search kept_nearest
 
-pub returns-clause-kept_after : goal.returns-clause-kept_after
-returns-clause-kept_after c = search kept_nearest
+pub returns-in_default-clause-kept_after : goal.returns-in_default-clause-kept_after
+returns-in_default-clause-kept_after c = search kept_none

@@ -1,4 +1,4 @@
--- Three pairs of words, each just past the one before.
+-- The words of the ride stand just past those of the cost.
 use Rattle.query_kept.proofs.RowLaws.{row_written}
 use Rattle.query_kept.proofs.rows.write_row.Goals as goal
 

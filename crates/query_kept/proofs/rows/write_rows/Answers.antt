@@ -1,4 +1,3 @@
-use Prim.Native.Nat.{◌-◌}
 use Rattle.query_kept.proofs.RowLaws.{rows_first, row_room, rows_more, rows_done}
 use borrow.Author.Rules.{rules}
 use Rattle.query_kept.proofs.rows.write_rows.Goals as goal

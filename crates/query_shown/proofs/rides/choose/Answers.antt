@@ -1,6 +1,4 @@
-use Prim.Native.Nat.{◌-◌}
 use borrow.Author.Rules.{rules}
-use Rattle.query_places.specs.Turns as piece
 use Rattle.query_shown.proofs.ChooseLaws.{calls_begin, calls_more, calls_done}
 use Rattle.query_shown.proofs.rides.choose.Goals as goal
 

@@ -3,8 +3,8 @@ use borrow.Author.Rules.{rules}
 use Rattle.query_shown.proofs.ChooseLaws.{call_none, call_dear, call_tried}
 use Rattle.query_shown.proofs.rides.choose_call.Goals as goal
 
-pub returns-then-not-to : goal.returns-then-not-to
-returns-then-not-to c = (search call_none, search rules)
+pub returns-in_default : goal.returns-in_default
+returns-in_default c = (search call_none, search rules)
 
 pub returns-then-less : goal.returns-then-less
 returns-then-less c = (search call_dear, search rules)

@@ -1,4 +1,3 @@
-use Prim.Native.Nat.{◌-◌}
 use borrow.Author.Rules.{rules}
 use Rattle.store_minutes.specs.Looking.{looked_none}
 use Rattle.store_growth.specs.Chunks.{few_nodes, less_left, chunk_grown, whole_refused, whole_taken}

@@ -1,13 +1,10 @@
-use Prim.Native.Nat.{◌-◌}
 use borrow.Author.Rules.{rules}
 use Rattle.store_growth.specs.Chunks.{underway_none, underway_more, takes_next, all_refused, all_taken}
-use Rattle.store_growth.specs.Chunks.{chunk_arcs, chunk_kids, chunk_few, chunk_ordered}
+use Rattle.store_growth.specs.Chunks.{chunk_arcs, chunk_kids, chunk_few}
 use Rattle.store_growth.proofs.tree.take_chunk.Goals as goal
 
 pub loop-v-init : goal.loop-v-init
 loop-v-init c = (
-  search rules,
-  search chunk_ordered,
   search chunk_few,
   search chunk_arcs,
   search chunk_kids,
@@ -29,10 +26,8 @@ loop-v-preserved c = (
   search rules,
   search rules,
   search rules,
-  search rules,
-  search rules,
   search underway_more,
 )
 
 pub returns : goal.returns
-returns c = search all_taken
+returns c = search (all_taken, c.loop-v.auto.v-end)

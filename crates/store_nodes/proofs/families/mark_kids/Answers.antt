@@ -1,4 +1,3 @@
-use Prim.Native.Nat.{◌-◌}
 use Rattle.store_nodes.specs.Hope.{stays_none, stays_then, told_none, told_then, kin_under}
 use Rattle.store_nodes.specs.Hope.{kin_from, sibling_fits}
 use borrow.Author.Rules.{rules}

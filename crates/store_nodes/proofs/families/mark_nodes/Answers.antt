@@ -1,4 +1,3 @@
-use Prim.Native.Nat.{◌-◌}
 use Rattle.store_nodes.specs.Hand.{hand_none, idle_none, idle_then, idle_all}
 use Rattle.store_nodes.specs.Chunk.{raised_none, on_all, raised_all}
 use borrow.Author.Rules.{rules}

@@ -1,4 +1,3 @@
-use Prim.Native.Nat.{◌-◌}
 use Rattle.store_nodes.specs.Joining.{joining_none, joining_more, joining_all, joining_unseen}
 use borrow.Author.Rules.{rules}
 use Rattle.store_nodes.proofs.families.raise_fresh.Goals as goal
