@@ -12,7 +12,8 @@ import sys
 FILES = sorted(glob.glob('crates/*/src/**/*.rt', recursive=True))
 LINES = [(f, n, line.rstrip('\n')) for f in FILES for n, line in enumerate(open(f, encoding='utf-8'), 1)]
 CODE = [place for place in LINES if not place[2].lstrip().startswith('//')]
-FUNCTION = re.compile(r'\bfn (\w+)(?:<[^>]*>)?\((.*?)\)(.*?)\n\{\n(.*?)\n\}', re.S)
+FUNCTION = re.compile(
+    r'^( *)(?:pub )?(?:extern "C" )?fn (\w+)(?:<[^>]*>)?\((.*?)\)(.*?)\n\1\{\n(.*?)\n\1\}', re.S | re.M)
 
 
 def found(pattern):
@@ -22,7 +23,7 @@ def found(pattern):
 def functions():
     for f in FILES:
         for m in FUNCTION.finditer('\n'.join(line for g, _, line in LINES if g == f)):
-            yield f.split('/')[1], m.group(1), m.group(2), m.group(3), m.group(4)
+            yield f.split('/')[1], *m.groups()[1:]
 
 
 def fields(kind):
