@@ -6,6 +6,7 @@ use mathlib.Core.List.{List, [], ◌∷◌, map}
 use Prim.Native.Nat.{ℕ, ◌+◌, ◌-◌, ◌≤◌, ◌<◌}
 use native.Mathlib.Omega.{arith}
 use borrow.Author.Tests.{eq-eqb, ne_eqb}
+use Rattle.std.proofs.lemmas.Bool.{eqb-true, eqb-false}
 use lib.Dec.{eqb}
 use lib.ListN.{length, get_or, take, drop, get_or-eq_default}
 use Rattle.lists.specs.Tests.{and_false}
@@ -100,41 +101,52 @@ module _ (line : List ℕ) (q : get_or line 0 0 ≡ 81) (comma : get_or line 1 0
                 ∙ ap (λ l. field line (second + 1) third ∷ l) rest.2) in
                 sym (by_fields _ all ∙ four_fields _ _ _ _ _)
 
-            module _ (e : third ≡ length line) where
-              three_are : query_of line
-                  ≡ asked_of (field_value (field line 2 first)) (field_value (field line (first + 1) second))
-                  (field_value (field line (second + 1) third))
-              unfolding fields_ask
-              three_are =
-                  let all : pieces 44 (drop 2 line)
-                  ≡ field line 2 first ∷ field line (first + 1) second ∷ field line (second + 1) third ∷ [] =
-                  from_second
-                  ∙ ap (λ l. field line 2 first ∷ field line (first + 1) second ∷ l)
-                  (last_from 44 line (second + 1) third ends'' (omega arith) e) in
-                  by_fields _ all
+            three_are : third ≡ length line → query_of line
+                ≡ asked_of (field_value (field line 2 first)) (field_value (field line (first + 1) second))
+                (field_value (field line (second + 1) third))
+            unfolding fields_ask
+            three_are e =
+                let all : pieces 44 (drop 2 line)
+                ≡ field line 2 first ∷ field line (first + 1) second ∷ field line (second + 1) third ∷ [] =
+                from_second
+                ∙ ap (λ l. field line 2 first ∷ field line (first + 1) second ∷ l)
+                (last_from 44 line (second + 1) third ends'' (omega arith) e) in
+                by_fields _ all
+
+            -- where one of the first three fields holds no number there is no query, whatever stands behind the third
+            module _ (h : third ≤ length line) where
+              none_or_more : (third ≡ length line → None ≡ query_of line) → None ≡ query_of line
+              none_or_more three = go (eqb third (length line)) refl
+                where
+                  go : (t : Bool) → eqb third (length line) ≡ t → None ≡ query_of line
+                  go true e = three (eqb-true third (length line) e)
+                  go false e = more_fields h (eqb-false third (length line) e)
 
               pub no_from : (r : Option Query) → r ≡ None → None ≡ number_of (field line 2 first) → r ≡ query_of line
               unfolding asked_of
-              no_from r h a = h ∙ sym (three_are ∙ simp (none_asked _ a))
+              no_from r g a = g ∙ none_or_more (λ e. sym (three_are e ∙ simp (none_asked _ a)))
 
               module _ (from : ℕ) (is_from : Some from ≡ number_of (field line 2 first)) where
                 pub no_to : (r : Option Query) → r ≡ None → None ≡ number_of (field line (first + 1) second)
                     → r ≡ query_of line
                 unfolding asked_of
-                no_to r h b = h ∙ sym (three_are ∙ simp ((some_asked _ _ is_from).0, none_asked _ b))
+                no_to r g b =
+                    g ∙ none_or_more (λ e. sym (three_are e ∙ simp ((some_asked _ _ is_from).0, none_asked _ b)))
 
                 module _ (to : ℕ) (is_to : Some to ≡ number_of (field line (first + 1) second)) where
                   pub no_minute : (r : Option Query) → r ≡ None → None ≡ number_of (field line (second + 1) third)
                       → r ≡ query_of line
                   unfolding asked_of
-                  no_minute r h g =
-                      h ∙ sym (three_are ∙ simp ((some_asked _ _ is_from).0, (some_asked _ _ is_to).0, none_asked _ g))
+                  no_minute r g d =
+                      g ∙ none_or_more (λ e. sym (three_are e
+                      ∙ simp ((some_asked _ _ is_from).0, (some_asked _ _ is_to).0, none_asked _ d)))
 
-                  pub three_fields : (minute : ℕ) → Some minute ≡ number_of (field line (second + 1) third)
+                  pub three_fields : third ≡ length line → (minute : ℕ)
+                      → Some minute ≡ number_of (field line (second + 1) third)
                       → Some (record { from = from; to = to; minute = minute }) ≡ query_of line
                   unfolding asked_of
-                  three_fields minute is_minute =
+                  three_fields e minute is_minute =
                       let a = some_asked _ _ is_from in
                       let b = some_asked _ _ is_to in
                       let c = some_asked _ _ is_minute in
-                      sym (three_are ∙ simp (a.0, b.0, c.0, ← a.1, ← b.1, ← c.1))
+                      sym (three_are e ∙ simp (a.0, b.0, c.0, ← a.1, ← b.1, ← c.1))

@@ -1,12 +1,13 @@
 //! One least penalty for each minute of the two days: how a query keeps the costs that it has found so far.
 //!
 //! An array has one word for each minute, the least penalty of those who arrive then. Only this crate knows the words:
-//! others read and write them as points, by `points_at` and `set_points`, so that minutes and points cannot be mistaken
-//! for each other. A minute of the day is the index of a word, and no duration: `minutes_between` makes one of two.
+//! others read and write them as points, by `points_at`, `set_points` and `set_all`, so that minutes and points cannot
+//! be mistaken for each other. A minute of the day is the index of a word, and no duration: `minutes_between` makes one
+//! of two.
 #![tactic(auto)]
 
 ghost use Rattle.std.specs.Prelude.{◌≡◌, [], ◌∷◌, ◌+◌, ◌-◌, ◌^◌, ◌≤◌, ◌<◌, min, max, leb, ltb, eqb, length, get_or};
-ghost use Rattle.std.specs.Prelude.{set};
+ghost use Rattle.std.specs.Prelude.{set, replicate};
 ghost use Rattle.words.specs.Put.{put};
 ghost use Rattle.query_minutes.specs.Minutes.{no_points, lowered, leads};
 ghost use Rattle.query_minutes.specs.Ending.{Floor, LeadsEnd};
@@ -132,6 +133,14 @@ pub fn set_points(best: &mut [u32], minute: usize, points: Points)
     ensures best_len_unchanged { length best.new ≡ length best.old }
 {
     best[minute] = points.0;
+}
+
+// Puts the same points down in every word.
+pub fn set_all(best: &mut [u32], points: Points)
+    ensures best_after { best.new ≡ replicate (length best.old) points.0 }
+    ensures best_len_unchanged { length best.new ≡ length best.old }
+{
+    best.fill(points.0);
 }
 
 // Notes that one can arrive at a minute for some points. A minute past the end is not noted.

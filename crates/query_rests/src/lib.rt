@@ -25,7 +25,7 @@ fn fill(z: &mut [u32], from: usize, to: usize, points: Points)
     ensures stored { Stored (λ _. points.0) from to z.old z.new }
     ensures z_len_unchanged { length z.new ≡ length z.old }
 {
-    z[from..to].fill(points.0);
+    query_minutes::set_all(&mut z[from..to], points);
 }
 
 // What is left for one who arrives at minute m; no minute past the end is in time.

@@ -36,6 +36,12 @@ pub record Good (v : List ℕ) (c : Cursor) : Type 0 where
   pub j_few : c.j < 65536
   pub at_trip : c.j < c.boarding.line.trips
 
+-- what is known of it wherever it stands, be it past the last trip
+pub record Bounded (v : List ℕ) (c : Cursor) : Type 0 where
+  pub within : Within v c.boarding
+  pub place_few : c.to.place < 65536
+  pub j_few : c.j < 65536
+
 -- a ride as the code tells it, and how large its numbers get
 pub record Tells (s : RideStruct) (r : Ride) : Type 0 where
   pub trip : s.trip ≡ r.trip
@@ -59,6 +65,12 @@ near_none v u o e = ap (near_left v u) e
 module _ (v : List ℕ) (o : Option Cursor) (c : Cursor) (at : o ≡ Some c) where
   pub good_some : IfSome o (Good v) → Good v c
   good_some = subst (λ o. IfSome o (Good v)) at
+
+  -- so its ride can be told
+  pub good_told : IfSome o (Good v) → Bounded v c
+  good_told all =
+      let good = good_some all in
+      record { within = good.within; place_few = good.place_few; j_few = good.j_few }
 
   module _ (u : ℕ) (d : Option Cursor) (is : near_left v u (Some c) ≡ ride_of v c ∷ near_left v u d) where
     pub near_goes : near_left v u o ≡ ride_of v c ∷ near_left v u d

@@ -7,7 +7,7 @@ ghost use Rattle.timetable.specs.Words.{station_count, station_at, is_timetable}
 ghost use Rattle.lines_lookup.specs.Calls.{Inside, Within};
 ghost use Rattle.query_places.specs.Candidates.{ride_on, near_read};
 ghost use Rattle.query_places.specs.Places.{reach_at};
-ghost use Rattle.query_rides.specs.Riding.{Good, Tells, near_left, ride_of, near_from};
+ghost use Rattle.query_rides.specs.Riding.{Good, Bounded, Tells, near_left, ride_of, near_from};
 ghost use Rattle.query_rides.specs.Ways.{cost_of, way_between};
 
 use lines_lookup::{Boarding, Piece};
@@ -119,7 +119,7 @@ pub fn ride_at(v: &[u16], g: Boarding, to: Place, j: usize) -> Ride
 
 // The ride at which c stands.
 pub fn tell(v: &[u16], c: Cursor) -> Ride
-    requires { Good v.now c }
+    requires { Bounded v.now c }
     ensures { Tells result (ride_of v.now c) }
 {
     ride_at(v, c.boarding, c.to, c.j)

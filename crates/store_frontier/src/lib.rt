@@ -518,7 +518,7 @@ pub fn prospects(
     ensures q_len { (length q.new ≡ 2048) × (length leaving.new ≡ 2048) }
 {
     // Below 0 no one has paid.
-    leaving.fill(0);
+    query_minutes::set_all(leaving, Points(0));
     let mut high = [0u32; 65];
     // The departures before minute d stand in front, and are left out.
     let begin = store_departures::first_from(words, order, 0, n, d);

@@ -30,7 +30,7 @@ fn fill(a: &mut [u32])
     ensures blank { Blank 2048 a.new }
     ensures a_len_unchanged { length a.new ≡ length a.old }
 {
-    a.fill(UNREACHED_WORD);
+    query_minutes::set_all(a, UNREACHED);
 }
 
 // The least that one has paid who leaves a stop at station c, which is open to boarding or is not.

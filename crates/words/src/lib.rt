@@ -20,7 +20,9 @@ pub fn copy<T: Copy>(dst: &mut [T], at: usize, src: &[T])
     ensures dst_after { dst.new ≡ put at src.now dst.old }
     ensures dst_len_unchanged { length dst.new ≡ length dst.old }
 {
-    dst[at..at + src.len()].copy_from_slice(src);
+    for (i, &word) in src.iter().enumerate() {
+        dst[at + i] = word;
+    }
 }
 
 // Writes the numbers of src, each of which fits 16 bits, as words into dst, from index at on.

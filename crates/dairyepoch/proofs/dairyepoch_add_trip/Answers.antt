@@ -1,6 +1,6 @@
 -- The reply is packed, and both slices are as the call left them.
-use Rattle.promises.specs.Packed.{packed_same}
+use Rattle.replies_packed.specs.Told.{lines_seen_packed}
 use Rattle.dairyepoch.proofs.dairyepoch_add_trip.Goals as goal
 
 pub returns-clause-reply : goal.returns-clause-reply
-returns-clause-reply c = search packed_same
+returns-clause-reply c = search lines_seen_packed

@@ -1,5 +1,5 @@
 use borrow.Author.Rules.{rules}
-use Rattle.query_rides.specs.Riding.{near_falls, good_some}
+use Rattle.query_rides.specs.Riding.{near_falls, good_some, good_told}
 use Rattle.query_costs.proofs.RideLaws.{fitting_first, fitting_next, fits_here, noting_first, noting_more}
 use Rattle.query_costs.proofs.RideLaws.{noting_done, span_first, span_more, span_low}
 use Rattle.query_costs.proofs.note_rides.Goals as goal
@@ -16,7 +16,7 @@ loop-next-init c = (
 )
 
 pub tell-requires : goal.tell-requires
-tell-requires c = search good_some
+tell-requires c = search good_told
 
 pub next_nearest-next-requires : goal.next_nearest-next-requires
 next_nearest-next-requires c = search good_some

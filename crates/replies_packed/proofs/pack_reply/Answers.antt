@@ -3,7 +3,7 @@ use Rattle.replies_packed.proofs.PackedLaws.{lines_packed, line_packed}
 use Rattle.replies_packed.proofs.pack_reply.Goals as goal
 
 pub returns-in-Ok : goal.returns-in-Ok
-returns-in-Ok c = search lines_packed
+returns-in-Ok g c = search lines_packed
 
 pub returns-in-Err : goal.returns-in-Err
-returns-in-Err c = search line_packed
+returns-in-Err g c = search line_packed

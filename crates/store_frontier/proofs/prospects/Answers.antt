@@ -23,7 +23,7 @@ pass_all-requires c = (
   search rules,
   search rules,
   search rules,
-  search (pass_first, c.fill.ensures.after (λ y e. e)),
+  search (pass_first, c.set_all.ensures.best_after),
 )
 
 pub returns-clause-limits : goal.returns-clause-limits

@@ -1,8 +1,10 @@
--- The part of the slice is src, and its other parts are as they were.
-use Rattle.std.proofs.Common.{arith}
-use Rattle.words.specs.Put.{put_part}
+use Rattle.std.proofs.Common.{sym, arith}
+use Rattle.words.proofs.CopyLaws.{nothing_put, copy_another}
 use Rattle.words.proofs.copy.Goals as goal
 
-pub returns-clause-dst_after : goal.returns-clause-dst_after
-returns-clause-dst_after g c =
-    put_part c.args.at _ c.args.src.now c.args.dst.now _ (omega arith) c.copy_from_slice.ensures.after
+pub loop-i-init : goal.loop-i-init
+loop-i-init g c = sym (nothing_put _ _)
+
+pub loop-i-preserved : goal.loop-i-preserved
+loop-i-preserved g c =
+    copy_another c.args.at c.loop-i.i _ _ _ _ c.loop-i.invariant (omega arith) c.requires c.index-src-i.is

@@ -1,5 +1,6 @@
-use Rattle.std.proofs.Common.{◌≤◌, ◌<◌, length, get_or, sym, ap, ◌∙◌, arith, take_all}
-use Rattle.words.specs.Put.{put, put_none, copy_more}
+use Rattle.std.proofs.Common.{rules, ◌≤◌, ◌<◌, length, get_or, sym, ap, ◌∙◌, arith, take_all}
+use Rattle.words.specs.Put.{put, put_none}
+use Rattle.words.proofs.CopyLaws.{number_another}
 use Rattle.words.specs.Below.{below_each}
 use Rattle.words.proofs.narrow.Goals as goal
 
@@ -12,8 +13,8 @@ overflow_cast-dst c = let small : get_or c.args.src.now c.loop-i.i 0 < 65536 = s
 
 pub loop-i-preserved : goal.loop-i-preserved
 loop-i-preserved c =
-    copy_more c.args.at (length c.args.src.now) c.loop-i.i _ _ _ c.loop-i.invariant (omega arith) (omega arith)
-    (omega arith)
+    number_another c.args.at c.loop-i.i _ _ _ _ c.loop-i.invariant (omega arith) (omega arith)
+    (search rules)
 
 pub returns-clause-dst_after : goal.returns-clause-dst_after
 returns-clause-dst_after c =
