@@ -19,7 +19,7 @@ pub fn pack(number: u32, low: u32) -> u64
     number as u64 * UPPER + low as u64
 }
 
-// A refusal that has a number: the question itself, or any number.
+// A refusal that has a number: the question itself, or any number, of a question or of none.
 pub trait Numbered {
     ghost number_told: { Self → ℕ };
 
@@ -43,7 +43,7 @@ impl Numbered for Refusal {
     }
 }
 
-// A refusal that has a number and a line: of reading, or any two numbers.
+// A refusal that has a number and a line: of reading, or any two numbers, likewise.
 pub trait NumberedLine {
     ghost number_told: { Self → ℕ };
 
